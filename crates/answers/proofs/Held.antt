@@ -1,6 +1,5 @@
 -- What holds of the bytes of an input that could be opened
-use Rattle.std.proofs.Common.{◌≡◌, ℕ, List, Option, Result, Ok, Err, subst, sym}
-use Rattle.answers.specs.Inputs.{opened}
+use Rattle.answers.proofs.Words.{◌≡◌, ℕ, List, Option, Result, Ok, Err, subst, sym, opened}
 
 pub opened_holds : {S E : Type 0} (P : Option (List ℕ) → Type 0) (bytes : S → Option (List ℕ)) (r : Result S E) (s : S) → r ≡ Ok s → P (bytes s) → P (opened bytes r)
 opened_holds {S} {E} P bytes (Ok x) s same right =

@@ -1,3 +1,5 @@
 pub mod Writing
 pub mod Told
 pub mod Held
+pub mod Words
+pub mod Laws

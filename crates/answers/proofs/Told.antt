@@ -1,13 +1,5 @@
 -- That an answer that is told is right of the input
-use Rattle.std.proofs.Common.{◌≡◌, ◌∙◌, ℕ, List, [], ◌++◌, Bool, Option, Some, None, ◌⊎◌, inl, inr, refl}
-use Rattle.std.specs.Prelude.{IfSome}
-use Rattle.std.specs.declared.io.ErrorKind.{ErrorKind}
-use Rattle.std.specs.declared.io.ErrorKind.TheVariants.{OutOfMemory}
-use Rattle.answers.specs.Answers.{answer_of_kind}
-use Rattle.answers.specs.Telling.{IsTold}
-use Rattle.answers.specs.declared.answer.Answer.{Answer}
-use Rattle.answers.specs.declared.answer.Answer.TheVariants.{Memory, Device}
-use Rattle.answers.specs.declared.answer.Status.{Status}
+use Rattle.answers.proofs.Words.{◌≡◌, ◌∙◌, ℕ, List, [], ◌++◌, Bool, Option, Some, None, ◌⊎◌, inl, inr, refl, IfSome, ErrorKind, OutOfMemory, answer_of_kind, IsTold, Answer, Memory, Device, Status}
 
 -- the answer that was told, or want of memory in its place
 pub told_right : (IsRight : Answer → Type 0) (explains : Bool) (a : Answer) (result : Status) (out out' err err' : Option (List ℕ)) → IsRight a → IsRight Memory →

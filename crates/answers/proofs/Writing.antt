@@ -1,12 +1,5 @@
 -- What the bytes of a stream are behind one write after another
-use Rattle.std.proofs.Common.{◌≡◌, ◌∙◌, ℕ, ◌+◌, ◌-◌, ◌≤◌, List, [], ◌++◌, take, drop, length, Bool, true, false, Option, Some, None, Result, Ok, Err, ap, sym, subst, arith, append_assoc, length-drop}
-use Rattle.std.proofs.lemmas.List.{drop-take, take-append-drop, take-take, take_all}
-use Rattle.std.proofs.Math.Seq.{take-length}
-use Rattle.std.proofs.lemmas.Grind.{common_steps}
-use Rattle.std.specs.Io.KnownBytes.{Appends, Keeps}
-use Rattle.std.specs.Prelude.{IfOk, IsOk}
-use Rattle.answers.specs.Answers.{device_line}
-use Rattle.answers.specs.Telling.{Begins, IsNote}
+use Rattle.answers.proofs.Words.{◌≡◌, ◌∙◌, ℕ, ◌+◌, ◌-◌, ◌≤◌, List, [], ◌++◌, take, drop, length, Bool, true, false, Option, Some, None, Result, Ok, Err, ap, sym, subst, arith, append_assoc, length-drop, drop-take, take-append-drop, take-take, take_all, take-length, common_steps, Appends, Keeps, IfOk, IsOk, device_line, Begins, IsNote}
 
 pub appends_nothing : (known : Option (List ℕ)) → Appends known known []
 appends_nothing None = tt
@@ -38,10 +31,6 @@ more a b c bytes done n h k = subst (λ (l : List ℕ). Appends a c l) (take_bot
 -- what is left behind the bytes that are done
 pub rest_of : (bytes : List ℕ) (done : ℕ) → take (length bytes - done) (drop done bytes) ≡ drop done bytes
 rest_of bytes done = let enough : length (drop done bytes) ≤ length bytes - done = omega (arith, length-drop done bytes) in take_all (length bytes - done) (drop done bytes) enough
-
--- all of the bytes
-pub all_of : (a b : Option (List ℕ)) (bytes : List ℕ) (done : ℕ) → length bytes ≤ done → Appends a b (take done bytes) → Appends a b bytes
-all_of a b bytes done le h = subst (λ (l : List ℕ). Appends a b l) (take_all done bytes le) h
 
 pub begun : (a b : Option (List ℕ)) (bytes : List ℕ) → Appends a b bytes → Begins a b bytes
 begun a b bytes h = (length bytes, subst (λ (l : List ℕ). Appends a b l) (sym (take-length bytes)) h)

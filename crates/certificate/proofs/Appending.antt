@@ -1,11 +1,9 @@
 -- What stands on a device behind one write after another, where it is known
-use Rattle.certificate.proofs.Words.{◌≡◌, ◌∙◌, ℕ, suc, ◌+◌, ◌-◌, ◌*◌, ◌≤◌, List, [], ◌∷◌, ◌++◌, take, drop, length, Option, Some, None, ap, sym, subst, arith, append_assoc, length-append, length-drop, drop-take, take-append-drop, take-append-le, take-take, take_all, flat_map-append, common_steps, Appends, Lease, EncodeFault, IsCutBehind, IsCutOff, done_of, lease_bytes}
-use Rattle.std.specs.List.{flat_map}
+use Rattle.certificate.proofs.Words.{rules, ◌≡◌, ◌∙◌, ℕ, suc, ◌+◌, ◌-◌, ◌*◌, ◌≤◌, List, [], ◌∷◌, ◌++◌, take, drop, length, Option, Some, None, ap, sym, subst, arith, append_assoc, length-append, length-drop, drop-take, take-append-drop, take-append-le, take-take, take_all, flat_map-append, Appends, Lease, EncodeFault, IsCutBehind, IsCutOff, done_of, lease_bytes, flat_map}
 use Rattle.certificate.proofs.Records.{length_spelled}
 
 pub appends_nothing : (a : Option (List ℕ)) → Appends a a []
-appends_nothing None = tt
-appends_nothing (Some xs) = grind (arith, common_steps)
+appends_nothing a = search rules
 
 pub joined : (a b c : Option (List ℕ)) (bs cs : List ℕ) → Appends a b bs → Appends b c cs → Appends a c (bs ++ cs)
 joined None b c bs cs h k = tt
@@ -32,9 +30,7 @@ rest_of bytes done = let enough : length (drop done bytes) ≤ length bytes - do
 
 -- the bytes before a place within a piece are the pieces before it and a beginning of this one
 pub within : (sent piece later : List ℕ) (n : ℕ) → n ≤ length piece → take (length sent + n) (sent ++ (piece ++ later)) ≡ sent ++ take n piece
-within [] piece later n le =
-    let at : 0 + n ≡ n = omega arith in
-    rw at (take-append-le n piece later le)
+within [] piece later n le = grind (arith, take-append-le)
 within (b ∷ sent) piece later n le =
     let at : length (b ∷ sent) + n ≡ suc (length sent + n) = omega arith in
     rw at (ap (λ l. b ∷ l) (within sent piece later n le))

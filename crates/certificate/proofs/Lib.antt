@@ -3,3 +3,4 @@ pub mod Records
 pub mod RoundTrip
 pub mod Verifying
 pub mod Words
+pub mod Laws

@@ -1,9 +1,5 @@
 -- Records one after another: what is written is read, and what is read is what was written
-use Rattle.certificate.proofs.Words.{◌≡◌, ◌+◌, ◌*◌, ◌<◌, ◌≤◌, ◌∷◌, ◌++◌, ◌∙◌, ℕ, suc, zero, true, List, [], length, take, drop, All, arith, sym, ap, refl, add-one, inl, inr, drop-drop, length-drop, get_or-take, get_or-drop, length-take-le, get_or, get_or_past, All-head, All-tail, and_from, cases_lt, le_bytes_4, le_bytes_8, Lease, FitsLease, has_lease_fields, lease_bytes, lease_in, leases_in}
-use Rattle.std.specs.List.{flat_map, list_all}
-use Rattle.std.proofs.Math.Seq.{take-add}
-use Rattle.byteorder.specs.Endian.{little_bytes, little_number}
-use Rattle.byteorder.specs.Numbers.{little_number-reads_back}
+use Rattle.certificate.proofs.Words.{◌≡◌, ◌+◌, ◌*◌, ◌<◌, ◌≤◌, ◌∷◌, ◌++◌, ◌∙◌, ℕ, suc, zero, true, List, [], length, take, drop, All, arith, sym, ap, refl, add-one, inl, inr, drop-drop, length-drop, get_or-take, get_or-drop, length-take-le, get_or, get_or_past, All-head, All-tail, and_from, cases_lt, le_bytes_4, le_bytes_8, Lease, FitsLease, has_lease_fields, lease_bytes, lease_in, leases_in, flat_map, list_all, take-add, little_bytes, little_number}
 
 -- one record more
 pub leases_in-push : (bytes : List ℕ) (n : ℕ) → leases_in bytes (n + 1) ≡ leases_in bytes n ++ lease_in (drop (24 * n) bytes) ∷ []
@@ -12,8 +8,7 @@ leases_in-push bytes zero = refl
 leases_in-push bytes (suc n) =
     let next : 24 + 24 * n ≡ 24 * suc n = omega arith in
     let later : drop (24 * n) (drop 24 bytes) ≡ drop (24 * suc n) bytes = drop-drop (24 * n) 24 bytes ∙ ap (λ m. drop m bytes) next in
-    let rest : leases_in (drop 24 bytes) (suc n) ≡ leases_in (drop 24 bytes) n ++ lease_in (drop (24 * n) (drop 24 bytes)) ∷ [] = rw add-one at (leases_in-push (drop 24 bytes) n) in
-    rw add-one (ap (λ ls. lease_in bytes ∷ ls) (rest ∙ ap (λ b. leases_in (drop 24 bytes) n ++ lease_in b ∷ []) later))
+    grind (arith, add-one, leases_in-push (drop 24 bytes) n)
 
 same_lease : (k r p f t a b c d e : ℕ) → k ≡ a → r ≡ b → p ≡ c → f ≡ d → t ≡ e →
     ◌≡◌ {A = Lease} (record { kind = k; ring = r; pos = p; from = f; to = t }) (record { kind = a; ring = b; pos = c; from = d; to = e })
@@ -22,13 +17,7 @@ same_lease k r p f t a b c d e g h i j l = cc
 -- the first record is the first lease
 first_read : (l : Lease) (rest : List ℕ) → FitsLease l → lease_in (lease_bytes l ++ rest) ≡ l
 unfolding lease_in lease_bytes
-first_read l rest fits =
-    same_lease _ _ _ _ _ l.kind l.ring l.pos l.from l.to
-    (little_number-reads_back 4 l.kind (little_bytes 4 l.ring ++ (little_bytes 8 l.pos ++ (little_bytes 4 l.from ++ (little_bytes 4 l.to ++ rest)))) fits.kind)
-    (little_number-reads_back 4 l.ring (little_bytes 8 l.pos ++ (little_bytes 4 l.from ++ (little_bytes 4 l.to ++ rest))) fits.ring)
-    (little_number-reads_back 8 l.pos (little_bytes 4 l.from ++ (little_bytes 4 l.to ++ rest)) fits.pos)
-    (little_number-reads_back 4 l.from (little_bytes 4 l.to ++ rest) fits.from)
-    (little_number-reads_back 4 l.to rest fits.to)
+first_read l rest fits = grind (arith, same_lease)
 
 rest_read : (l : Lease) (rest : List ℕ) → drop 24 (lease_bytes l ++ rest) ≡ rest
 unfolding lease_bytes
@@ -37,9 +26,7 @@ rest_read l rest = refl
 pub all_read : (ls : List Lease) → All FitsLease ls → leases_in (flat_map lease_bytes ls) (length ls) ≡ ls
 unfolding leases_in
 all_read [] fits = refl
-all_read (l ∷ ls) fits =
-    let rest = flat_map lease_bytes ls in
-    rw (first_read l rest (All-head FitsLease l ls fits), rest_read l rest) (ap (λ xs. l ∷ xs) (all_read ls (All-tail FitsLease l ls fits)))
+all_read (l ∷ ls) fits = grind (arith, first_read, All-head, rest_read, All-tail, all_read ls (All-tail FitsLease l ls fits))
 
 -- each record has 24 bytes
 pub length_spelled : (ls : List Lease) → length (flat_map lease_bytes ls) ≡ 24 * length ls
@@ -49,8 +36,7 @@ length_spelled (l ∷ ls) = let rest = length_spelled ls in omega arith
 
 pub fields_stand : (ls : List Lease) → All FitsLease ls → list_all has_lease_fields ls ≡ true
 fields_stand [] fits = refl
-fields_stand (l ∷ ls) fits =
-    and_from (has_lease_fields l) (list_all has_lease_fields ls) (All-head FitsLease l ls fits).fields (fields_stand ls (All-tail FitsLease l ls fits))
+fields_stand (l ∷ ls) fits = grind (arith, and_from, All-head, All-tail, fields_stand ls (All-tail FitsLease l ls fits))
 
 -- ---- what is read, spelled again
 
@@ -89,11 +75,7 @@ field8 bytes long fit =
     le_bytes_8 (take 8 bytes) (little_number 8 bytes) (length-take-le 8 bytes long) (kept 8 bytes long fit) (omega (arith, a, b, c, d, e, f, g, h))
 
 cut : (bytes : List ℕ) → take 24 bytes ≡ take 4 bytes ++ take 4 (drop 4 bytes) ++ take 8 (drop 8 bytes) ++ take 4 (drop 16 bytes) ++ take 4 (drop 20 bytes)
-cut bytes =
-    take-add 20 4 bytes
-    ∙ ap (λ xs. xs ++ take 4 (drop 20 bytes)) (take-add 16 4 bytes
-    ∙ ap (λ xs. xs ++ take 4 (drop 16 bytes)) (take-add 8 8 bytes
-    ∙ ap (λ xs. xs ++ take 8 (drop 8 bytes)) (take-add 4 4 bytes)))
+cut bytes = grind (arith, take-add)
 
 long_from : (n m : ℕ) (bytes : List ℕ) → n + m ≤ length bytes → m ≤ length (drop n bytes)
 long_from n m bytes long = let size = length-drop n bytes in omega arith
@@ -121,6 +103,4 @@ all_spelled bytes zero long fit = refl
 all_spelled bytes (suc n) long fit =
     let size = length-drop 24 bytes in
     let at : 24 + 24 * n ≡ 24 * suc n = omega arith in
-    let first = first_spelled bytes (omega arith) fit in
-    let rest = all_spelled (drop 24 bytes) n (omega arith) (dropped 24 bytes fit) in
-    rw (first, rest) (sym (take-add 24 (24 * n) bytes) ∙ ap (λ m. take m bytes) at)
+    grind (arith, first_spelled, dropped, take-add, all_spelled (drop 24 bytes) n (omega arith) (dropped 24 bytes fit))

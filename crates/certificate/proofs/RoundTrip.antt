@@ -1,7 +1,5 @@
 -- A list's spelling is read as that list, and bytes that are read as a list are its spelling
-use Rattle.certificate.proofs.Words.{◌≡◌, ◌*◌, ◌/◌, ◌%◌, ◌==◌, ◌++◌, ◌∙◌, ℕ, Bool, true, false, List, length, take, drop, All, Result, Ok, Err, IfOk, arith, sym, ap, refl, cond, inl, inr, eq-eqb, take-append-drop, take_all, cases_Bool, nat_tests, bytes_eq-Decides, Lease, CertFault, Magic, Length, Field, FitsLease, certificate_of, has_lease_fields, lease_bytes, leases_in, magic, records_of, spelling}
-use Rattle.std.specs.List.{flat_map, list_all}
-use Rattle.std.specs.Str.{bytes_eq}
+use Rattle.certificate.proofs.Words.{◌≡◌, ◌*◌, ◌/◌, ◌%◌, ◌==◌, ◌++◌, ◌∙◌, ℕ, Bool, true, List, length, take, drop, All, Result, Ok, Err, IfOk, arith, sym, ap, refl, cond, inl, inr, eq-eqb, take-append-drop, take_all, cases_Bool, nat_tests, bytes_eq-Decides, Lease, CertFault, Magic, Length, Field, FitsLease, certificate_of, has_lease_fields, lease_bytes, leases_in, magic, records_of, spelling, flat_map, list_all, bytes_eq}
 use Rattle.certificate.proofs.Records.{AreBytes, all_read, all_spelled, dropped, fields_stand, length_spelled}
 
 records_reread : (ls : List Lease) → All FitsLease ls → records_of (flat_map lease_bytes ls) ≡ Ok ls
@@ -18,8 +16,7 @@ reread ls fits = records_reread ls fits
 
 -- a choice that gives a list was taken
 taken : {E : Type 0} (b : Bool) (x : Result (List Lease) E) (e : E) (ls : List Lease) → cond b x (Err e) ≡ Ok ls → (b ≡ true) × (x ≡ Ok ls)
-taken true x e ls h = (refl, h)
-taken false x e ls h = absurd (cc)
+taken b x e ls h = grind arith
 
 same_list : (xs ls : List Lease) → ◌≡◌ {A = Result (List Lease) CertFault} (Ok xs) (Ok ls) → xs ≡ ls
 same_list xs ls h = cc
@@ -55,5 +52,4 @@ respelled bytes ls fit read =
 -- of a call's answer
 pub respelled_if_read : {X : Type 0} (items : X → List Lease) (bytes : List ℕ) (r : Result X CertFault) → AreBytes bytes →
     IfOk r (λ x. certificate_of bytes ≡ Ok (items x)) → IfOk r (λ x. spelling (items x) ≡ bytes)
-respelled_if_read items bytes (Ok x) fit read = respelled bytes (items x) fit read
-respelled_if_read items bytes (Err e) fit read = tt
+respelled_if_read items bytes r fit read = grind (arith, respelled)

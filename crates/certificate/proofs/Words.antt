@@ -1,4 +1,5 @@
 -- The words of std, of the crates below and of this crate's own definitions that its proofs cite, passed on by one file
+pub use Rattle.byteorder.specs.Endian.{little_bytes, little_number}
 pub use Rattle.certificate.specs.Sinks.{IsCutBehind, IsCutOff, done_of}
 pub use Rattle.certificate.specs.Spelling.{FitsLease, has_lease_fields, magic, spelling}
 unfoldable pub use Rattle.certificate.specs.Spelling.{certificate_of, lease_bytes, lease_in, leases_in, records_of}
@@ -25,6 +26,7 @@ pub use Rattle.ownership_checker.specs.RingPasses.RingRows.{ring_row}
 pub use Rattle.ownership_checker.specs.RingPasses.Rules.{ring_verdict}
 pub use Rattle.ownership_checker.specs.declared.pass.reading.Passed.{Passed}
 pub use Rattle.ownership_checker.specs.declared.pass.reading.Passed.TheVariants.{Refused, Whole}
+pub use Rattle.ownership_rules.specs.Leases.{leases as leases_of}
 unfoldable pub use Rattle.ownership_rules.specs.Leases.{without_end}
 unfoldable pub use Rattle.ownership_rules.specs.Rules.{verdict_from}
 pub use Rattle.ownership_rules.specs.declared.refusal.Refusal.{Refusal}
@@ -33,7 +35,8 @@ unfoldable pub use Rattle.ring_knowledge.specs.Known.{nothing}
 unfoldable pub use Rattle.ring_knowledge.specs.Learned.{known}
 pub use Rattle.ring_knowledge.specs.declared.lease.Lease.{Lease}
 pub use Rattle.safety.specs.RingChanges.Histories.{header_now}
-pub use Rattle.std.proofs.Common.{All, Bool, Err, IfOk, List, None, Ok, Option, Result, Some, [], add-one, ap, append_assoc, arith, cond, drop, drop-drop, eq-eqb, false, get_or, get_or-drop, get_or-take, inl, inr, length, length-append, length-drop, length-take-le, map, refl, subst, suc, sym, take, true, zero, ℕ, ◌%◌, ◌*◌, ◌++◌, ◌+◌, ◌-◌, ◌/◌, ◌<◌, ◌==◌, ◌∙◌, ◌∷◌, ◌≡◌, ◌≢◌, ◌≤◌}
+pub use Rattle.std.proofs.Common.{All, Bool, Err, IfOk, IsOk, List, None, Ok, OnOk, Option, Result, Some, [], add-one, ap, append_assoc, arith, cond, drop, drop-drop, eq-eqb, false, get_or, get_or-drop, get_or-take, inl, inr, length, length-append, length-drop, length-take-le, map, refl, rules, subst, suc, sym, take, true, zero, ℕ, ◌%◌, ◌*◌, ◌++◌, ◌+◌, ◌-◌, ◌/◌, ◌<◌, ◌==◌, ◌∙◌, ◌∷◌, ◌≡◌, ◌≢◌, ◌≤◌}
+pub use Rattle.std.proofs.Math.Seq.{take-add}
 pub use Rattle.std.proofs.lemmas.Bool.{and_from, cases_Bool, cases_lt}
 pub use Rattle.std.proofs.lemmas.Bool.Decides.{nat_tests}
 pub use Rattle.std.proofs.lemmas.Grind.{common_steps}
@@ -43,8 +46,10 @@ pub use Rattle.std.proofs.lemmas.List.Elements.{All-head, All-tail}
 pub use Rattle.std.proofs.lemmas.Nat.{le_bytes_4, le_bytes_8}
 pub use Rattle.std.proofs.lemmas.Result.{err_from_is_err_and}
 pub use Rattle.std.proofs.lemmas.Slice.Eq.{bytes_eq-Decides}
-pub use Rattle.std.specs.Io.KnownBytes.{Appends}
+pub use Rattle.std.specs.Io.KnownBytes.{Appends, Keeps}
+pub use Rattle.std.specs.List.{flat_map, list_all}
 pub use Rattle.std.specs.Prelude.{reverse}
+pub use Rattle.std.specs.Str.{bytes_eq}
 pub use Rattle.trace_reader.proofs.Streaming.CallsJoined.{calls_say_what_is_taken}
 pub use Rattle.trace_reader.specs.Reading.{TraceText}
 pub use Rattle.trace_reader.specs.Streaming.ReaderState.{IsOpened}

@@ -1,8 +1,6 @@
 -- Played into memory, the writes of a descriptor that is shorter than a lap put its blocks and the Links before them at
 -- their places, and no other word
-use Rattle.cycle_ring.proofs.Words.{suc, rules, ◌≡◌, ◌+◌, ◌-◌, ◌*◌, ◌%◌, ◌<◌, ◌≤◌, ◌∷◌, ◌++◌, ◌∙◌, ℕ, Bool, false, List, [], take, drop, length, arith, refl, ap, sym, inl, inr, Some, Option, nat_lt, get_or, lit<, Contains, slice_get, take-append-drop, length-append, cases_lt, slice_get_within, slice_get-get_or, Contains-append_left, Contains-append_cases, take-append-le, Block, word, Place, Data, Link, Shape, IsShape, place_at, address_of, cycle_of, link_crossed, link_address, place_count, same_position_near, same_crossing, is_crossing-from, place_at-address_of, place_at-link_address, link_block, low_writes, control_write, block_at_position, way_writes, later_writes, writes_of, played, BlocksStand, LinksStand, OthersStay, GivenLast}
-use Rattle.cycle_ring.proofs.PlayedLemmas.{played-written, played-elsewhere, block_at-words, same_address}
-use Rattle.cycle_ring.proofs.WrittenWords.{IsWordOf, IsWordOfLink, IsWordAt, IsWritten, way_writes-words, later_writes-words, writes_of-words, word_of_descriptor_written}
+use Rattle.cycle_ring.proofs.LowerLaws.{suc, rules, ◌≡◌, ◌+◌, ◌-◌, ◌*◌, ◌%◌, ◌<◌, ◌≤◌, ◌∷◌, ◌++◌, ◌∙◌, ℕ, Bool, false, List, [], take, drop, length, arith, refl, ap, sym, inl, inr, Some, Option, nat_lt, get_or, lit<, Contains, slice_get, take-append-drop, length-append, cases_lt, slice_get_within, slice_get-get_or, Contains-append_left, Contains-append_cases, take-append-le, Block, word, Place, Data, Link, Shape, IsShape, place_at, address_of, cycle_of, link_crossed, link_address, place_count, same_position_near, same_crossing, is_crossing-from, place_at-address_of, place_at-link_address, link_block, low_writes, control_write, block_at_position, way_writes, later_writes, writes_of, played, BlocksStand, LinksStand, OthersStay, GivenLast, played-written, played-elsewhere, block_at-words, same_address, IsWordOf, IsWordOfLink, IsWordAt, IsWritten, way_writes-words, later_writes-words, writes_of-words, word_of_descriptor_written}
 
 some_parts : {A : Type 0} {a c : A} → Some a ≡ Some c → a ≡ c
 some_parts same = cc

@@ -1,6 +1,5 @@
 -- What enqueue appends, played into memory
-use Rattle.cycle_ring.proofs.Words.{rules, ◌≡◌, ◌<◌, ◌≤◌, ◌++◌, ℕ, nat_le, nat_lt, true, List, length, subst, None, drop-append_seam, Block, fault_of, IsShape, place_count, place_count_pos, Progress, has_room, writes_of, appended, BlocksStand, LinksStand, OthersStay, GivenLast, MayBeDeclared, KeepTheRing}
-use Rattle.cycle_ring.proofs.Declared.{may_be_declared}
+use Rattle.cycle_ring.proofs.LowerLaws.{rules, ◌≡◌, ◌<◌, ◌≤◌, ◌++◌, ℕ, nat_le, nat_lt, true, List, length, subst, None, drop-append_seam, Block, fault_of, IsShape, place_count, place_count_pos, Progress, has_room, writes_of, appended, BlocksStand, LinksStand, OthersStay, GivenLast, MayBeDeclared, KeepTheRing, may_be_declared}
 use Rattle.cycle_ring.proofs.KeepsTheRing.{keep_the_ring}
 use Rattle.cycle_ring.proofs.DescriptorStands.{blocks_stand, links_stand, others_stay, given_last}
 

@@ -1,9 +1,6 @@
 -- What a producer enqueues keeps the rules of its ring
-use Rattle.cycle_ring.proofs.Words.{zero, rules, ◌≡◌, ◌+◌, ◌<◌, ◌≤◌, ◌==◌, ◌∷◌, ◌++◌, ◌∙◌, ℕ, suc, Bool, true, false, List, [], length, sum, nat_lt, All, Some, slice_get, arith, refl, sym, ap, subst, inl, length-append, eq-eqb, ne_eqb, ltb-true, lt-ltb, cond-true, cond-false, and_parts, and_from, or_left, All-head, All-tail, sum_by-cons, put, Block, block_at, word, Shape, IsShape, place_count, address_of, is_crossing, RingView, Declares, Writes, changed, declared, floor_number, gives_crossing, length_from, descriptor_length, RingKeeps, MayDeclare, declares_keeps, Progress, IsAllowed, low_writes, control_write, block_at_position, way_writes, later_writes, writes_of, played, IsEnqueuedSo, viewed, KeepsTheRing, KeepTheRing}
+use Rattle.cycle_ring.proofs.LowerLaws.{zero, rules, ◌≡◌, ◌+◌, ◌<◌, ◌≤◌, ◌==◌, ◌∷◌, ◌++◌, ◌∙◌, ℕ, suc, Bool, true, false, List, [], length, sum, nat_lt, All, Some, slice_get, arith, refl, sym, ap, subst, inl, length-append, eq-eqb, ne_eqb, ltb-true, lt-ltb, cond-true, cond-false, and_parts, and_from, or_left, All-head, All-tail, sum_by-cons, put, Block, block_at, word, Shape, IsShape, place_count, address_of, is_crossing, RingView, Declares, Writes, changed, declared, floor_number, gives_crossing, length_from, descriptor_length, RingKeeps, MayDeclare, declares_keeps, Progress, IsAllowed, low_writes, control_write, block_at_position, way_writes, later_writes, writes_of, played, IsEnqueuedSo, viewed, KeepsTheRing, KeepTheRing, may_be_declared, cycle_written, Stage, first_control, first_given, first_given_only, first_crossed_only}
 use Rattle.cycle_ring.proofs.DescriptorStands.{blocks_stand}
-use Rattle.cycle_ring.proofs.Declared.{may_be_declared}
-use Rattle.cycle_ring.proofs.LinkBlocks.{cycle_written}
-use Rattle.cycle_ring.proofs.Stages.{Stage, first_control, first_given, first_given_only, first_crossed_only}
 use Rattle.cycle_ring.proofs.Runs.{all_may_write, all_without_interrupt, all_append, viewed_append, played_append, all_keep, front_run}
 
 -- two tests of which each gives the other
@@ -22,10 +19,7 @@ length_from-last [] n start some = cond-true (start == start + sum []) n 0 (eq-e
 length_from-last (k ∷ rest) n start some =
     let here : 0 < k = All-head (λ j. 0 < j) k rest some in
     let more : sum (k ∷ rest) ≡ k + sum rest = sum_by-cons (λ x. x) k rest in
-    let moved : (start + k) + sum rest ≡ start + sum (k ∷ rest) = omega arith in
-    cond-false (start == start + sum (k ∷ rest)) k _ (ne_eqb start (start + sum (k ∷ rest)) (λ e. absurd (omega arith)))
-    ∙ ap (λ p. length_from (rest ++ n ∷ []) (start + k) p) (sym moved)
-    ∙ length_from-last rest n (start + k) (All-tail (λ j. 0 < j) k rest some)
+    grind (arith, sum, cond-false, ne_eqb, All-tail, length_from-last rest n (start + k) (All-tail (λ j. 0 < j) k rest some))
 
 length_from-inside : (lengths : List ℕ) (n start p : ℕ) → start + sum lengths < p → length_from (lengths ++ n ∷ []) start p ≡ 0
 unfolding length_from

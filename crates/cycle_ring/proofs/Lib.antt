@@ -10,3 +10,4 @@ pub mod Runs
 pub mod KeepsTheRing
 pub mod Words
 pub mod Retired
+pub mod LowerLaws

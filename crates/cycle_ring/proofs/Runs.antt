@@ -1,8 +1,5 @@
 -- The writes of a descriptor, one after another, keep the rules of the ring
-use Rattle.cycle_ring.proofs.Words.{rules, take, common_steps, ◌≡◌, ◌+◌, ◌-◌, ◌*◌, ◌<◌, ◌≤◌, ◌∷◌, ◌++◌, ◌∙◌, ℕ, suc, Bool, true, false, List, [], length, Some, Option, slice_get, is_some, arith, refl, sym, ap, subst, inl, inr, append_assoc, put, Block, word, Shape, IsShape, address_of, cycle_of, link_crossed, link_address, RingView, Writes, changed, RingKeeps, cases_option, is_crossing-from, writes_keeps, link_block, low_writes, block_writes, control_write, block_at_position, way_writes, later_writes, played, viewed, AllMayWrite, AllWithoutInterrupt}
-use Rattle.cycle_ring.proofs.MayWriteLemmas.{MayPut}
-use Rattle.cycle_ring.proofs.Stages.{Stage, low_word, later_control, link_low_word, link_control_word, no_way}
-use Rattle.cycle_ring.proofs.LinkBlocks.{link_cycle, leads_right, cycle_written, four_puts}
+use Rattle.cycle_ring.proofs.LowerLaws.{rules, take, common_steps, ◌≡◌, ◌+◌, ◌-◌, ◌*◌, ◌<◌, ◌≤◌, ◌∷◌, ◌++◌, ◌∙◌, ℕ, suc, Bool, true, false, List, [], length, Some, Option, slice_get, is_some, arith, refl, sym, ap, subst, inl, inr, append_assoc, put, Block, word, Shape, IsShape, address_of, cycle_of, link_crossed, link_address, RingView, Writes, changed, RingKeeps, cases_option, is_crossing-from, writes_keeps, link_block, low_writes, block_writes, control_write, block_at_position, way_writes, later_writes, played, viewed, AllMayWrite, AllWithoutInterrupt, MayPut, Stage, low_word, later_control, link_low_word, link_control_word, no_way, link_cycle, leads_right, cycle_written, four_puts}
 
 -- ---- lists of writes
 

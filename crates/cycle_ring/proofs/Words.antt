@@ -5,13 +5,13 @@ pub use Rattle.cycle_ring.specs.Progress.{IsAllowed, Progress, has_room}
 pub use Rattle.cycle_ring.specs.RingRules.{AllMayWrite, AllWithoutInterrupt, FollowsPassed, IsEnqueuedSo, KeepTheRing, KeepsTheRing, MayBeDeclared, viewed}
 pub use Rattle.cycle_ring.specs.Writes.{block_at_position, block_writes, control_write, later_writes, low_writes, way_writes, writes_of}
 pub use Rattle.segments.proofs.Crossings.{crossed_link, crosses, crossing_positive, is_crossing-from, link_address_is, link_target-crossed, same_crossing, same_crossing_at}
-pub use Rattle.segments.proofs.DataPlaces.{link_aligned, links_apart, place_not_link}
+pub use Rattle.segments.proofs.DataPlaces.{link_aligned, link_ends, links_apart, place_not_link}
 pub use Rattle.segments.proofs.Declaring.{declares_keeps}
 pub use Rattle.segments.proofs.DueLists.{crossing_given_is, leased_crossing_is, leased_position_is, no_flips, position_given_is}
 pub use Rattle.segments.proofs.Giving.{Gives, GivesCrossing, crossing_due_from, due_from, due_is, gives_crossing_from, gives_crossing_is, gives_from, gives_is}
 pub use Rattle.segments.proofs.MemoryWords.{put_elsewhere, put_here}
 pub use Rattle.segments.proofs.PlaceAtLemmas.{place_at-address_of, place_at-link_address}
-pub use Rattle.segments.proofs.Positions.{address_aligned, cycle_of_bit, place_below, place_count_pos, same_place_of, same_position_near}
+pub use Rattle.segments.proofs.Positions.{address_aligned, address_ends, cycle_of_bit, place_below, place_count_pos, same_place_of, same_position_near}
 pub use Rattle.segments.proofs.Reaching.{reaches_keeps}
 pub use Rattle.segments.proofs.Search.{cases_option}
 pub use Rattle.segments.proofs.SpotOrder.{data_not_link}
@@ -22,7 +22,7 @@ pub use Rattle.segments.proofs.Writing.{writes_keeps}
 unfoldable pub use Rattle.segments.specs.Givings.{interrupts}
 pub use Rattle.segments.specs.declared.place.Place.{Place}
 pub use Rattle.segments.specs.declared.place.Place.TheVariants.{Data, Link}
-pub use Rattle.std.proofs.Common.{All, Bool, Contains, List, None, Option, Some, [], ap, append_assoc, arith, drop, eq-eqb, eqb-true, false, get_or, if◌then◌else◌, inl, inr, is_some, length, length-append, lit<, lt-ltb, ltb-true, nat_le, nat_lt, ne_eqb, not, refl, rules, slice_get, slice_index, subst, suc, sum, sym, take, take-append-drop, true, unwrap_or, zero, ℕ, ◌%◌, ◌&&◌, ◌*◌, ◌++◌, ◌+◌, ◌-◌, ◌/◌, ◌<◌, ◌==◌, ◌^◌, ◌||◌, ◌∙◌, ◌∷◌, ◌≡◌, ◌≢◌, ◌≤◌, ◌⊎◌}
+pub use Rattle.std.proofs.Common.{All, Bool, Contains, List, None, Option, Some, [], ap, append_assoc, arith, drop, eq-eqb, eqb-true, false, get_or, inl, inr, is_some, length, length-append, lit<, lt-ltb, ltb-true, nat_le, nat_lt, ne_eqb, not, refl, rules, slice_get, slice_index, subst, suc, sum, sym, take, take-append-drop, true, unwrap_or, zero, ℕ, ◌%◌, ◌&&◌, ◌*◌, ◌++◌, ◌+◌, ◌-◌, ◌/◌, ◌<◌, ◌==◌, ◌^◌, ◌||◌, ◌∙◌, ◌∷◌, ◌≡◌, ◌≢◌, ◌≤◌, ◌⊎◌}
 pub use Rattle.std.proofs.Math.Seq.{drop-append_seam}
 pub use Rattle.std.proofs.lemmas.Grind.{common_steps}
 pub use Rattle.std.proofs.lemmas.List.{take-append-le}

@@ -8,3 +8,5 @@ pub mod DoorbellRows
 pub mod RingRows
 pub mod Words
 pub mod Laws
+pub mod LowerLaws
+pub mod MiddleLaws

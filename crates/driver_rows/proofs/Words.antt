@@ -1,6 +1,5 @@
 -- The words of std, of the crates below and of this crate's own definitions that its proofs cite, passed on by one file
 pub use Rattle.contexts.proofs.BitsOfWords.{above_control, flag_is, unchanged}
-pub use Rattle.contexts.specs.Contexts.{is_isochronous}
 pub use Rattle.controller_model.proofs.EventPlaces.{is_place, no_place}
 pub use Rattle.controller_model.proofs.Words.{Err, IfSome, Ok, Result, common_steps, length-remove, length-set, place_at-Data, remove, set, take}
 pub use Rattle.driver_rows.specs.ContextRules.Contents.{IsAligned, has_bad_content_by, is_left_out_by}
@@ -10,7 +9,7 @@ unfoldable pub use Rattle.driver_rows.specs.ContextRules.Entries.{touches_entry}
 pub use Rattle.driver_rows.specs.DeclarationRows.OneRing.{IsDeclared, room_tests}
 pub use Rattle.driver_rows.specs.DoorbellRows.Numbers.{number_of, number_rung}
 pub use Rattle.driver_rows.specs.MemoryWrites.Allowed.{IsAllowed}
-pub use Rattle.driver_rows.specs.MemoryWrites.WriteTests.{GivesOnPosition, command_tests, crossing_tests, given_tests, place_tests, position_tests}
+pub use Rattle.driver_rows.specs.MemoryWrites.WriteTests.{GivesOnPosition, crossing_tests, given_tests, place_tests, position_tests}
 pub use Rattle.driver_rows.specs.RegisterWrites.EventReads.{IsMoved, Wrong}
 pub use Rattle.driver_rows.specs.RingBindings.Bindings.{are_bad, as_binding, binding_at, binding_of, is_bad, is_in_set, is_kept_ring, is_misplaced, is_to, was_bound}
 unfoldable pub use Rattle.driver_rows.specs.RingBindings.Bindings.{bindings_from}
@@ -25,7 +24,7 @@ pub use Rattle.driver_rows.specs.WriteEffects.Starting.{EntryFits, IsInserted, I
 pub use Rattle.driver_rows.specs.declared.bindings.binding.RingBinding.{RingBinding}
 pub use Rattle.driver_rows.specs.declared.bindings.context.Bound.{Bound}
 pub use Rattle.driver_rows.specs.declared.bindings.context.Dequeue.{Dequeue}
-pub use Rattle.event_ring.specs.EventRing.{is_table_fault, lists}
+pub use Rattle.event_ring.specs.EventRing.{is_table_fault}
 pub use Rattle.guest_memory.specs.Memory.{long_at}
 unfoldable pub use Rattle.ownership_rules.specs.Commands.{adds_isochronous, adds_streams, has_bad_entry, is_bad_added, is_bad_device, is_busy, shares_slot, streams_in, takes_bad_device, type_in}
 unfoldable pub use Rattle.ownership_rules.specs.Moves.{binds_again, was_ring_bound}
@@ -54,8 +53,8 @@ pub use Rattle.safety.proofs.RowFrames.{SameRegisters, write_leaves}
 pub use Rattle.safety.proofs.RowRegister.{event_place}
 pub use Rattle.safety.proofs.UnfinishedBehind.{listed_unfinished}
 pub use Rattle.safety.proofs.UnfinishedLists.{fails_in, in_range}
-pub use Rattle.safety.proofs.Words.{AddressDevice, AfterStop, All, BadErdp, BadRegister, Bell, Binding, Block, BlockKind, Bool, Command, Config, ConfigureEndpoint, Contains, ContextSize, Crcr, Dcbaap, Declares, DeviceKeeps, DisableSlot, DriverKeeps, EnableSlot, EndpointState, Erdp, Erstba, Erstsz, EvaluateContext, Evt, Header, IsComing, IsDriverRing, IsHeader, IsIn, IsShape, IsTransferRing, Known, List, NoOp, None, NotDeclared, NotInProfile, Opens, Option, Refusal, Reg, Register, ResetDevice, ResetEndpoint, Restores, Ring, RingChange, RingKind, RingView, Row, Segment, SetTrDequeue, Shape, Some, StopEndpoint, Sub, Test, Usbcmd, Withdraws, Write, Writes, Xfer, [], address_aligned, address_ends, address_inside, address_of, aligned, and_from, and_left, and_parts, and_right, any_of, ap, append-nil, arith, base_address, block_at, broken_of, cases_Bool, cases_eq, cases_lt, ceiling_within, changed, clash, command_by_kind, command_of, cond-false, cond-true, cond_both, cons_option, cycle_of, cycle_of_bit, declared, device_context_bytes, endpoint, endpoint_type, eq-eqb, eqb-true, erdp_address, false, false_from_ne_true, false≢true, filter, filter_map, find, floor_number, fun_ext, get_or, gives, gives_crossing, gives_crossing_is, gives_is, has_flag, id_of, if◌then◌else◌, inl, input_add_flag, input_context_bytes, input_drop_flag, input_endpoint, inr, is_at_rest, is_command_kind, is_command_left_out, is_driver_kind, is_dropped, is_event_kind, is_event_place, is_in, is_inside, is_link, is_none, is_off, is_reached_within, is_ring, is_running, is_set, is_shape, is_some, is_stopped, is_transfer_kind, is_transfer_ring, kind, le-leb, le-ltb, length, length-append, link_address, link_address_inside, link_aligned, link_ends, link_target, list_all, list_any, list_any_at, lt-ltb, ltb-false, ltb-true, map, may_stand_together, named_context, named_endpoint, named_slot, nat_le, nat_lt, ne_eqb, none-some, not, not-false, not-true, not_from_false, option_and_then, option_map, or_from, or_left, or_parts, or_right, overlap, placed_by_context, pointer, position, position-Some, position_given_is, put, put_pair, range_with_len, refl, register_or_zero, reset_bit, ring_with, rings_overlap, rules, run_bit, same, same_Some, same_words, shape_facts, shape_or, slice_get, slice_get-get_or, slice_get_within, slice_index, slot, slot_entry, some_of, subst, suc, sym, table_bytes, toggles, touches-word, true, unwrap_or, with_cycle, word, zero, ℕ, ◌%◌, ◌&&◌, ◌*◌, ◌++◌, ◌+◌, ◌-◌, ◌/◌, ◌<◌, ◌==◌, ◌^◌, ◌||◌, ◌∙◌, ◌∷◌, ◌≡◌, ◌≢◌, ◌≤◌, ◌⊎◌}
-unfoldable pub use Rattle.safety.proofs.Words.{added_endpoints, awaits_binding, binding_in, binds, binds_ring, broken, ceiling, changes, changes_owned, command_at, command_given, command_id, command_ring, context_ranges, covers, crossings_given, declaration_tests, device_named, device_ranges, driver_rings, drops, due_positions, endpoint_rung, entry_of, entry_ranges, event_ring, event_shape, flips_passed, forgotten, given_by, given_of, has_bad_content, has_bad_context, has_repeats, has_stopped, holds_of, interrupts, is_among, is_bad_area, is_bad_bell, is_bad_binding, is_bad_command, is_bad_crcr, is_bad_dequeue, is_bad_doorbell, is_bad_erdp, is_bad_free, is_bad_move, is_bad_place, is_bad_register, is_bad_ring, is_bad_segment, is_bad_stay, is_bad_withdraw, is_being_bound, is_being_moved, is_declared_as, is_driver_ring, is_early_start, is_had, is_in_range_lease, is_kept, is_late_reset, is_move, is_no_first_block, is_not_declared, is_not_restored, is_not_whole, is_open, is_other_than_declared, is_placed, is_placement, is_soiled, is_taken, is_the_controllers, is_touched, is_unwritten, is_wrong_link, is_wrong_start, leads_wrong, learned, lease_bytes, lease_start, lenient, lenient_tests, may_pass, moves_ring, names_disabled_endpoint, names_disabled_slot, names_no_place, no_device, on_crossing, on_position, on_ring, open_ranges, positions_given, range_of_command, range_of_context, range_of_device, range_of_entry, register_tests, register_written, restored_on, ring_bound, ring_having, ring_moved, ring_restored, run_or_stop, rung, segment_ranges, shape_of, shows_first_lap, slots, some_command, some_crossed, some_flips, some_given, table_range, taken_device, tests, touches_endpoint, touches_ring, unfinished, unfinished_positions, unrestored, valued, with_device, with_ring, with_word, without_ring, write_tests, written}
+pub use Rattle.safety.proofs.Words.{AddressDevice, AfterStop, All, BadErdp, BadRegister, Bell, Binding, Block, BlockKind, Bool, Command, Config, ConfigureEndpoint, Contains, ContextSize, Crcr, Dcbaap, Declares, DeviceKeeps, DisableSlot, DriverKeeps, EnableSlot, EndpointState, Erdp, Erstba, Erstsz, EvaluateContext, Evt, Header, IsComing, IsDriverRing, IsHeader, IsIn, IsShape, IsTransferRing, Known, List, NoOp, None, NotDeclared, NotInProfile, Opens, Option, Refusal, Reg, Register, ResetDevice, ResetEndpoint, Restores, Ring, RingChange, RingKind, RingView, Row, SetTrDequeue, Shape, Some, StopEndpoint, Sub, Test, Usbcmd, Withdraws, Write, Writes, Xfer, [], address_aligned, address_ends, address_inside, address_of, and_from, and_left, and_parts, and_right, any_of, ap, append-nil, arith, base_address, block_at, broken_of, cases_Bool, cases_eq, cases_lt, ceiling_within, changed, clash, command_by_kind, command_of, cond-false, cond-true, cond_both, cons_option, cycle_of, cycle_of_bit, declared, device_context_bytes, endpoint_type, eq-eqb, eqb-true, erdp_address, false, false_from_ne_true, false≢true, filter, filter_map, find, floor_number, fun_ext, get_or, gives, gives_crossing_is, gives_is, has_flag, id_of, if◌then◌else◌, inl, input_add_flag, input_context_bytes, input_drop_flag, inr, is_command_kind, is_command_left_out, is_driver_kind, is_dropped, is_event_kind, is_event_place, is_in, is_inside, is_none, is_off, is_reached_within, is_ring, is_set, is_shape, is_some, is_stopped, is_transfer_kind, is_transfer_ring, kind, le-ltb, length, length-append, link_address, link_address_inside, link_aligned, link_ends, list_all, list_any, list_any_at, lt-ltb, ltb-false, ltb-true, map, may_stand_together, named_context, named_endpoint, named_slot, nat_le, nat_lt, ne_eqb, none-some, not, not-false, not-true, not_from_false, option_and_then, option_map, or_from, or_left, or_parts, or_right, overlap, placed_by_context, position, position-Some, position_given_is, put, put_pair, range_with_len, refl, register_or_zero, reset_bit, ring_with, rings_overlap, rules, run_bit, same_Some, same_words, shape_facts, shape_or, slice_get, slice_get_within, slice_index, slot, slot_entry, some_of, subst, suc, sym, table_bytes, touches-word, true, unwrap_or, with_cycle, word, zero, ℕ, ◌%◌, ◌&&◌, ◌*◌, ◌++◌, ◌+◌, ◌-◌, ◌/◌, ◌<◌, ◌==◌, ◌^◌, ◌||◌, ◌∙◌, ◌∷◌, ◌≡◌, ◌≢◌, ◌≤◌, ◌⊎◌}
+unfoldable pub use Rattle.safety.proofs.Words.{added_endpoints, awaits_binding, binding_in, binds, binds_ring, broken, ceiling, changes, changes_owned, command_at, command_given, command_id, context_ranges, covers, crossings_given, declaration_tests, device_named, device_ranges, driver_rings, drops, due_positions, endpoint_rung, entry_of, entry_ranges, event_ring, event_shape, flips_passed, forgotten, given_by, given_of, has_bad_content, has_bad_context, has_repeats, has_stopped, holds_of, interrupts, is_among, is_bad_area, is_bad_bell, is_bad_binding, is_bad_command, is_bad_crcr, is_bad_dequeue, is_bad_doorbell, is_bad_erdp, is_bad_free, is_bad_move, is_bad_place, is_bad_register, is_bad_ring, is_bad_segment, is_bad_stay, is_bad_withdraw, is_being_bound, is_being_moved, is_declared_as, is_driver_ring, is_early_start, is_had, is_in_range_lease, is_kept, is_late_reset, is_move, is_no_first_block, is_not_declared, is_not_restored, is_not_whole, is_open, is_other_than_declared, is_placed, is_placement, is_soiled, is_taken, is_the_controllers, is_touched, is_unwritten, is_wrong_link, is_wrong_start, leads_wrong, learned, lease_bytes, lease_start, lenient, lenient_tests, may_pass, moves_ring, names_disabled_endpoint, names_disabled_slot, names_no_place, no_device, on_crossing, on_position, on_ring, open_ranges, positions_given, range_of_command, range_of_context, range_of_device, range_of_entry, register_tests, register_written, restored_on, ring_bound, ring_having, ring_moved, ring_restored, run_or_stop, rung, segment_ranges, shape_of, shows_first_lap, slots, some_command, some_crossed, some_flips, some_given, table_range, taken_device, tests, touches_endpoint, touches_ring, unfinished, unfinished_positions, unrestored, valued, with_device, with_ring, with_word, without_ring, write_tests, written}
 pub use Rattle.safety.proofs.WriteBeside.{beside_old, rules_of}
 pub use Rattle.safety.proofs.WrittenKnown.{after_write, taken, written_device, written_device_none, written_memory, written_ring}
 pub use Rattle.segments.proofs.Search.{position-None}
@@ -95,7 +94,7 @@ pub use Rattle.trace_record.proofs.Words.{Apart, Data, EventState, FollowsDevice
 pub use Rattle.trace_record.proofs.WordsInside.{gives_no_crossing, gives_no_position}
 pub use Rattle.trace_record.specs.DeviceSlots.Addressing.{is_address_device}
 pub use Rattle.trace_record.specs.DeviceSlots.Holders.{HasEndpoint}
-pub use Rattle.trace_record.specs.DeviceSlots.Indices.{IsEndpoint, IsOnlyAbout, NamesEndpoint, index_of, is_about, is_slot, names}
+pub use Rattle.trace_record.specs.DeviceSlots.Indices.{IsOnlyAbout, NamesEndpoint, index_of, is_about, is_slot, names}
 pub use Rattle.trace_record.specs.DeviceSlots.Unfinished.{as_list}
 pub use Rattle.trace_record.specs.FollowsTrace.{HoldsBound}
 pub use Rattle.trace_record.specs.Premises.{ContextsFit, FitsMemory, IsSetUp}
@@ -118,3 +117,4 @@ pub use Rattle.trace_record.specs.declared.row_place.RowPlace.{RowPlace}
 pub use Rattle.trace_record.specs.declared.trace_record.TraceRecord.{TraceRecord}
 pub use Rattle.traces.specs.Header.{no_shape}
 pub use Rattle.traces.specs.Versions.{is_three}
+pub use Rattle.trb.specs.Block.{aligned as address}

@@ -2,3 +2,4 @@ pub mod TransferEvents
 pub mod CommandCompletions
 pub mod Words
 pub mod Laws
+pub mod LowerLaws

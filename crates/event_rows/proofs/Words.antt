@@ -5,7 +5,7 @@ pub use Rattle.controller_model.proofs.AddedLemmas.{adds_end, adds_next}
 pub use Rattle.controller_model.proofs.CommandLemmas.{command_well}
 pub use Rattle.controller_model.proofs.Words.{HasRoom, IfSome, IsWell, length-set, places_from}
 pub use Rattle.driver_rows.proofs.ContextRules.FittingCommands.{aligned_at, good_fits}
-pub use Rattle.driver_rows.proofs.DoorbellRows.Followed.{AreOffAs, IsBeside, IsOnly, followed, has_record, none_found, put_on, rings_with}
+pub use Rattle.driver_rows.proofs.DoorbellRows.Followed.{AreOffAs, IsBeside, IsOnly, followed, has_record, none_found, put_on}
 pub use Rattle.driver_rows.specs.DoorbellRows.Numbers.{number_of}
 pub use Rattle.event_rows.specs.CommandCompletions.Commands.{is_no_completion}
 pub use Rattle.event_rows.specs.CommandCompletions.OneRing.{MayMoveTo, ReachesTarget, number_in, ring_placed, set_on}
@@ -31,8 +31,8 @@ pub use Rattle.safety.proofs.SafeContext.{AtFloor, command_is_ring}
 pub use Rattle.safety.proofs.SameDriver.{completion_same}
 pub use Rattle.safety.proofs.StatesPlaced.{is_off_of, on_is}
 pub use Rattle.safety.proofs.UnfinishedBehind.{listed_unfinished}
-pub use Rattle.safety.proofs.Words.{AddressDevice, Block, Bool, Change, Command, CommandKeeps, Config, ConfigureEndpoint, ContextSize, Crcr, DeviceLeft, DisableSlot, Disables, DriverKeeps, EnableSlot, EndpointState, Error, EvaluateContext, Halted, Header, Holds, IsAhead, IsDriverRing, IsHeader, IsIn, IsSpot, IsTransferRing, IsUnfinished, Known, List, MayChange, MayChangeAll, MayPoint, NoOp, None, Option, Places, Reaches, ResetDevice, ResetEndpoint, Resets, Ring, RingChange, RingKeeps, RingKind, RingSpot, RingView, SetTrDequeue, Shape, SlotGoesOn, SlotState, Some, Spot, StopEndpoint, Stopped, Stops, Unstarted, [], after, and_parts, ap, arith, below_is, cases_Bool, cases_eq, ceiling_held, ceiling_within, changed, code, command_of, cond-false, cond-true, cons_option, cycle, cycle_of, declared, device_context_bytes, endpoint, endpoint_meant, endpoint_success, eq-eqb, eqb-true, false, false≢true, filter_map, floor_number, fun_ext, get_or, get_or_from_slice_get, given_count_declared, if◌then◌else◌, inl, input_context_bytes, inr, is_above_control, is_command_kind, is_driver_kind, is_dropped, is_event, is_halting, is_off, is_slot_enabled, is_some, is_stop_of, is_success, is_transfer_code, is_transfer_kind, is_trb_error, kind, le-ltb, length, list_any, map, may_answer_slot, named_ahead, named_context, named_endpoint, named_slot, nat_lt, ne_eqb, none-some, not, number, option_and_then, option_map, or_parts, place_count, placed_by_context, pointer, position, put, put_pair, range_with_len, refl, register_or_zero, ring_with, rules, same_Some, slice_get, slice_get-get_or, slice_get_within, slot, slot_meant, slot_success, subst, suc, sym, target_ahead, true, zero, ℕ, ◌&&◌, ◌++◌, ◌+◌, ◌-◌, ◌<◌, ◌==◌, ◌^◌, ◌||◌, ◌∙◌, ◌∷◌, ◌≡◌, ◌≢◌, ◌≤◌, ◌⊎◌}
-unfoldable pub use Rattle.safety.proofs.Words.{added_endpoints, binds_ring, bound_to, broken_off, can_finish, can_report, can_report_at, can_succeed, ceiling, changed_by, changed_by_all, changes, command_at, command_id, command_ring, completed, disabled, event_at, event_shape, event_size, finished, given_count, has_bad_context, held_at_ceiling, in_state, is_bad_area, is_being_bound, is_data_below, is_impossible_completion, is_impossible_transfer, is_in_profile, is_past_room, is_soiled, is_stop_spot, is_stopping_now, is_working, may_be_taken, moved, moved_to, named, next_command, on_ring, passed, pointed, ring_having, set_to, shape_of, slots, spot_on, stop_ended, stopped_at, stopped_number, succeeded, target, transfer_read, transferred, transferred_at, unfinished, was_stop_seen}
+pub use Rattle.safety.proofs.Words.{AddressDevice, Block, Bool, Change, Command, CommandKeeps, Config, ConfigureEndpoint, ContextSize, Crcr, DeviceLeft, DisableSlot, Disables, DriverKeeps, EnableSlot, EndpointState, EvaluateContext, Header, Holds, IsAhead, IsDriverRing, IsHeader, IsIn, IsSpot, IsTransferRing, IsUnfinished, Known, List, MayChange, MayChangeAll, MayPoint, NoOp, None, Option, Places, Reaches, ResetDevice, ResetEndpoint, Resets, Ring, RingChange, RingKeeps, RingKind, RingSpot, RingView, SetTrDequeue, Shape, SlotGoesOn, SlotState, Some, Spot, StopEndpoint, Stopped, Stops, Unstarted, [], after, and_parts, ap, arith, below_is, cases_Bool, cases_eq, ceiling_held, ceiling_within, changed, code, command_of, cond-false, cond-true, cons_option, cycle, cycle_of, declared, device_context_bytes, endpoint, endpoint_meant, endpoint_success, eq-eqb, eqb-true, false, false≢true, filter_map, floor_number, fun_ext, get_or, get_or_from_slice_get, given_count_declared, if◌then◌else◌, inl, input_context_bytes, inr, is_above_control, is_command_kind, is_driver_kind, is_dropped, is_event, is_halting, is_off, is_slot_enabled, is_some, is_stop_of, is_success, is_transfer_code, is_transfer_kind, is_trb_error, kind, length, list_any, map, may_answer_slot, named_ahead, named_context, named_endpoint, named_slot, nat_lt, ne_eqb, none-some, not, number, option_and_then, option_map, or_parts, place_count, placed_by_context, pointer, position, put, range_with_len, refl, register_or_zero, rules, same_Some, slice_get, slice_get-get_or, slice_get_within, slot, slot_meant, slot_success, subst, suc, sym, target_ahead, true, zero, ℕ, ◌&&◌, ◌++◌, ◌+◌, ◌-◌, ◌<◌, ◌==◌, ◌^◌, ◌||◌, ◌∙◌, ◌∷◌, ◌≡◌, ◌≢◌, ◌≤◌, ◌⊎◌}
+unfoldable pub use Rattle.safety.proofs.Words.{added_endpoints, binds_ring, bound_to, broken_off, can_finish, can_report, can_report_at, can_succeed, ceiling, changed_by, changed_by_all, changes, command_at, command_id, command_ring, completed, disabled, event_at, event_shape, event_size, finished, given_count, has_bad_context, held_at_ceiling, in_state, is_being_bound, is_data_below, is_impossible_completion, is_impossible_transfer, is_in_profile, is_past_room, is_stop_spot, is_stopping_now, is_working, may_be_taken, moved, moved_to, named, next_command, on_ring, passed, pointed, ring_having, set_to, shape_of, slots, spot_on, stop_ended, stopped_at, succeeded, target, transfer_read, transferred, transferred_at, unfinished, was_stop_seen}
 pub use Rattle.std.proofs.Common.{slice_set}
 pub use Rattle.trace_record.proofs.BoundRings.{any_in, binds_same, bound_same}
 pub use Rattle.trace_record.proofs.DeviceSlots.Steps.{follows_beside}

@@ -1,6 +1,5 @@
 -- A tree that grows by one page
-use Rattle.std.proofs.Common.{rules}
-use Rattle.guest_memory.proofs.Words.{ℕ, List, length, Some, ◌≡◌, ◌<◌, ◌+◌, inl, inr, arith, slice_index, cases_eq, next, led, IsTree, IsFree, Extends, digits_of}
+use Rattle.guest_memory.proofs.Words.{rules, ℕ, List, length, Some, ◌≡◌, ◌<◌, ◌+◌, inl, inr, arith, slice_index, cases_eq, next, led, IsTree, IsFree, Extends, digits_of}
 use Rattle.guest_memory.proofs.Led.{led_kept, led_more}
 
 -- the numbers ms and the ways us are those before, and number n, behind page i by a digit

@@ -6,3 +6,4 @@ pub mod Linked
 pub mod Seeking
 pub mod Written
 pub mod Words
+pub mod LowerLaws

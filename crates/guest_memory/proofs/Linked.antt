@@ -1,6 +1,5 @@
 -- A page at the end of the others, and where it lies noted in one of them
-use Rattle.std.proofs.Common.{rules}
-use Rattle.guest_memory.proofs.Words.{ℕ, zero, suc, List, [], ◌∷◌, ◌++◌, length, set, get_or, replicate, ◌≡◌, ◌<◌, ◌≤◌, ◌∙◌, sym, refl, ap, ⊎_elim, arith, length-append, slice_index, cases_eq, cases_lt, length-map, get_or-map, map-set, map-append, get_or-set_same, get_or-set_other, get_or_append_left, get_or_push, get_or-replicate, get_or_past, map-set_same, Page, numbers, nexts, next, IsTree, IsFree, IsAt, page_in}
+use Rattle.guest_memory.proofs.Words.{rules, ℕ, zero, suc, List, [], ◌∷◌, ◌++◌, length, set, get_or, replicate, ◌≡◌, ◌<◌, ◌≤◌, ◌∙◌, sym, refl, ap, ⊎_elim, arith, length-append, slice_index, cases_eq, cases_lt, length-map, get_or-map, map-set, map-append, get_or-set_same, get_or-set_other, get_or_append_left, get_or_push, get_or-replicate, get_or_past, map-set_same, Page, numbers, nexts, next, IsTree, IsFree, IsAt, page_in}
 use Rattle.guest_memory.proofs.Grown.{IsGrown, tree_grown}
 use Rattle.guest_memory.proofs.PageWords.{page_in_push}
 

@@ -1,6 +1,5 @@
 -- What a search for a page knows on its way through the tree
-use Rattle.std.proofs.Common.{rules}
-use Rattle.guest_memory.proofs.Words.{ℕ, suc, List, length, Some, ◌≡◌, ◌≢◌, ◌<◌, ◌≤◌, ◌+◌, ◌-◌, refl, arith, slice_index, next, led, IsTree, IsFree, Extends, first_of, behind_of, digits_of}
+use Rattle.guest_memory.proofs.Words.{rules, ℕ, suc, List, length, Some, ◌≡◌, ◌≢◌, ◌<◌, ◌≤◌, ◌+◌, ◌-◌, refl, arith, slice_index, next, led, IsTree, IsFree, Extends, first_of, behind_of, digits_of}
 use Rattle.guest_memory.proofs.Led.{led_here, led_down, led_end, led_more}
 
 -- the way from the first page by the digits of n comes to page i, with the digits in rest left, here and wherever the tree grows to

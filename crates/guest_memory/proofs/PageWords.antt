@@ -1,6 +1,5 @@
 -- The words of a page among pages with numbers of their own
-use Rattle.std.proofs.Common.{rules}
-use Rattle.guest_memory.proofs.Words.{ℕ, zero, suc, List, [], ◌∷◌, ◌++◌, length, set, get_or, replicate, ◌≡◌, ◌≢◌, ◌<◌, refl, arith, slice_index, if◌then◌else◌, ◌==◌, get_or-replicate, nat_tests, Page, numbers, page_in, word_of}
+use Rattle.guest_memory.proofs.Words.{rules, ℕ, zero, suc, List, [], ◌∷◌, ◌++◌, length, set, get_or, replicate, ◌≡◌, ◌≢◌, ◌<◌, refl, arith, slice_index, if◌then◌else◌, ◌==◌, get_or-replicate, nat_tests, Page, numbers, page_in, word_of}
 
 -- a page without words changes none
 pub page_in_push : (pages : List Page) (page : Page) (n : ℕ) → page.words ≡ replicate 16 0

@@ -1,8 +1,5 @@
 -- A step of the search for a page, among pages
-use Rattle.std.proofs.Common.{rules}
-use Rattle.guest_memory.proofs.Words.{ℕ, List, [], ◌∷◌, length, get_or, ◌≡◌, ◌≢◌, ◌<◌, ◌≤◌, ◌-◌, refl, arith, slice_index, Page, numbers, nexts, next, IsTree, IsFree, first_of, behind_of}
-use Rattle.guest_memory.proofs.OnWay.{IsOnWay, on_way_down, free_at_end, free_first}
-use Rattle.guest_memory.proofs.Linked.{count, number_read, next_read}
+use Rattle.guest_memory.proofs.LowerLaws.{rules, ℕ, List, [], ◌∷◌, length, get_or, ◌≡◌, ◌≢◌, ◌<◌, ◌≤◌, ◌-◌, refl, arith, slice_index, Page, numbers, nexts, next, IsTree, IsFree, first_of, behind_of, IsOnWay, on_way_down, free_at_end, free_first, count, number_read, next_read}
 
 pub free_behind : (pages : List Page) (n i rest : ℕ) (page : Page) → IsTree (numbers pages) (nexts pages)
     → IsOnWay (numbers pages) (nexts pages) n i rest → i < length pages → page ≡ get_or pages i page → page.number ≢ n

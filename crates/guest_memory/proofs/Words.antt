@@ -4,7 +4,7 @@ pub use Rattle.guest_memory.specs.Page.{page_in, word_of}
 pub use Rattle.guest_memory.specs.Tree.{Extends, HasNone, IsAt, IsFree, IsTree, behind_of, digits_of, first_of, next, nexts, numbers}
 unfoldable pub use Rattle.guest_memory.specs.Tree.{led}
 pub use Rattle.guest_memory.specs.declared.page.Page.{Page}
-pub use Rattle.std.proofs.Common.{List, None, Some, [], add-zero, ap, arith, get_or, inl, inr, length, length-append, refl, replicate, set, subst, suc, sym, zero, ℕ, ⊎_elim, ◌%◌, ◌++◌, ◌+◌, ◌-◌, ◌/◌, ◌<◌, ◌∙◌, ◌∷◌, ◌≡◌, ◌≢◌, ◌≤◌}
+pub use Rattle.std.proofs.Common.{List, None, Some, [], ap, arith, get_or, inl, inr, length, length-append, refl, replicate, rules, set, suc, sym, zero, ℕ, ⊎_elim, ◌%◌, ◌++◌, ◌+◌, ◌-◌, ◌/◌, ◌<◌, ◌∙◌, ◌∷◌, ◌≡◌, ◌≢◌, ◌≤◌}
 pub use Rattle.std.proofs.Math.Seq.{map-set_same}
 pub use Rattle.std.proofs.lemmas.Bool.{cases_eq, cases_lt}
 pub use Rattle.std.proofs.lemmas.Bool.Decides.{nat_tests}

@@ -1,8 +1,5 @@
 -- What a word is where its page lies, and after a write there
-use Rattle.std.proofs.Common.{rules}
-use Rattle.guest_memory.proofs.Words.{ℕ, List, [], ◌∷◌, ◌+◌, length, set, get_or, replicate, ◌≡◌, ◌≢◌, ◌<◌, ◌/◌, ◌%◌, refl, ⊎_elim, arith, slice_index, cases_eq, get_or-set_same, get_or-set_other, get_or-replicate, map-set_same, Page, numbers, nexts, IsTree, IsAt, HasNone, page_in, word_of, put}
-use Rattle.guest_memory.proofs.PageWords.{page_in_at, page_in_set, page_in_none}
-use Rattle.guest_memory.proofs.Linked.{count, number_read}
+use Rattle.guest_memory.proofs.LowerLaws.{rules, ℕ, List, [], ◌∷◌, ◌+◌, length, set, get_or, replicate, ◌≡◌, ◌≢◌, ◌<◌, ◌/◌, ◌%◌, refl, ⊎_elim, arith, slice_index, cases_eq, get_or-set_same, get_or-set_other, get_or-replicate, map-set_same, Page, numbers, nexts, IsTree, IsAt, HasNone, page_in, word_of, put, page_in_at, page_in_set, page_in_none, count, number_read}
 
 -- no earlier page shares its number
 pub is_first : (pages : List Page) (n i : ℕ) → IsTree (numbers pages) (nexts pages) → IsAt (numbers pages) n i

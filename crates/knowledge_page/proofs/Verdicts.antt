@@ -1,19 +1,5 @@
 -- Where among rows the first stands that breaks a rule
-use Rattle.std.proofs.Common.{◌≡◌, ℕ, zero, suc, ◌+◌, ◌<◌, ◌≤◌, List, [], ◌∷◌, Option, Some, None, ◌⊎◌, inl, inr, refl, sym, subst, ap, arith, length}
-use Rattle.std.specs.Prelude.{take}
-use Rattle.std.proofs.lemmas.Grind.{common_steps}
-use Rattle.std.proofs.lemmas.Option.{same_Some}
-use Rattle.traces.specs.declared.trace_row.TraceRow.{TraceRow}
-use Rattle.traces.specs.declared.header.Header.{Header}
-use Rattle.trace_reader.specs.Reading.{TraceText}
-use Rattle.ring_knowledge.specs.Known.{Known, nothing}
-use Rattle.ownership_rules.specs.declared.refusal.Refusal.{Refusal}
-use Rattle.ownership_rules.specs.Rules.{first_or}
-use Rattle.safety.specs.RingChanges.Histories.{header_after, known_after}
-use Rattle.ownership_checker.specs.RingPasses.Rules.{ring_verdict, ring_verdict_from, row_broken}
-use Rattle.knowledge_page.specs.Shown.{IfNoRow, IsLast, IsNoRow, IsRange, verdict_on}
-use Rattle.knowledge_page.specs.declared.shown.ShowFault.{ShowFault}
-use Rattle.knowledge_page.specs.declared.shown.ShowFault.TheVariants.{NoRow, Memory}
+use Rattle.knowledge_page.proofs.BaseWords.{◌≡◌, ℕ, zero, suc, ◌+◌, ◌<◌, ◌≤◌, List, [], ◌∷◌, Option, Some, None, ◌⊎◌, inl, inr, refl, sym, subst, ap, arith, length, take, common_steps, same_Some, TraceRow, Header, TraceText, Known, nothing, Refusal, first_or, header_after, known_after, ring_verdict, ring_verdict_from, row_broken, IfNoRow, IsLast, IsNoRow, IsRange, verdict_on, ShowFault, NoRow, Memory}
 
 -- it is this row, or one behind it
 here_or : (cs : List Refusal) (n row many : ℕ) (c : Refusal) (later : Option (ℕ × Refusal)) →

@@ -1,8 +1,8 @@
 -- The words of std, of the crates below and of this crate's own definitions that its proofs cite, passed on by one file
-pub use Rattle.commands.specs.declared.state.EndpointState.TheVariants.{Error, Halted}
-pub use Rattle.contexts.specs.Contexts.{context_cycle, context_pointer, slot_entry}
-pub use Rattle.contexts.specs.declared.size.ContextSize.TheVariants.{Bytes32, Bytes64}
-pub use Rattle.controller_model.proofs.Words.{Data, result_ok}
+pub use Rattle.commands.specs.declared.state.EndpointState.TheVariants.{Error}
+pub use Rattle.contexts.specs.Contexts.{context_cycle, context_pointer}
+pub use Rattle.contexts.specs.declared.size.ContextSize.TheVariants.{Bytes32}
+pub use Rattle.controller_model.proofs.Words.{result_ok}
 pub use Rattle.event_ring.specs.EventRing.{table_bytes}
 pub use Rattle.guest_memory.specs.Memory.{long_at}
 pub use Rattle.leases.specs.CertificateLogs.Agreement.{test_of}
@@ -45,10 +45,9 @@ unfoldable pub use Rattle.ownership_rules.specs.Registers.{is_bad_register, is_w
 unfoldable pub use Rattle.ownership_rules.specs.Rules.{lenient}
 pub use Rattle.ring_knowledge.proofs.DueNumbers.{link_of-crossed, same_due, same_due_crossing}
 pub use Rattle.ring_knowledge.proofs.Noted.{noted_past}
-pub use Rattle.ring_knowledge.proofs.Words.{Declares, FollowsRing, IsShape, Opens, Register, Segment, Usbcmd, and_from, and_parts, crossed_link, crosses, crossing_positive, crossings_of, is_crossing_due, length-map, link_address_is, link_crossed, nat_tests, new_ring, or_left, place_at-data, place_at-link, place_below, positions_of, reset_bit, run_bit, with_register}
+pub use Rattle.ring_knowledge.proofs.Words.{Declares, FollowsRing, IsShape, Opens, Register, Segment, and_from, and_parts, crossed_link, crossing_positive, crossings_of, is_crossing_due, length-map, link_crossed, nat_tests, new_ring, or_left, positions_of, reset_bit, run_bit, with_register}
 unfoldable pub use Rattle.ring_knowledge.proofs.Words.{register_written, valued}
 unfoldable pub use Rattle.ring_knowledge.specs.Learned.{event_read}
-pub use Rattle.ring_knowledge.specs.RingRecords.{least_crossing}
 pub use Rattle.ring_knowledge.specs.Rings.{Crossing, Given, Position}
 unfoldable pub use Rattle.ring_knowledge.specs.Rings.{spot_on}
 unfoldable pub use Rattle.ring_knowledge.specs.Transfers.{broken_off, passed, stopped_at, transfer_read, transferred, transferred_at}
@@ -70,21 +69,20 @@ pub use Rattle.safety.proofs.FloorsGrow.{floors_grow, may_change}
 pub use Rattle.safety.proofs.Headers.{ring_shape, transfer_driver, transfer_not_command}
 pub use Rattle.safety.proofs.KeptClean.{taking}
 pub use Rattle.safety.proofs.KeptRegisters.{registered}
-pub use Rattle.safety.proofs.KeptRings.{CompletionFacts, completion_facts, next_at_floor, still_of}
+pub use Rattle.safety.proofs.KeptRings.{completion_facts, next_at_floor, still_of}
 pub use Rattle.safety.proofs.NothingFree.{nothing_free}
-pub use Rattle.safety.proofs.OtherRingsWritten.{not_in_both}
-pub use Rattle.safety.proofs.Placings.{Ready, ReadyAt, address_ready, all_ready, dropped, map_map, ready_next, ring_at}
+pub use Rattle.safety.proofs.Placings.{Ready, ReadyAt, address_ready, all_ready, dropped, ready_next, ring_at}
 pub use Rattle.safety.proofs.RingChanges.ListedRings.{none_found}
 pub use Rattle.safety.proofs.RingChanges.OtherRings.{OtherRings}
-pub use Rattle.safety.proofs.RingChanges.RingRuns.{bad_same, f_keeps, fresh, no_ring}
+pub use Rattle.safety.proofs.RingChanges.RingRuns.{bad_same, f_keeps, fresh}
 pub use Rattle.safety.proofs.RingChanges.Squares.{cleared, cleared_apart}
-pub use Rattle.safety.proofs.RingIds.{having_transfer}
+pub use Rattle.safety.proofs.RingIds.{having_transfer, transfer_driver as transfer_is_driver}
 pub use Rattle.safety.proofs.RowFrames.{bell_leaves, declaration_leaves, register_leaves, write_leaves}
 pub use Rattle.safety.proofs.SafeContext.{command_is_ring}
 pub use Rattle.safety.proofs.SameDriver.{SameDriver, event_same, view_after}
 pub use Rattle.safety.proofs.StandingTargets.{target_here, target_placed}
 pub use Rattle.safety.proofs.TestsPassed.{any_of_map, clean_tests, each_fails}
-pub use Rattle.safety.proofs.Words.{AddressDevice, All-head, All-tail, Bell, BlockKind, Change, Cmd, Command, CommandCompletion, Config, ConfigureEndpoint, ContextSize, DeviceLeft, DisableSlot, Disables, DriverKeeps, EnableSlot, EndpointState, Erstba, EvaluateContext, Evt, Header, Holds, IsDriverRing, IsHeader, IsIn, Known, MayChangeAll, NoOp, Places, Reaches, Read, Reg, ResetDevice, ResetEndpoint, Resets, Ring, RingChange, RingKind, RingSpot, RingView, Row, SetTrDequeue, Shape, SlotGoesOn, Spot, StopEndpoint, Stopped, Stops, Sub, TransferEvent, Write, Writes, Xfer, address_inside, address_of, after, cases_Bool, cases_eq, changed, code, command_of, cond-false, cond_both, device_context_bytes, drop_all, false≢true, flat_map, floor_number, from_filter, fun_ext, gives, gives_crossing, gives_crossing_is, gives_is, in_filter, input_context_bytes, is_above_control, is_command_completion, is_command_kind, is_crossing, is_driver_kind, is_dropped, is_inside, is_off, is_ring, is_stopping, is_success, is_transfer_event, is_transfer_kind, kind, link_address, link_address_inside, list_any, list_any-append, named_context, none-some, number, or_parts, place_count, placed_by_context, position_given_is, put, range_with_len, register_or_zero, ring_with, same_Some, shape_or, slice_get_within, slot, target_ahead}
+pub use Rattle.safety.proofs.Words.{AddressDevice, All-head, All-tail, Bell, BlockKind, Change, Command, CommandCompletion, ConfigureEndpoint, DeviceLeft, DisableSlot, Disables, DriverKeeps, EndpointState, Erstba, Evt, Header, Holds, IsDriverRing, IsHeader, IsIn, Known, MayChangeAll, Places, Reaches, Read, Reg, Ring, RingChange, RingKind, RingSpot, RingView, Row, SetTrDequeue, Shape, SlotGoesOn, Spot, Stopped, Sub, TransferEvent, Write, Writes, Xfer, address_inside, address_of, after, cases_Bool, changed, code, command_of, cond-false, cond_both, device_context_bytes, drop_all, false≢true, flat_map, floor_number, from_filter, fun_ext, gives, gives_crossing, gives_crossing_is, gives_is, in_filter, input_context_bytes, is_command_completion, is_command_kind, is_crossing, is_driver_kind, is_dropped, is_inside, is_off, is_ring, is_stopping, is_success, is_transfer_event, is_transfer_kind, kind, link_address, link_address_inside, list_any, list_any-append, named_context, none-some, number, or_parts, place_count, placed_by_context, position_given_is, put, range_with_len, register_or_zero, ring_with, same_Some, shape_or, slice_get_within, slot, target_ahead}
 unfoldable pub use Rattle.safety.proofs.Words.{added_endpoints, bound_to, ceiling, changed_by, changed_by_all, changes, command_at, command_given, command_id, command_ring, completed, context_ranges, crossings_given, device_ranges, disabled, driver_rings, due_positions, entry_of, entry_ranges, event_at, finished, given_by, given_of, held_at_ceiling, in_state, known, learned, moved, moved_to, next_command, nothing, on_ring, open_leases, open_on, open_ranges, pointed, positions_given, range_of_command, range_of_context, range_of_device, range_of_entry, ring_having, segment_ranges, set_to, shape_of, slots, stop_ended, succeeded, table_range, taken_device, target, unfinished_positions, with_device, with_word, written}
 pub use Rattle.safety.proofs.WriteBeside.{rules_of}
 pub use Rattle.safety.proofs.WrittenKnown.{after_write, taken, written_device, written_device_none}
@@ -95,18 +93,16 @@ unfoldable pub use Rattle.safety.specs.RingChanges.Changes.{forgotten, is_bad_fr
 pub use Rattle.safety.specs.RingChanges.Histories.{header_now, known_now}
 pub use Rattle.safety.specs.RingChanges.Withdrawals.{restored}
 unfoldable pub use Rattle.safety.specs.RingChanges.Withdrawals.{restored_on, ring_moved, ring_restored}
-pub use Rattle.segments.proofs.Giving.{Gives, GivesCrossing, due_is}
-pub use Rattle.segments.proofs.InsideLemmas.{touches-word}
+pub use Rattle.segments.proofs.Giving.{GivesCrossing, due_is}
 pub use Rattle.segments.proofs.Named.{ceiling_within, named_ahead}
 pub use Rattle.segments.proofs.OneGiving.{gives_one}
-pub use Rattle.segments.proofs.PlaceAtLemmas.{is_inside-place_at}
 pub use Rattle.segments.proofs.ReachedSpots.{number-after}
 pub use Rattle.segments.proofs.Reaching.{floor_given, given_count_declared}
 pub use Rattle.segments.proofs.Search.{cases_option}
 pub use Rattle.segments.proofs.SpotOrder.{data_not_link}
-pub use Rattle.segments.proofs.Words.{IsRestored, Restores, RingKeeps, Withdraws, cycle_of, is_due, is_handed_over, is_in, not-true, option_map, or_cases, pointer, position_or_len, take_more, touches}
+pub use Rattle.segments.proofs.Words.{IsRestored, Restores, RingKeeps, Withdraws, is_handed_over, is_in, not-true, option_map, or_cases, pointer, position_or_len, take_more, touches}
 unfoldable pub use Rattle.segments.proofs.Words.{due_crossings, leased_crossings, leased_positions, length_from, link_of, named, unrestored}
-pub use Rattle.std.proofs.Common.{All, Bool, Err, List, None, Ok, OnOk, Option, Result, Some, [], ap, append-nil, append_assoc, arith, cond, drop, drop-cons, eq-eqb, eqb-true, false, filter, get_or, if◌then◌else◌, inl, inr, insert, is_some, le-leb, leb-true, length, lt-ltb, ltb-false, ltb-true, map, max, nat_le, nat_lt, ne_eqb, not, option_and_then, refl, rules, reverse, slice_get, slice_set, subst, suc, sym, take, take_all, true, unwrap_or, vec_len, zero, ℕ, ◌%◌, ◌&&◌, ◌*◌, ◌++◌, ◌+◌, ◌-◌, ◌/◌, ◌<◌, ◌==◌, ◌^◌, ◌||◌, ◌↔◌, ◌∙◌, ◌∷◌, ◌≡◌, ◌≢◌, ◌≤◌, ◌⊎◌}
+pub use Rattle.std.proofs.Common.{All, Bool, Err, List, None, Ok, OnOk, Option, Result, Some, [], ap, append-nil, append_assoc, arith, cond, drop, drop-cons, eq-eqb, eqb-true, false, filter, get_or, if◌then◌else◌, inl, inr, insert, is_some, le-leb, leb-true, length, lt-ltb, ltb-false, ltb-true, map, max, nat_le, nat_lt, ne_eqb, not, option_and_then, refl, reverse, rules, slice_get, slice_set, subst, suc, sym, take, take_all, true, unwrap_or, vec_len, zero, ℕ, ◌%◌, ◌&&◌, ◌*◌, ◌++◌, ◌+◌, ◌-◌, ◌<◌, ◌==◌, ◌^◌, ◌||◌, ◌↔◌, ◌∙◌, ◌∷◌, ◌≡◌, ◌≢◌, ◌≤◌, ◌⊎◌}
 pub use Rattle.std.proofs.lemmas.Bool.{eqb-false, or_from}
 pub use Rattle.std.proofs.lemmas.List.{get_or-map}
 pub use Rattle.std.proofs.lemmas.List.Elements.{filter-append}
@@ -114,12 +110,14 @@ pub use Rattle.std.proofs.lemmas.Option.{slice_get_cases}
 pub use Rattle.std.specs.List.{position}
 pub use Rattle.std.specs.Option.{option_copied}
 pub use Rattle.std.specs.Result.{IfOk}
-pub use Rattle.trace_record.proofs.RingFinder.CommandRings.{command_id_is, commands_among, driven}
+pub use Rattle.trace_record.proofs.OneRingHas.{inside_is, no_driver_event}
+pub use Rattle.trace_record.proofs.RingFinder.CommandRings.{command_id_is, commands_among, driven, no_ring}
 pub use Rattle.trace_record.proofs.RingFinder.FoundRings.{command_found, no_command_ring, ring_here}
 pub use Rattle.trace_record.proofs.RingFinder.HeaderRings.{all_from_one, event_here, not_found, nothing_from, ring_found, shape_allowed}
-pub use Rattle.trace_record.proofs.RingFinder.ListTests.{and_false, and_left, and_right, any_append, false_unless, filter_nothing, or_false}
+pub use Rattle.trace_record.proofs.RingFinder.ListTests.{and_false, any_append, false_unless, or_false}
 pub use Rattle.trace_record.proofs.RingFinder.RingsApart.{each_among, same_number, same_or_apart}
 pub use Rattle.trace_record.proofs.Words.{Apart, FollowsTrace, IsAmong, RingRecord, among_at, find_some, none_here, shape_there, slice_get_read, together}
+pub use Rattle.trace_record.proofs.WordsInside.{gives_no_crossing, gives_no_position}
 pub use Rattle.trace_record.specs.Premises.{EndpointRings}
 pub use Rattle.trace_record.specs.RowPlaces.{IsGivenBy, IsPlaced, IsPlacedSo}
 pub use Rattle.trace_record.specs.declared.row_place.RowPlace.{RowPlace}
@@ -127,7 +125,7 @@ pub use Rattle.trace_record.specs.declared.trace_record.TraceRecord.{TraceRecord
 pub use Rattle.traces.specs.Header.{is_event_kind}
 unfoldable pub use Rattle.traces.specs.Header.{event_ring, event_shape}
 pub use Rattle.traces.specs.Register.{base_address}
-pub use Rattle.traces.specs.declared.register.Register.TheVariants.{Crcr, Dcbaap, Dnctrl, Erdp, Erstsz, Iman, Imod, Usbsts}
+pub use Rattle.traces.specs.declared.register.Register.TheVariants.{Dcbaap}
 pub use Rattle.traces.specs.declared.trace_row.TraceRow.{TraceRow}
 pub use Rattle.traces.specs.declared.trace_row.TraceRow.TheVariants.{Comes, Goes, Plain}
 pub use Rattle.traces.specs.declared.version.Version.TheVariants.{Three}

@@ -4,3 +4,7 @@ pub mod LeaseBooks
 pub mod CertificateLogs
 pub mod LeaseRows
 pub mod RingLeases
+pub mod LowerLaws
+pub mod MiddleLaws
+pub mod UpperLaws
+pub mod Laws

@@ -1,5 +1,5 @@
 -- A list that is cut at each element that passes a test, by its first such element
-use Rattle.line_text.proofs.Words.{◌≡◌, ◌+◌, ◌-◌, ◌<◌, ◌≤◌, ◌∷◌, ◌++◌, ◌∙◌, ℕ, suc, zero, List, [], Bool, true, false, refl, ap, sym, arith, length, slice_index, take, drop, cond, All, eqb-true, le_refl, slice_split, onto_first, count_by, All-cons, All-nil, All-same, sum_by-cons, fields_of, is_space, common_steps, slice_split-cons_yes, slice_split-cons_no, length-slice_split, is_line_feed, last_line, lines_between, lines_of, rules, add-one, drop-cons, false_from_ne_true, get_or-take, length-take, take-append-drop, All-from_get_or, count_by-le-length, slice_split_at, slice_split_none}
+use Rattle.line_text.proofs.Words.{◌≡◌, ◌+◌, ◌-◌, ◌<◌, ◌≤◌, ◌∷◌, ◌++◌, ◌∙◌, ℕ, suc, List, [], Bool, true, false, ap, sym, arith, length, slice_index, take, drop, All, eqb-true, slice_split, fields_of, is_space, common_steps, length-slice_split, is_line_feed, last_line, lines_between, lines_of, rules, add-one, drop-cons, false_from_ne_true, get_or-take, length-take, take-append-drop, All-from_get_or, count_by-le-length, slice_split_at, slice_split_none}
 use Rattle.line_text.proofs.Joins.{ended_first}
 
 -- what is left of a text, as a slice gives it
@@ -48,12 +48,10 @@ none_at_all text none = fails_all is_line_feed text none
 pub line_at : (text : List ℕ) (end : ℕ) → end < length text → is_line_feed (slice_index text end) ≡ true → ((k : ℕ) → 0 ≤ k → k < end → is_line_feed (slice_index text k) ≡ true → ⊥) →
     lines_of text ≡ record { content = take end text; is_ended = true } ∷ lines_of (take (length text - (end + 1)) (drop (end + 1) text))
 unfolding lines_of
-line_at text end inside passes none =
-    search (rules, take, length, drop, lines_between, cut_behind, is_line_feed, ended_first, slice_split, length-slice_split)
+line_at text end inside passes none = grind (arith, cut_behind, ended_first, length-slice_split)
 
 last_is : (text : List ℕ) → 0 < length text → last_line text ≡ record { content = text; is_ended = false } ∷ []
-last_is [] some = absurd (omega arith)
-last_is (byte ∷ rest) some = refl
+last_is text some = grind arith
 
 pub line_alone : (text : List ℕ) → 0 < length text → ((k : ℕ) → 0 ≤ k → k < length text → is_line_feed (slice_index text k) ≡ true → ⊥) →
     lines_of text ≡ record { content = text; is_ended = false } ∷ lines_of (take (length text - length text) (drop (length text) text))

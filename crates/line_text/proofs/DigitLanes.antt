@@ -1,5 +1,5 @@
 -- DigitLanes: what is computed of hex digits lane by lane, held to what each digit says
-use Rattle.line_text.proofs.Words.{◌≡◌, ℕ, zero, suc, ◌+◌, ◌-◌, ◌*◌, ◌%◌, ◌^◌, ◌<◌, ◌≤◌, ◌↔◌, ◌||◌, Bool, true, not, cond, eqb, ltb, leb, List, [], ◌∷◌, ◌++◌, map, length, get_or, replicate, bit_and, bit_or, Option, Some, None, unwrap_or, is_some, Result, Ok, Err, refl, sym, subst, ap, ap₂, ◌∙◌, arith, Fits, eqb-true, eq-eqb, Width, byte_len, from_be_bytes, AllPass, list_all, range_with_len, agree_below_at, and_parts, length-map, take_all, AllPass-from_list_all, list_all-from_AllPass, zip2_splat, zip2_of_maps, splat_is_map, mask_l-mod, pick_l_whole, zip2, sel_l, mask_l, top, pick_l, chunk, Each1, decode_of, decode_pairs, decode_sized, digit_or_error, hex_digit_value, is_hex_digit, pair_value, FromHexError, IsOk-decode_sized, decode_of-even, decode_sized-twice, cons_byte, decode_pairs-ok_pair, number_of, number_of_bytes, rules}
+use Rattle.line_text.proofs.Words.{◌≡◌, ℕ, zero, suc, ◌+◌, ◌-◌, ◌*◌, ◌%◌, ◌^◌, ◌<◌, ◌≤◌, ◌↔◌, ◌||◌, Bool, true, not, cond, eqb, ltb, leb, List, [], ◌∷◌, ◌++◌, map, length, get_or, replicate, bit_and, bit_or, Option, Some, None, unwrap_or, is_some, Result, Ok, Err, refl, sym, subst, ap, ap₂, ◌∙◌, arith, Fits, eqb-true, eq-eqb, Width, byte_len, from_be_bytes, AllPass, list_all, range_with_len, agree_below_at, and_parts, length-map, take_all, AllPass-from_list_all, list_all-from_AllPass, zip2_splat, zip2_of_maps, splat_is_map, mask_l-mod, pick_l_whole, zip2, sel_l, mask_l, top, pick_l, chunk, Each1, decode_of, decode_pairs, decode_sized, hex_digit_value, is_hex_digit, FromHexError, IsOk-decode_sized, decode_of-even, decode_sized-twice, cons_byte, decode_pairs-ok_pair, number_of, number_of_bytes, rules}
 use Rattle.std.proofs.Common.{w8}
 
 -- ---- one lane
@@ -65,10 +65,7 @@ pub are_digits : (v : List ℕ) (n : ℕ) → n ≤ 64 → (length v ≡ n) × E
 are_digits v n few fits =
     let p = λ (c : ℕ). not (is_hex_digit c) in
     let e = ap (λ l. mask_l (map (top 7) l) % 2 ^ 64) (marked v n fits.0) ∙ ap (λ l. mask_l l % 2 ^ 64) (no_digits v fits.1) ∙ mask_l-mod (map p v) 64 (omega (arith, length-map v p, fits.0)) in
-    let both = none_is_set is_hex_digit v in (
-      λ t. AllPass-from_list_all is_hex_digit v (both.0 (sym e ∙ eqb-true _ _ t)),
-      λ all. eq-eqb _ _ (e ∙ both.1 (list_all-from_AllPass is_hex_digit v all)),
-    )
+    let both = none_is_set is_hex_digit v in grind (arith, AllPass-from_list_all, eqb-true, eq-eqb, list_all-from_AllPass)
 
 smaller : (f g : ℕ → ℕ) (v : List ℕ) → sel_l (map (top 7) (zip2 below (map f v) (map g v))) (map f v) (map g v) ≡ map (λ c. cond (top 7 (below (f c) (g c))) (f c) (g c)) v
 smaller f g [] = refl
@@ -104,8 +101,7 @@ pairs_are i (a ∷ b ∷ rest) (h ∷ l ∷ ns) even say =
     let high : hex_digit_value a ≡ Some h = cc say in
     let low : hex_digit_value b ≡ Some l = cc say in
     let others : map hex_digit_value rest ≡ map (λ (n : ℕ). Some n) ns = cc say in
-    let pair : pair_value a b i ≡ Ok (h * 16 + l) = rw (ap (digit_or_error a i) high, ap (digit_or_error b (i + 1)) low) refl in
-    decode_pairs-ok_pair i a b _ rest pair ∙ ap (cons_byte (h * 16 + l)) (pairs_are (i + 2) rest ns (omega arith) others)
+    grind (arith, Ok, decode_pairs-ok_pair, cons_byte, pairs_are (i + 2) rest ns (omega arith) others)
 
 digit_is_small : (c n : ℕ) → hex_digit_value c ≡ Some n → n < 16
 digit_is_small c n says = grind arith

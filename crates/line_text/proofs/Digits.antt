@@ -40,9 +40,7 @@ read_pair a b i None ob r bytes said = cc said
 
 pub pair_said : (a b i : ℕ) (rest bytes : List ℕ) → decode_pairs i (a ∷ b ∷ rest) ≡ Ok bytes → PairSaid a b rest bytes i
 unfolding decode_pairs
-pair_said a b i rest bytes said =
-    let p = read_pair a b i (hex_digit_value a) (hex_digit_value b) (decode_pairs (i + 2) rest) bytes said in
-    record { high = p.0; low = p.1; others = p.2; high_is = p.3; low_is = p.4; others_are = p.5; are = p.6 }
+pair_said a b i rest bytes said = search (rules, read_pair a b i (hex_digit_value a) (hex_digit_value b) (decode_pairs (i + 2) rest) bytes said)
 
 pub pairs_said : (i : ℕ) (s bytes : List ℕ) → decode_pairs i s ≡ Ok bytes → str_to_ascii_lowercase s ≡ encode_lower bytes
 unfolding decode_pairs encode_with
@@ -79,8 +77,7 @@ pairs_spelled i (a ∷ b ∷ rest) (x ∷ xs) are spelled =
 -- ---- the bytes of a number
 
 byte_fits : (i n : ℕ) → slice_index (bytes_high_first (suc i) n) 0 < 256
-byte_fits zero n = omega arith
-byte_fits (suc i) n = omega arith
+byte_fits i n = grind arith
 
 high_first_bytes : (k n : ℕ) → IsBytes (bytes_high_first k n)
 high_first_bytes zero n i = omega arith
@@ -103,38 +100,21 @@ one_byte (b ∷ []) one are = let small : b < 256 = are 0 in let same : b % 256 
 one_byte (b ∷ c ∷ rest) one are = absurd (omega arith)
 
 pub bytes_of_8 : HasBytes w8
-bytes_of_8 = record {
-  fits = λ bytes l are. are 0;
-  written = λ bytes l are. one_byte bytes l are;
-  read = λ n small. omega arith;
-}
+bytes_of_8 = grind (arith, one_byte)
 
 pub bytes_of_16 : HasBytes w16
-bytes_of_16 = record {
-  fits = λ bytes l are. omega (arith, are 0, are 1);
-  written = λ bytes l are. be_bytes_2 bytes _ l are refl;
-  read = from_be_bytes-to_be_bytes_2;
-}
+bytes_of_16 = grind (arith, be_bytes_2, from_be_bytes-to_be_bytes_2)
 
 pub bytes_of_32 : HasBytes w32
-bytes_of_32 = record {
-  fits = λ bytes l are. omega (arith, are 0, are 1, are 2, are 3);
-  written = λ bytes l are. be_bytes_4 bytes _ l are refl;
-  read = from_be_bytes-to_be_bytes_4;
-}
+bytes_of_32 = grind (arith, be_bytes_4, from_be_bytes-to_be_bytes_4)
 
 pub bytes_of_64 : HasBytes w64
-bytes_of_64 = record {
-  fits = λ bytes l are. omega (arith, are 0, are 1, are 2, are 3, are 4, are 5, are 6, are 7);
-  written = λ bytes l are. be_bytes_8 bytes _ l are refl;
-  read = from_be_bytes-to_be_bytes_8;
-}
+bytes_of_64 = grind (arith, be_bytes_8, from_be_bytes-to_be_bytes_8)
 
 -- ---- fields
 
 read_number : (w : Width) (r : Result (List ℕ) FromHexError) (n : ℕ) → number_of_bytes w r ≡ Some n → (bytes : List ℕ) × (r ≡ Ok bytes) × (from_be_bytes w bytes ≡ n)
-read_number w (Ok bytes) n said = (bytes, refl, ap (λ (o : Option ℕ). unwrap_or o 0) said)
-read_number w (Err e) n said = cc said
+read_number w r n said = grind (arith, Option, unwrap_or)
 
 module _ (w : Width) (has : HasBytes w) where
   -- a field that says a number is its digits, where letters are lower case
@@ -186,13 +166,7 @@ digits_without_space w n = All-weaker (λ c. is_lower_digit c ≡ true) (λ c. i
 
 lower_stays : (xs : List ℕ) → All (λ c. is_lower_digit c ≡ true) xs → str_to_ascii_lowercase xs ≡ xs
 lower_stays [] are = refl
-lower_stays (x ∷ xs) are =
-    let here : is_lower_digit x ≡ true = All-head (λ c. is_lower_digit c ≡ true) x xs are in
-    let rest = lower_stays xs (All-tail (λ c. is_lower_digit c ≡ true) x xs are) in
-    search (rules, stays x here, stays)
-  where
-    stays : (c : ℕ) → is_lower_digit c ≡ true → to_ascii_lowercase c ≡ c
-    stays c lower = grind (arith, nat_tests)
+lower_stays (x ∷ xs) are = grind (arith, All-head, All-tail, nat_tests, lower_stays xs (All-tail (λ c. is_lower_digit c ≡ true) x xs are))
 
 pub digits_stay_lower : (w : Width) (n : ℕ) → str_to_ascii_lowercase (digits_of w n) ≡ digits_of w n
 digits_stay_lower w n = lower_stays (digits_of w n) (digits_are_lower w n)

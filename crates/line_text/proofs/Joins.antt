@@ -9,9 +9,7 @@ AreFields fields = All (λ field. All (λ c. is_space c ≡ false) field) fields
 pub fields_of-join : (field : List ℕ) (fields : List (List ℕ)) → AreFields (field ∷ fields) → fields_of (join_with_byte 32 (field ∷ fields)) ≡ field ∷ fields
 unfolding fields_of
 fields_of-join field [] are = slice_split_none is_space field (All-head (λ x. All (λ c. is_space c ≡ false) x) field [] are)
-fields_of-join field (next ∷ rest) are =
-    let rest_are = fields_of-join next rest (All-tail (λ x. All (λ c. is_space c ≡ false) x) field (next ∷ rest) are) in
-    search (rules, slice_split_at, is_space, join_with_byte, All-head, All)
+fields_of-join field (next ∷ rest) are = search (rules, slice_split_at, All-head, fields_of-join next rest (All-tail (λ x. All (λ c. is_space c ≡ false) x) field (next ∷ rest) are))
 
 -- the fields of a line, joined, are the line
 pub join-fields_of : (content : List ℕ) → join_with_byte 32 (fields_of content) ≡ content
@@ -49,8 +47,7 @@ length-fields_of content =
     ap (λ xs. length xs + 1) (sym (join-fields_of content)) ∙ length_of_all (fields_of content) (fields_of-some content)
 
 pub ended_first : (piece : List ℕ) (pieces : List (List ℕ)) → 0 < length pieces → lines_between (piece ∷ pieces) ≡ record { content = piece; is_ended = true } ∷ lines_between pieces
-ended_first piece [] some = absurd (omega arith)
-ended_first piece (next ∷ rest) some = refl
+ended_first piece pieces some = grind arith
 
 -- a line feed behind what has none ends the first line
 pub lines_of-ended : (content rest : List ℕ) → All (λ c. is_line_feed c ≡ false) content →

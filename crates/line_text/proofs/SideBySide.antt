@@ -1,5 +1,5 @@
 -- SideBySide: what two fields say whose digits are read at once
-use Rattle.line_text.proofs.Words.{◌≡◌, ℕ, zero, suc, ◌+◌, ◌*◌, ◌⊎◌, inl, inr, Bool, true, false, List, [], ◌∷◌, ◌++◌, length, take, drop, Some, None, Ok, refl, sym, ap, ◌∙◌, arith, length-append, length-drop, w32, from_be_bytes, AllPass, list_all, take_all, list_all-append, AllPass-from_list_all, list_all-from_AllPass, length-chunk, pick_l_left, pick_l-range_with_len, chunk, pick_l, decode_of, decode_pairs, digit_or_error, is_hex_digit, pair_value, decode_of-even, decode_of-ok, decode_pairs-ok, cons_byte, decode_pairs-ok_pair, number_of}
+use Rattle.line_text.proofs.Words.{◌≡◌, ℕ, zero, suc, ◌+◌, ◌*◌, ◌⊎◌, inl, inr, Bool, true, false, List, [], ◌∷◌, ◌++◌, length, take, drop, Some, None, Ok, refl, sym, ap, ◌∙◌, arith, length-append, length-drop, w32, from_be_bytes, AllPass, list_all, take_all, list_all-append, AllPass-from_list_all, list_all-from_AllPass, length-chunk, pick_l_left, pick_l-range_with_len, chunk, pick_l, decode_of, decode_pairs, is_hex_digit, decode_of-even, decode_of-ok, decode_pairs-ok, cons_byte, decode_pairs-ok_pair, number_of}
 use Rattle.line_text.proofs.Digits.{pair_said, pairs_said, pairs_spelled}
 use Rattle.line_text.proofs.DigitLanes.{no_number, number_read}
 
@@ -13,11 +13,7 @@ split_pairs (suc k) i (x ∷ []) b bytes long said = absurd (omega arith)
 split_pairs (suc k) i (x ∷ y ∷ a) b bytes long said =
     let p = pair_said x y i (a ++ b) bytes said in
     let v = p.high * 16 + p.low in
-    let pair : pair_value x y i ≡ Ok v = rw (ap (digit_or_error x i) p.high_is, ap (digit_or_error y (i + 1)) p.low_is) refl in
-    let others = split_pairs k (i + 2) a b p.others (omega arith) p.others_are in (
-      decode_pairs-ok_pair i x y v a pair ∙ ap (cons_byte v) others.0 ∙ ap (λ xs. Ok (take (suc k) xs)) p.are,
-      (others.1.0, others.1.1 ∙ ap (λ xs. Ok (drop (suc k) xs)) p.are),
-    )
+    grind (arith, Ok, decode_pairs-ok_pair, cons_byte, split_pairs k (i + 2) a b p.others (omega arith) p.others_are)
 
 module _ (a b bytes : List ℕ) (k : ℕ) (la : length a ≡ 2 * k) (lb : length b ≡ 2 * k) (said : decode_of (a ++ b) ≡ Ok bytes) where
   parts : (decode_pairs 0 a ≡ Ok (take k bytes)) × ((j : ℕ) × (decode_pairs j b ≡ Ok (drop k bytes)))

@@ -1,10 +1,6 @@
 -- A trace, row by row: what was checked and lent so far, and what the check answers
-use Rattle.ownership_checker.proofs.Words.{◌≡◌, ℕ, ◌+◌, ◌<◌, ◌≤◌, List, [], ◌∷◌, ap, sym, ◌∙◌, arith, length, subst, get_or, reverse, take, common_steps, Row, Header, IsHeader, Known, nothing, known, Lease, without_end, RangeIndexes, FollowsLeases, HoldsLents, FollowsBook, IsCleanRow, TraceRecord, FollowsTrace, IsWithin, IsRowStep, IsAccepted, IsTracked, IsProgress}
-use Rattle.ownership_checker.specs.Walks.{WalksRead}
+use Rattle.ownership_checker.proofs.LowerLaws.{◌≡◌, ℕ, ◌+◌, ◌<◌, ◌≤◌, List, [], ◌∷◌, ap, sym, ◌∙◌, arith, length, subst, get_or, reverse, take, common_steps, Row, Header, IsHeader, Known, nothing, known, Lease, without_end, RangeIndexes, FollowsLeases, HoldsLents, FollowsBook, IsCleanRow, TraceRecord, FollowsTrace, IsWithin, IsRowStep, IsAccepted, IsTracked, IsProgress, WalksRead, leases_of, LeaseBook, lenient_history, lenient_row}
 use Rattle.ownership_checker.proofs.Walks.{walks}
-use Rattle.ownership_rules.specs.Leases.{leases as leases_of}
-use Rattle.leases.specs.declared.book.lease_book.LeaseBook.{LeaseBook}
-use Rattle.ownership_checker.proofs.JudgedRows.CleanHistories.{lenient_history, lenient_row}
 use Rattle.ownership_checker.proofs.JudgedRows.Passes as passes
 
 length_reversed : (rows : List Row) → length (reverse rows) ≡ length rows

@@ -1,8 +1,5 @@
 -- A trace that the check accepts is harmless
-use Rattle.ownership_checker.proofs.Words.{ℕ, List, Result, Ok, Err, IfOk, OnOk, Header, Row, IsHeader, AreRows, IsHarmless, IsAccepted}
-use Rattle.ownership_checker.proofs.JudgedRows.Harmless.{harmless}
-use Rattle.ownership_checker.specs.declared.certificate.Certificate.{Certificate}
-use Rattle.ownership_checker.specs.declared.fault.CheckFault.{CheckFault}
+use Rattle.ownership_checker.proofs.LowerLaws.{ℕ, List, Result, Ok, Err, IfOk, OnOk, Header, Row, IsHeader, AreRows, IsHarmless, IsAccepted, harmless, Certificate, CheckFault}
 
 module _ (h : Header) (rows : List Row) (headed : IsHeader h) (fitting : AreRows rows) where
   pub harmless_if : (first : ℕ) (result : Result Certificate CheckFault) → IfOk result (λ certificate. IsAccepted h rows first certificate.leases.items)

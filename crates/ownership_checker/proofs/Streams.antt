@@ -1,10 +1,8 @@
 -- What a pass over the rows of a trace says of it, by the log of their leases
-use Rattle.ownership_checker.proofs.Words.{◌≡◌, ◌+◌, ◌∷◌, ◌++◌, ◌∙◌, ℕ, Bool, List, [], Option, Err, refl, ap, sym, length, map, reverse, length-append, length-map, TraceText, Header, Lease, Leased, Lent, ended_where, lease_of, with_begun, ring_lents, StreamFault, Line, Device, IsOpened, IfBadLine, IsBadLine, IsWholeLog, ring_row}
+use Rattle.ownership_checker.proofs.Words.{arith, ◌≡◌, ◌+◌, ◌∷◌, ◌++◌, ◌∙◌, ℕ, Bool, List, [], Option, Err, ap, sym, length, map, reverse, length-append, length-map, TraceText, Header, Lease, Leased, Lent, ended_where, with_begun, ring_lents, StreamFault, Line, Device, IsOpened, IfBadLine, IsBadLine, IsWholeLog, ring_row, joined_behind, calls_say_what_is_taken, IsSound}
 use Rattle.trace_reader.specs.declared.row_reader.fault.StreamFault.TheVariants.{Memory}
-use Rattle.trace_reader.specs.Streaming.WholeTexts.{joined_behind}
+use Rattle.ownership_checker.specs.RingPasses.Accepted.{leases_of}
 unfoldable use Rattle.trace_reader.specs.Streaming.WholeTexts.{taken_by_calls}
-use Rattle.trace_reader.proofs.Streaming.CallsJoined.{calls_say_what_is_taken}
-use Rattle.ownership_checker.specs.RingPasses.Accepted.{IsSound, leases_of}
 
 module _ {B : Type 0} (Holds : Header → List Lent → B → Type 0) (trace : TraceText) (log : B) (w : IsWholeLog Holds trace log) where
   -- the leases that the log keeps
@@ -13,9 +11,7 @@ module _ {B : Type 0} (Holds : Header → List Lent → B → Type 0) (trace : T
 
   -- as many as were counted
   pub sound_count : (count : ℕ) → count ≡ length (ring_lents trace.header trace.first (reverse trace.rows)) → (leases : List Lease) × IsSound trace leases × (count ≡ length leases)
-  sound_count count is =
-      let leases = leases_of trace.header trace.first trace.rows in
-      (leases, sound_so leases refl, is ∙ sym (length-map (ring_lents trace.header trace.first (reverse trace.rows)) lease_of))
+  sound_count count is = grind (arith, sound_so, length-map)
 
 -- ---- the count of leases
 

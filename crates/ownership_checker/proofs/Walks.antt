@@ -1,12 +1,5 @@
 -- After any rows of an accepted trace the walk through each ring reads what was declared
-use Rattle.ownership_checker.proofs.Words.{◌≡◌, ℕ, true, List, [], ◌∷◌, ◌++◌, take, drop, reverse, sym, ◌∙◌, ap, subst, false≢true, reverse-append, take-append-drop, RingKind, Evt, walk_reads, Header, Row, IsHeader, is_driver_kind, shape_of, known, IsClean, IsLenient, clean_tests, rings_of, endpoints_of, still_reads, still_of, HasRing, has_ring}
-use Rattle.safety.specs.KeptHistories.{MayReadAll}
-use Rattle.safety.proofs.DriverHistories.{driver_keeps}
-use Rattle.safety.proofs.Histories.{keeps_rings}
-use Rattle.safety.proofs.NothingFree.{nothing_free}
-use Rattle.safety.proofs.RingsOfHeader.{shape_allowed}
-use Rattle.ownership_checker.proofs.JudgedRows.CleanHistories.{earlier_clean, lenient_history}
-use Rattle.ownership_checker.specs.Walks.{WalksRead}
+use Rattle.ownership_checker.proofs.LowerLaws.{◌≡◌, ℕ, true, List, [], ◌∷◌, ◌++◌, take, drop, reverse, sym, ◌∙◌, ap, subst, false≢true, reverse-append, take-append-drop, RingKind, Evt, walk_reads, Header, Row, IsHeader, is_driver_kind, shape_of, known, IsClean, IsLenient, clean_tests, rings_of, endpoints_of, still_reads, still_of, HasRing, has_ring, MayReadAll, driver_keeps, keeps_rings, nothing_free, shape_allowed, earlier_clean, lenient_history, WalksRead}
 
 -- completions of a clean history place endpoints where they may
 all_placed : (h : Header) → IsHeader h → (past : List Row) → IsLenient h past → MayReadAll h past

@@ -1,35 +1,69 @@
 -- The words of std, of the crates below and of this crate's own definitions that its proofs cite, passed on by one file
+pub use Rattle.commands.specs.Command.{command_by_kind, command_of, named_context}
 pub use Rattle.commands.specs.declared.command.Command.{Command}
+pub use Rattle.contexts.specs.Contexts.{input_context_bytes}
 pub use Rattle.controller_model.specs.RingRows.{header_after, without_ring}
 unfoldable pub use Rattle.controller_model.specs.RingRows.{with_ring}
+pub use Rattle.driver_rows.proofs.RingRows.GivenAt.{command_drives, gives_at, no_ring_moves, nothing_moves}
 pub use Rattle.driver_rows.proofs.RingRows.Lists.{read_there}
+pub use Rattle.driver_rows.specs.RingRows.GivenCommands.{GivesCommandAt}
+pub use Rattle.driver_rows.specs.RingRows.RingSteps.{IsRingStep, IsTransferAt}
 pub use Rattle.driver_rows.specs.RingRows.Withdrawing.{NamesTransfer, is_passed}
 unfoldable pub use Rattle.driver_rows.specs.RingRows.Withdrawing.{withdraws_badly}
 pub use Rattle.event_ring.specs.EventPlaceValue.{EventState}
+pub use Rattle.event_rows.proofs.TransferEvents.Reports.{left_out as left_out_transfer}
+pub use Rattle.leases.proofs.LeaseBooks.FirstBook.{first_list}
+pub use Rattle.leases.proofs.LeaseBooks.Growing.{leases_are}
+pub use Rattle.leases.proofs.LeaseBooks.RangePlaces.{some_end}
+pub use Rattle.leases.proofs.LeaseRows.EntriesFit.{nothing_fits, still_fit}
 pub use Rattle.leases.proofs.LeaseRows.OtherRows.{on_both, on_more}
+pub use Rattle.leases.proofs.LeaseRows.RowWrites.{record_there}
+pub use Rattle.leases.proofs.RingLeases.FoundFree.{found_moved, found_restored, found_withdrawn}
+pub use Rattle.leases.proofs.RingLeases.FreeRows.{plain_now, rung_now, withdrawn_now}
+pub use Rattle.leases.proofs.RingLeases.HeldBehind.{comes_alike, comes_commands, goes_alike, goes_commands, ranges_found}
 pub use Rattle.leases.proofs.RingLeases.LentBehind.{comes_lent, goes_lent, in_step_now, lent_open}
+pub use Rattle.leases.proofs.RingLeases.MovingRings.{was_given}
 pub use Rattle.leases.proofs.RingLeases.NothingRestored.{restored_same}
 pub use Rattle.leases.specs.LeaseBooks.Books.{FollowsLeases, HoldsLents}
 pub use Rattle.leases.specs.LeaseBooks.InStep.{AreOpen, IsInStep}
 pub use Rattle.leases.specs.LeaseBooks.Lents.{Lent, ended_where, lease_of, passed_on}
 unfoldable pub use Rattle.leases.specs.LeaseBooks.Lents.{grown, lents, with_begun}
+pub use Rattle.leases.specs.LeaseBooks.OtherShapes.{AreShapedAlike}
 pub use Rattle.leases.specs.LeaseBooks.Ranges.{FindsRanges}
 pub use Rattle.leases.specs.LeaseRows.CleanRows.{FollowsBook, HoldsAll, IsCleanRow, IsNextRow}
+pub use Rattle.leases.specs.LeaseRows.LeftBehind.{EntriesFit}
 pub use Rattle.leases.specs.RingLeases.Moving.{MovesRing}
 pub use Rattle.leases.specs.RingLeases.RingLents.{is_of_ring}
 unfoldable pub use Rattle.leases.specs.RingLeases.RingLents.{ring_lents}
+pub use Rattle.leases.specs.declared.book.lease_book.LeaseBook.{LeaseBook}
 pub use Rattle.leases.specs.declared.book.ranges.RangeIndexes.{RangeIndexes}
+pub use Rattle.line_text.specs.Lines.{TextLine, lines_of}
 pub use Rattle.ownership_checker.specs.JudgedRows.Accepted.{IsAccepted}
 pub use Rattle.ownership_checker.specs.JudgedRows.Tracking.{IsChecked, IsLeastFrom, IsPass, IsStepFrom, IsTracked}
+pub use Rattle.ownership_checker.specs.RingPasses.Accepted.{IsSound}
 pub use Rattle.ownership_checker.specs.RingPasses.Clean.{AreClean, IsLeastOfRow}
+pub use Rattle.ownership_checker.specs.RingPasses.KeptRows.{IsBehindAll}
 pub use Rattle.ownership_checker.specs.RingPasses.Passing.{DoNoHarm, IsRingLogged, IsRingPassed, NothingFree}
 pub use Rattle.ownership_checker.specs.RingPasses.Reading.{Begins, IfRefusedRow, IsBadLine, IsWholeLog, OfTrace, with_rows}
 pub use Rattle.ownership_checker.specs.RingPasses.RingRows.{ring_row}
 pub use Rattle.ownership_checker.specs.RingPasses.Rules.{broken_alone, broken_restored, driver_broken, ring_verdict, row_broken}
 unfoldable pub use Rattle.ownership_checker.specs.RingPasses.Rules.{ring_verdict_from}
 pub use Rattle.ownership_checker.specs.Tracking.{IsProgress}
+pub use Rattle.ownership_checker.specs.Walks.{WalksRead}
+pub use Rattle.ownership_checker.specs.declared.certificate.Certificate.{Certificate}
+pub use Rattle.ownership_checker.specs.declared.fault.CheckFault.{CheckFault}
+pub use Rattle.ownership_checker.specs.declared.lease_count.LeaseCount.{LeaseCount}
+pub use Rattle.ownership_checker.specs.declared.pass.reading.Passed.{Passed}
 pub use Rattle.ownership_checker.specs.declared.pass.ring_pass.RingPass.{RingPass}
+pub use Rattle.ownership_rules.proofs.Among.{IsIn}
+pub use Rattle.ownership_rules.specs.Areas.{is_bad_area}
 pub use Rattle.ownership_rules.specs.Clean.{IsClean, IsLenient}
+unfoldable pub use Rattle.ownership_rules.specs.Commands.{has_bad_context, is_bad_command}
+pub use Rattle.ownership_rules.specs.Doorbells.{is_bad_doorbell}
+unfoldable pub use Rattle.ownership_rules.specs.Doorbells.{doorbell_tests}
+pub use Rattle.ownership_rules.specs.Events.{is_impossible_completion, is_impossible_transfer, is_in_profile, is_past_room}
+unfoldable pub use Rattle.ownership_rules.specs.Events.{event_tests, is_impossible, is_impossible_by_kind}
+pub use Rattle.ownership_rules.specs.Leases.{leases as leases_of}
 unfoldable pub use Rattle.ownership_rules.specs.Leases.{without_end}
 unfoldable pub use Rattle.ownership_rules.specs.Older.{older, stricter}
 pub use Rattle.ownership_rules.specs.OpenLeases.{Leased, open_leases}
@@ -38,41 +72,70 @@ pub use Rattle.ownership_rules.specs.Rules.{lenient}
 unfoldable pub use Rattle.ownership_rules.specs.Rules.{broken, first_or, lenient_tests, tests, verdict_from}
 pub use Rattle.ownership_rules.specs.declared.refusal.Refusal.{Refusal}
 pub use Rattle.ownership_rules.specs.declared.refusal.Refusal.TheVariants.{AfterStop, BadDoorbell, BadFree, BadRing, BadWithdraw, ImpossibleEvent, NotInProfile, NotRestored, WriteToOwned}
+pub use Rattle.ring_knowledge.specs.Completions.{completed}
 pub use Rattle.ring_knowledge.specs.Known.{Known}
 unfoldable pub use Rattle.ring_knowledge.specs.Known.{nothing}
 unfoldable pub use Rattle.ring_knowledge.specs.Learned.{event_read, known, learned}
+pub use Rattle.ring_knowledge.specs.RingRecords.{FollowsRing, positions_of}
 pub use Rattle.ring_knowledge.specs.Rings.{unfinished}
 unfoldable pub use Rattle.ring_knowledge.specs.Rings.{command_at, on_ring}
+pub use Rattle.ring_knowledge.specs.Transfers.{transfer_read}
 pub use Rattle.ring_knowledge.specs.declared.lease.Lease.{Lease}
+pub use Rattle.ring_knowledge.specs.declared.ring_record.RingRecord.{RingRecord}
+pub use Rattle.safety.proofs.AreaFacts.{area_parts}
+pub use Rattle.safety.proofs.DriverHistories.{driver_keeps, kept_driver, kept_history}
 pub use Rattle.safety.proofs.DriverRings.{endpoints_of, rings_of}
+pub use Rattle.safety.proofs.DriverRows.{nothing_keeps}
+pub use Rattle.safety.proofs.Headline.{headline}
+pub use Rattle.safety.proofs.Histories.{keeps_rings}
 pub use Rattle.safety.proofs.KeptRings.{still_of}
 pub use Rattle.safety.proofs.Lenient.{lenient_row}
+pub use Rattle.safety.proofs.NothingFree.{free_same, nothing_free}
 pub use Rattle.safety.proofs.NothingKept.{nothing_kept}
-pub use Rattle.safety.proofs.RingChanges.Restored.{row_comes, stopped_still}
-pub use Rattle.safety.proofs.RingsOfHeader.{HasRing, has_ring}
+pub use Rattle.safety.proofs.RingChanges.GoneRings.{gone_ring_kept}
+pub use Rattle.safety.proofs.RingChanges.Restored.{row_comes, row_keeps, row_keeps as restored_keeps, stopped_still}
+pub use Rattle.safety.proofs.RingChanges.RingRuns.{comes_keeps}
+pub use Rattle.safety.proofs.RingChanges.RingsHeadline.{now_keeps, rings_headline}
+pub use Rattle.safety.proofs.RingChanges.Withdrawn.{stopped_with, withdraw_keeps}
+pub use Rattle.safety.proofs.RingIds.{none_has_256}
+pub use Rattle.safety.proofs.RingsOfHeader.{HasRing, has_ring, shape_allowed}
+pub use Rattle.safety.proofs.SameDriver.{event_same}
 pub use Rattle.safety.proofs.StillPlacing.{still_reads}
 pub use Rattle.safety.proofs.TestsPassed.{AllFail, clean_tests, tests_fail}
+pub use Rattle.safety.proofs.UnfinishedBehind.{listed_unfinished}
+pub use Rattle.safety.proofs.Words.{no_flips}
 pub use Rattle.safety.specs.EndpointsKeep.{is_transfer_ring}
 pub use Rattle.safety.specs.Headline.{IsHarmless}
 pub use Rattle.safety.specs.Keeps.{DriverKeeps, IsDriverRing, IsTransferRing}
-pub use Rattle.safety.specs.RingChanges.Changes.{IsComing, is_bad_ring, is_had}
+pub use Rattle.safety.specs.KeptHistories.{MayReadAll}
+pub use Rattle.safety.specs.RingChanges.Changes.{IsComing, is_bad_ring}
 unfoldable pub use Rattle.safety.specs.RingChanges.Changes.{forgotten, is_bad_free}
 pub use Rattle.safety.specs.RingChanges.Histories.{AreKept, FitsFields, IsKept, header_now, known_after, known_now}
-pub use Rattle.safety.specs.RingChanges.Withdrawals.{has_stopped, restored}
+pub use Rattle.safety.specs.RingChanges.Withdrawals.{restored}
 unfoldable pub use Rattle.safety.specs.RingChanges.Withdrawals.{is_bad_withdraw, is_left, restored_on, ring_moved, ring_restored, some_flips}
+pub use Rattle.safety.specs.RingsKeep.{RingsKeep}
 pub use Rattle.segments.proofs.WalkReads.{walk_reads}
 pub use Rattle.segments.specs.Descriptors.{length_from}
 pub use Rattle.segments.specs.Givings.{flips_passed}
 unfoldable pub use Rattle.segments.specs.Givings.{descriptor_length, is_not_restored, unrestored}
-pub use Rattle.segments.specs.RingView.{Restores, RingView, due_positions, floor_number, positions_given}
-pub use Rattle.std.proofs.Common.{All, Bool, Err, List, None, Ok, Option, Result, Some, [], add-zero, ap, append-nil, append_assoc, arith, eqb-true, false, filter, get_or, inl, inr, length, lt-ltb, ltb, map, not, refl, slice_get, slice_index, subst, suc, sym, true, zero, ℕ, ◌++◌, ◌+◌, ◌-◌, ◌<◌, ◌==◌, ◌^◌, ◌||◌, ◌∙◌, ◌∷◌, ◌≡◌, ◌≤◌}
-pub use Rattle.std.proofs.lemmas.Bool.{and_parts, cases_Bool, cond-true, false≢true, not-false, or_parts}
+pub use Rattle.segments.specs.Places.{cycle_of}
+pub use Rattle.segments.specs.RingView.{Restores, RingView, Withdraws as WithdrawsAt, due_positions, floor_number, positions_given}
+pub use Rattle.segments.specs.ShapeValue.{Shape}
+pub use Rattle.std.proofs.Common.{All, Bool, Err, List, None, Ok, Option, Result, Some, [], add-zero, ap, append-nil, append_assoc, arith, eqb-true, false, filter, get_or, inl, inr, length, lt-ltb, ltb, map, not, refl, rules, slice_get, slice_index, subst, suc, sym, true, zero, ℕ, ◌++◌, ◌+◌, ◌-◌, ◌<◌, ◌==◌, ◌^◌, ◌||◌, ◌∙◌, ◌∷◌, ◌≡◌, ◌≤◌}
+pub use Rattle.std.proofs.lemmas.Bool.{and_parts, cases_Bool, false≢true, not-false, or_parts}
+pub use Rattle.std.proofs.lemmas.Bool.Decides.{nat_tests}
 pub use Rattle.std.proofs.lemmas.Grind.{common_steps}
 pub use Rattle.std.proofs.lemmas.List.{length-append, length-map, reverse-append, take-append-drop}
 pub use Rattle.std.proofs.lemmas.List.Elements.{All-cons, All-head, All-nil, All-tail, All-weaker}
 pub use Rattle.std.proofs.lemmas.Option.{none-some, same_Some, slice_get_read, slice_get_within}
 pub use Rattle.std.proofs.lemmas.Result.{err_from_is_err_and}
-pub use Rattle.std.specs.Prelude.{IfErr, IfOk, OnOk, drop, if◌then◌else◌, is_some, option_and_then, option_map, reverse, take, ◌%◌, ◌&&◌, ◌*◌, ◌/◌}
+pub use Rattle.std.specs.Bool.{OnTrue}
+pub use Rattle.std.specs.List.{list_any, position}
+pub use Rattle.std.specs.Option.{SomeIff}
+pub use Rattle.std.specs.Prelude.{IfErr, IfOk, OnOk, drop, if◌then◌else◌, is_some, option_map, reverse, take, ◌%◌, ◌&&◌}
+pub use Rattle.trace_reader.proofs.Streaming.CallsJoined.{calls_say_what_is_taken}
+pub use Rattle.trace_reader.proofs.Streaming.RowsFit.{answer_fits}
+pub use Rattle.trace_reader.proofs.Streaming.Streams.{end_read, line_read_bad, opened_read, row_numbered, row_read}
 pub use Rattle.trace_reader.specs.DriverRows.{taken}
 unfoldable pub use Rattle.trace_reader.specs.DriverRows.{take_lines, text_taken}
 pub use Rattle.trace_reader.specs.Reading.{State, TraceText, go_on, next_number, read_line, start, whole}
@@ -81,34 +144,43 @@ pub use Rattle.trace_reader.specs.Streaming.Ahead.{ahead_of}
 pub use Rattle.trace_reader.specs.Streaming.Answers.{IsCall, has_ended}
 pub use Rattle.trace_reader.specs.Streaming.ReaderState.{IsOpened, IsSameTrace, progress_of}
 pub use Rattle.trace_reader.specs.Streaming.Streams.{HasRead, IfBadLine, IsBadTaken, OfStream}
+pub use Rattle.trace_reader.specs.Streaming.WholeTexts.{joined_behind}
 pub use Rattle.trace_reader.specs.declared.fault.LineFault.{LineFault}
 pub use Rattle.trace_reader.specs.declared.row_reader.fault.StreamFault.{StreamFault}
 pub use Rattle.trace_reader.specs.declared.row_reader.fault.StreamFault.TheVariants.{Device, Line}
 pub use Rattle.trace_reader.specs.declared.row_reader.reader.RowReader.{RowReader}
 pub use Rattle.trace_record.proofs.FirstBroken.{first_broken-is, nothing_broken}
+pub use Rattle.trace_record.proofs.PlacedRows.{placed_other}
+pub use Rattle.trace_record.proofs.RingFinder.FoundRings.{command_found, none_here, ring_here}
 pub use Rattle.trace_record.proofs.RingFinder.HeaderRings.{id_below, not_found, ring_found, shape_there}
 pub use Rattle.trace_record.proofs.RingFinder.RingsApart.{IsAmong, among_at}
 pub use Rattle.trace_record.specs.FollowsTrace.{FollowsTrace}
 pub use Rattle.trace_record.specs.Fresh.{IsWithin}
 pub use Rattle.trace_record.specs.Premises.{ContextsFit, FitsMemory, IsSetUp}
+pub use Rattle.trace_record.specs.RingFinder.Finding.{IsFinder}
 pub use Rattle.trace_record.specs.RowPlaces.{IsOwnedSo, IsPlaced}
 pub use Rattle.trace_record.specs.Steps.{IfRefused, IsLeast, IsRowStep}
 pub use Rattle.trace_record.specs.declared.fault.StepFault.{StepFault}
+pub use Rattle.trace_record.specs.declared.fault.StepFault.TheVariants.{Memory, Refused, Refused as RefusedBy}
 pub use Rattle.trace_record.specs.declared.row_place.RowPlace.{RowPlace}
 pub use Rattle.trace_record.specs.declared.trace_record.TraceRecord.{TraceRecord}
-pub use Rattle.traces.specs.Header.{IsHeader, command_ring, driver_rings, event_ring, id_or_none, is_driver_kind, is_transfer_kind, ring_with, shape_of, shape_or}
+pub use Rattle.traces.specs.Header.{IsHeader, command_ring, event_ring, id_or_none, is_driver_kind, is_transfer_kind, ring_with, shape_of}
 unfoldable pub use Rattle.traces.specs.Header.{command_id, event_shape, event_size}
 pub use Rattle.traces.specs.Limits.{most_lines, most_streamed_lines}
 pub use Rattle.traces.specs.Rows.{AreRows, FitsLine, IsRow}
 pub use Rattle.traces.specs.TraceRows.{IsTraceRow}
 pub use Rattle.traces.specs.declared.header.Header.{Header}
+pub use Rattle.traces.specs.declared.register.Register.TheVariants.{Crcr}
 pub use Rattle.traces.specs.declared.ring.Ring.{Ring}
 pub use Rattle.traces.specs.declared.row.Row.{Row}
 pub use Rattle.traces.specs.declared.row.Row.TheVariants.{Bell, Read, Reg, Sub, Write}
 pub use Rattle.traces.specs.declared.trace_row.TraceRow.{TraceRow}
-pub use Rattle.traces.specs.declared.trace_row.TraceRow.TheVariants.{Comes, Goes, Plain}
+pub use Rattle.traces.specs.declared.trace_row.TraceRow.TheVariants.{Comes, Goes, Plain, Withdraws}
 pub use Rattle.trb.specs.Block.{aligned, cycle, kind, pointer}
+pub use Rattle.trb.specs.Descriptor.{is_command_left_out}
+pub use Rattle.trb.specs.Kind.{is_event, is_transfer_event}
 pub use Rattle.trb.specs.declared.block.Block.{Block}
 pub use Rattle.trb.specs.declared.kind.BlockKind.{BlockKind}
+pub use Rattle.trb.specs.declared.kind.BlockKind.TheVariants.{CommandCompletion, TransferEvent}
 pub use Rattle.trb.specs.declared.ring_kind.RingKind.{RingKind}
-pub use Rattle.trb.specs.declared.ring_kind.RingKind.TheVariants.{Cmd, Evt, Xfer}
+pub use Rattle.trb.specs.declared.ring_kind.RingKind.TheVariants.{Evt, Xfer}

@@ -1,14 +1,9 @@
 -- Elements of lists, and lists of leases: what of one list isn't in another
-use Rattle.std.proofs.Common.{◌≡◌, ◌==◌, ◌&&◌, ◌||◌, ◌⊎◌, ◌∷◌, ◌∙◌, ℕ, Bool, true, false, not, List, [], filter, sym, ap, subst, refl, inl, inr, cond, eqb-true, eq-eqb}
-use Rattle.std.specs.List.{list_any}
-use Rattle.std.proofs.lemmas.Bool.{cases_Bool, false≢true, and_parts, and_from, or_left, or_right, or_cases}
-use Rattle.ownership_rules.specs.OpenLeases.{Use, EventSegment, SegmentTable, InputContext, SlotEntry, DeviceContext, Leased, Block, Link, Range, is_among, same_leased, same_use}
+use Rattle.ownership_rules.proofs.Words.{rules, arith, ◌≡◌, ◌==◌, ◌&&◌, ◌||◌, ◌⊎◌, ◌∷◌, ◌∙◌, ℕ, Bool, true, false, not, List, [], filter, sym, ap, refl, inl, inr, eqb-true, eq-eqb, list_any, cases_Bool, false≢true, and_parts, and_from, or_left, or_right, or_cases, Use, Leased, is_among, same_leased, same_use}
 
 -- two tests that imply each other are equal
 pub both_ways : (a b : Bool) → (a ≡ true → b ≡ true) → (b ≡ true → a ≡ true) → a ≡ b
-both_ways true b f g = sym (f refl)
-both_ways false true f g = absurd (false≢true (g refl))
-both_ways false false f g = refl
+both_ways a b f g = grind (arith, false≢true)
 
 abbrev pub IsIn : {X : Type 0} → X → List X → Type 0
 IsIn x [] = ⊥
@@ -30,9 +25,6 @@ any_of p (y ∷ ys) x at h =
       | inl here ↦ or_left (p y) (list_any p ys) (sym (ap p here) ∙ h)
       | inr later ↦ or_right (p y) (list_any p ys) (any_of p ys x later h)
     ]
-
-filter_cons : {X : Type 0} (p : X → Bool) (y : X) (ys : List X) → filter p (y ∷ ys) ≡ cond (p y) (y ∷ filter p ys) (filter p ys)
-filter_cons p y ys = refl
 
 pub in_filter : {X : Type 0} (p : X → Bool) (xs : List X) (x : X) → IsIn x xs → p x ≡ true → IsIn x (filter p xs)
 in_filter p [] x at h = absurd at
@@ -68,71 +60,24 @@ number_is : (m n p q : ℕ) → ((m == n) && (p == q)) ≡ true → (m ≡ n) ×
 number_is m n p q h = let parts = and_parts (m == n) (p == q) h in (eqb-true m n parts.0, eqb-true p q parts.1)
 
 use_is : (a b : Use) → same_use a b ≡ true → a ≡ b
-use_is EventSegment EventSegment h = refl
-use_is EventSegment SegmentTable h = absurd (false≢true h)
-use_is EventSegment (InputContext q) h = absurd (false≢true h)
-use_is EventSegment (SlotEntry q) h = absurd (false≢true h)
-use_is EventSegment (DeviceContext q) h = absurd (false≢true h)
-use_is SegmentTable EventSegment h = absurd (false≢true h)
-use_is SegmentTable SegmentTable h = refl
-use_is SegmentTable (InputContext q) h = absurd (false≢true h)
-use_is SegmentTable (SlotEntry q) h = absurd (false≢true h)
-use_is SegmentTable (DeviceContext q) h = absurd (false≢true h)
-use_is (InputContext p) EventSegment h = absurd (false≢true h)
-use_is (InputContext p) SegmentTable h = absurd (false≢true h)
-use_is (InputContext p) (InputContext q) h = ap InputContext (eqb-true p q h)
-use_is (InputContext p) (SlotEntry q) h = absurd (false≢true h)
-use_is (InputContext p) (DeviceContext q) h = absurd (false≢true h)
-use_is (SlotEntry p) EventSegment h = absurd (false≢true h)
-use_is (SlotEntry p) SegmentTable h = absurd (false≢true h)
-use_is (SlotEntry p) (InputContext q) h = absurd (false≢true h)
-use_is (SlotEntry p) (SlotEntry q) h = ap SlotEntry (eqb-true p q h)
-use_is (SlotEntry p) (DeviceContext q) h = absurd (false≢true h)
-use_is (DeviceContext p) EventSegment h = absurd (false≢true h)
-use_is (DeviceContext p) SegmentTable h = absurd (false≢true h)
-use_is (DeviceContext p) (InputContext q) h = absurd (false≢true h)
-use_is (DeviceContext p) (SlotEntry q) h = absurd (false≢true h)
-use_is (DeviceContext p) (DeviceContext q) h = ap DeviceContext (eqb-true p q h)
+use_is a b h = grind (arith, false≢true, eqb-true)
 
 -- leases that are told to be the same are
 pub leased_is : (a b : Leased) → same_leased a b ≡ true → a ≡ b
-leased_is (Block r p) (Block s q) h = let e = number_is r s p q h in let f = e.0 in let g = e.1 in cc
-leased_is (Block r p) (Link s q) h = absurd (false≢true h)
-leased_is (Block r p) (Range n a e) h = absurd (false≢true h)
-leased_is (Link r p) (Block s q) h = absurd (false≢true h)
-leased_is (Link r p) (Link s q) h = let e = number_is r s p q h in let f = e.0 in let g = e.1 in cc
-leased_is (Link r p) (Range n a e) h = absurd (false≢true h)
-leased_is (Range n a e) (Block s q) h = absurd (false≢true h)
-leased_is (Range n a e) (Link s q) h = absurd (false≢true h)
-leased_is (Range m a e) (Range n b f) h =
-    let parts = and_parts ((m == n) && (a == b)) (same_use e f) h in
-    let numbers = number_is m n a b parts.0 in
-    let x = numbers.0 in
-    let y = numbers.1 in
-    let z = use_is e f parts.1 in
-    cc
+leased_is a b h = grind (arith, number_is, false≢true, and_parts, use_is)
 
 same_number : (n : ℕ) → (n == n) ≡ true
 same_number n = eq-eqb n n refl
 
 use_itself : (a : Use) → same_use a a ≡ true
-use_itself EventSegment = refl
-use_itself SegmentTable = refl
-use_itself (InputContext p) = same_number p
-use_itself (SlotEntry p) = same_number p
-use_itself (DeviceContext p) = same_number p
+use_itself a = grind (arith, same_number)
 
 pub leased_itself : (a : Leased) → same_leased a a ≡ true
-leased_itself (Block r p) = and_from (r == r) (p == p) (same_number r) (same_number p)
-leased_itself (Link r p) = and_from (r == r) (p == p) (same_number r) (same_number p)
-leased_itself (Range n a e) =
-    and_from ((n == n) && (a == a)) (same_use e e) (and_from (n == n) (a == a) (same_number n) (same_number a)) (use_itself e)
+leased_itself a = grind (arith, and_from, same_number, use_itself)
 
 pub among_is : (xs : List Leased) (l : Leased) → is_among xs l ≡ true → IsIn l xs
 unfolding is_among
-among_is xs l h =
-    let found = some_of (same_leased l) xs h in
-    subst (λ m. IsIn m xs) (sym (leased_is l found.0 found.2)) found.1
+among_is xs l h = search (rules, some_of, leased_is, some_of (same_leased l) xs h)
 
 pub in_among : (xs : List Leased) (l : Leased) → IsIn l xs → is_among xs l ≡ true
 unfolding is_among
@@ -141,28 +86,4 @@ in_among xs l at = any_of (same_leased l) xs l at (leased_itself l)
 -- what passes is new, or was there before
 pub new_or_old : (p : Leased → Bool) (xs ys : List Leased) →
     (list_any p (filter (λ l. not (is_among xs l)) ys) || list_any (λ l. is_among ys l && p l) xs) ≡ list_any p ys
-new_or_old p xs ys = both_ways _ (list_any p ys) there back
-  where
-    there : (list_any p (filter (λ l. not (is_among xs l)) ys) || list_any (λ l. is_among ys l && p l) xs) ≡ true → list_any p ys ≡ true
-    there h =
-        elim (or_cases (list_any p (filter (λ l. not (is_among xs l)) ys)) (list_any (λ l. is_among ys l && p l) xs) h) [
-          | inl new ↦
-              let found = some_of p (filter (λ l. not (is_among xs l)) ys) new in
-              any_of p ys found.0 (from_filter (λ l. not (is_among xs l)) ys found.0 found.1).0 found.2
-          | inr old ↦
-              let found = some_of (λ l. is_among ys l && p l) xs old in
-              let parts = and_parts (is_among ys found.0) (p found.0) found.2 in
-              any_of p ys found.0 (among_is ys found.0 parts.0) parts.1
-        ]
-
-    back : list_any p ys ≡ true → (list_any p (filter (λ l. not (is_among xs l)) ys) || list_any (λ l. is_among ys l && p l) xs) ≡ true
-    back h =
-        let found = some_of p ys h in
-        elim (cases_Bool (is_among xs found.0)) [
-          | inl old ↦
-              or_right (list_any p (filter (λ l. not (is_among xs l)) ys)) (list_any (λ l. is_among ys l && p l) xs)
-              (any_of (λ l. is_among ys l && p l) xs found.0 (among_is xs found.0 old) (and_from (is_among ys found.0) (p found.0) (in_among ys found.0 found.1) found.2))
-          | inr new ↦
-              or_left (list_any p (filter (λ l. not (is_among xs l)) ys)) (list_any (λ l. is_among ys l && p l) xs)
-              (any_of p (filter (λ l. not (is_among xs l)) ys) found.0 (in_filter (λ l. not (is_among xs l)) ys found.0 found.1 (ap not new)) found.2)
-        ]
+new_or_old p xs ys = grind (arith, both_ways, or_cases, some_of, any_of, from_filter, and_parts, among_is, cases_Bool, or_right, and_from, in_among, or_left, in_filter)

@@ -1,36 +1,17 @@
 -- A word is under lease at a row exactly where a lease of the trace covers it there: one that began before the row, and wasn't
 -- over before it
-use Rattle.std.proofs.Common.{◌≡◌, ◌+◌, ◌-◌, ◌<◌, ◌≤◌, ◌&&◌, ◌||◌, ◌∷◌, ◌++◌, ◌∙◌, ℕ, Bool, true, false, not, List, [], length, filter, map, nat_lt, nat_le, reverse, arith, sym, ap, refl, inl, inr}
-use Rattle.std.specs.List.{list_any}
-use mathlib.Core.List.{reverse_aux}
-use Rattle.std.proofs.lemmas.Bool.{cases_Bool}
-use Rattle.std.proofs.lemmas.Bool.Decides.{nat_tests}
-use Rattle.std.proofs.lemmas.List.Folds.{list_any-append}
-use Rattle.segments.specs.Places.{overlap}
-use Rattle.traces.specs.declared.header.Header.{Header}
-use Rattle.traces.specs.declared.row.Row.{Row}
-use Rattle.ring_knowledge.specs.declared.lease.Lease.{Lease}
-use Rattle.ring_knowledge.specs.Known.{Known, nothing}
-use Rattle.ring_knowledge.specs.Learned.{learned, known}
-use Rattle.ownership_rules.specs.OpenLeases.{Leased, Block, Link, Range, covers, is_among, is_leased, lease_bytes, lease_start, open_leases}
-use Rattle.ownership_rules.specs.Leases.{as_lease, begun, comes_before, covers_at, end_from, in_order, leases, leases_from, with_ends, with_lease, without_end, words_bytes, words_from}
+use Rattle.ownership_rules.proofs.Words.{◌≡◌, ◌+◌, ◌-◌, ◌<◌, ◌≤◌, ◌&&◌, ◌||◌, ◌∷◌, ◌++◌, ◌∙◌, ℕ, Bool, true, false, not, List, [], length, filter, map, nat_lt, nat_le, reverse, arith, sym, ap, refl, inl, inr, list_any, reverse_aux, cases_Bool, nat_tests, list_any-append, overlap, Header, Row, Lease, Known, nothing, learned, known, Leased, covers, is_among, is_leased, lease_bytes, lease_start, open_leases, as_lease, begun, covers_at, end_from, in_order, leases, leases_from, with_ends, with_lease, without_end, words_bytes, words_from}
 use Rattle.ownership_rules.proofs.Among.{IsIn, from_filter, new_or_old}
 use Rattle.ownership_rules.proofs.ProperLeases.{IsProper, AreProper, open_are_proper}
 
 -- the order doesn't matter
 or_swap : (a b c : Bool) → (a || (b || c)) ≡ (b || (a || c))
-or_swap true true c = refl
-or_swap true false c = refl
-or_swap false b c = refl
+or_swap a b c = grind arith
 
 inserted : (p : Lease → Bool) (l : Lease) (ls : List Lease) → list_any p (with_lease l ls) ≡ list_any p (l ∷ ls)
 unfolding with_lease
 inserted p l [] = refl
-inserted p l (m ∷ rest) =
-    elim (cases_Bool (comes_before l m)) [
-      | inl first ↦ rw first refl
-      | inr later ↦ rw later (ap (λ b. p m || b) (inserted p l rest) ∙ or_swap (p m) (p l) (list_any p rest))
-    ]
+inserted p l (m ∷ rest) = grind (arith, cases_Bool, or_swap, inserted p l rest)
 
 sorted : (p : Lease → Bool) (ls : List Lease) → list_any p (in_order ls) ≡ list_any p ls
 unfolding in_order
@@ -49,21 +30,15 @@ agree p q (x ∷ xs) same = rw (same x (inl refl), agree p q xs (λ y at. same y
 -- the words of a lease are those of what is leased
 words_are : (h : Header) (a from to : ℕ) (l : Leased) → IsProper l → overlap a 4 (words_from h (as_lease from to l)) (words_bytes (as_lease from to l)) ≡ covers h a 4 l
 unfolding words_from words_bytes as_lease covers lease_start lease_bytes
-words_are h a from to (Block r p) proper = refl
-words_are h a from to (Link r q) proper = let back : q - 1 + 1 ≡ q = omega arith in rw back refl
-words_are h a from to (Range n b e) proper = refl
+words_are h a from to l proper = grind arith
 
 from_is : (from to : ℕ) (l : Leased) → (as_lease from to l).from ≡ from
 unfolding as_lease
-from_is from to (Block r p) = refl
-from_is from to (Link r q) = refl
-from_is from to (Range n b e) = refl
+from_is from to l = grind arith
 
 to_is : (from to : ℕ) (l : Leased) → (as_lease from to l).to ≡ to
 unfolding as_lease
-to_is from to (Block r p) = refl
-to_is from to (Link r q) = refl
-to_is from to (Range n b e) = refl
+to_is from to l = grind arith
 
 module _ (h : Header) (a m : ℕ) where
   -- what is leased covers the word, and isn't over before row m
@@ -72,21 +47,11 @@ module _ (h : Header) (a m : ℕ) where
 
   covered_as : (from to : ℕ) (l : Leased) → IsProper l → from < m → covers_at h m a (as_lease from to l) ≡ (covers h a 4 l && nat_le m to)
   unfolding covers_at
-  covered_as from to l proper before =
-      let began : nat_lt from m ≡ true = grind (arith, nat_tests, before) in
-      rw (words_are h a from to l proper, from_is from to l, to_is from to l, began) (swap (nat_le m to) (covers h a 4 l))
-    where
-      swap : (x y : Bool) → (true && x && y) ≡ (y && x)
-      swap true true = refl
-      swap true false = refl
-      swap false true = refl
-      swap false false = refl
+  covered_as from to l proper before = grind (arith, nat_lt, nat_tests, words_are, from_is, to_is, nat_le, Bool)
 
   not_yet : (from to : ℕ) (l : Leased) → m ≤ from → covers_at h m a (as_lease from to l) ≡ false
   unfolding covers_at
-  not_yet from to l late =
-      let began : nat_lt from m ≡ false = grind (arith, nat_tests, late) in
-      rw (from_is from to l, began) refl
+  not_yet from to l late = grind (arith, nat_lt, nat_tests, from_is)
 
   none_yet : (k : Known) (from n : ℕ) (rows : List Row) (ls : List Leased) → m ≤ from → list_any (covers_at h m a) (with_ends h k from n rows ls) ≡ false
   unfolding with_ends
@@ -100,51 +65,28 @@ module _ (h : Header) (a m : ℕ) where
   some_yet : (k : Known) (from n : ℕ) (rows : List Row) (ls : List Leased) → AreProper ls → from < m →
       list_any (covers_at h m a) (with_ends h k from n rows ls) ≡ list_any (still k n rows) ls
   unfolding with_ends
-  some_yet k from n rows ls proper before =
-      sorted (covers_at h m a) (map (λ l. as_lease from (end_from h k n rows l) l) ls)
-      ∙ mapped (covers_at h m a) (λ l. as_lease from (end_from h k n rows l) l) ls
-      ∙ agree (λ l. covers_at h m a (as_lease from (end_from h k n rows l) l)) (still k n rows) ls
-      (λ l at. covered_as from (end_from h k n rows l) l (proper l at) before)
+  some_yet k from n rows ls proper before = grind (arith, sorted, mapped, agree, covered_as)
 
   -- what begins from row m on doesn't cover it
   later : (k : Known) (n : ℕ) (rows : List Row) → m ≤ n → list_any (covers_at h m a) (leases_from h k n rows) ≡ false
   unfolding leases_from
   later k n [] late = refl
-  later k n (row ∷ rows) late =
-      list_any-append (covers_at h m a) (with_ends h (learned h k row) n (n + 1) rows (begun h k row)) (leases_from h (learned h k row) (n + 1) rows)
-      ∙ rw (none_yet (learned h k row) n (n + 1) rows (begun h k row) late, later (learned h k row) (n + 1) rows (omega arith)) refl
+  later k n (row ∷ rows) late = grind (arith, list_any-append, none_yet, later (learned h k row) (n + 1) rows (omega arith))
 
   -- a lease ends at one of the rows, or after them
   ends_late : (k : Known) (n : ℕ) (rows : List Row) (l : Leased) → n + length rows ≤ without_end → n ≤ end_from h k n rows l
   unfolding end_from
   ends_late k n [] l room = omega arith
-  ends_late k n (row ∷ rows) l room =
-      elim (cases_Bool (is_among (open_leases h (learned h k row)) l)) [
-        | inl is_open ↦ let rest = ends_late (learned h k row) (n + 1) rows l (omega arith) in rw is_open (omega (arith, rest))
-        | inr over ↦ rw over (omega arith)
-      ]
+  ends_late k n (row ∷ rows) l room = grind (arith, cases_Bool, ends_late (learned h k row) (n + 1) rows l (omega arith))
 
   still_here : (k : Known) (rows : List Row) → m + length rows ≤ without_end → list_any (still k m rows) (open_leases h k) ≡ is_leased h k a
   unfolding is_leased
-  still_here k rows room = agree (still k m rows) (covers h a 4) (open_leases h k) (λ l at. at_end l)
-    where
-      and_true : (b c : Bool) → c ≡ true → (b && c) ≡ b
-      and_true true c e = e
-      and_true false c e = refl
-
-      at_end : (l : Leased) → still k m rows l ≡ covers h a 4 l
-      at_end l =
-          let late : m ≤ end_from h k m rows l = ends_late k m rows l room in
-          and_true (covers h a 4 l) (nat_le m (end_from h k m rows l)) (grind (arith, nat_tests, late))
+  still_here k rows room = grind (arith, agree, Bool, ends_late, nat_le, nat_tests)
 
   end_on : (k : Known) (n : ℕ) (row : Row) (rows : List Row) (l : Leased) → n < m →
       nat_le m (end_from h k n (row ∷ rows) l) ≡ (is_among (open_leases h (learned h k row)) l && nat_le m (end_from h (learned h k row) (n + 1) rows l))
   unfolding end_from
-  end_on k n row rows l before =
-      elim (cases_Bool (is_among (open_leases h (learned h k row)) l)) [
-        | inl is_open ↦ rw is_open refl
-        | inr over ↦ let early : nat_le m n ≡ false = grind (arith, nat_tests, before) in rw (over, early) refl
-      ]
+  end_on k n row rows l before = grind (arith, cases_Bool, nat_le, nat_tests)
 
   -- one row earlier: what begins at the row, and what was open before it, is what is open after it
   back_a_row : (k : Known) (n : ℕ) (row : Row) (rows : List Row) → n < m →
@@ -180,9 +122,7 @@ module _ (h : Header) (a : ℕ) where
   unfolding leases_from
   covered_from k n [] rest room =
       let none = later h a n k n rest (omega arith) in
-      let here = still_here h a n k rest (omega arith) in
-      let at : n + 0 ≡ n = omega arith in
-      rw (at, none) here
+      grind (arith, still_here)
   covered_from k n (row ∷ before) rest room =
       let k' : Known = learned h k row in
       let tail : List Row = before ++ rest in

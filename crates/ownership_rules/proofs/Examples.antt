@@ -1,17 +1,5 @@
 -- Worked examples of Links that are given: where they lead, which of them toggle the cycle, and what they may not say
-use Rattle.std.specs.Prelude.{◌≡◌, ℕ, ◌+◌, List, [], ◌∷◌, ◌++◌, Option, Some, None, refl}
-use Rattle.trb.specs.declared.ring_kind.RingKind.TheVariants.{Evt, Xfer}
-use Rattle.contexts.specs.declared.size.ContextSize.TheVariants.{Bytes32}
-use Rattle.traces.specs.declared.version.Version.TheVariants.{One, Two, Three}
-use Rattle.traces.specs.declared.version.Version.{Version}
-use Rattle.traces.specs.declared.header.Header.{Header}
-use Rattle.traces.specs.declared.row.Row.{Row}
-use Rattle.traces.specs.declared.row.Row.TheVariants.{Write}
-use Rattle.ring_knowledge.specs.Known.{nothing}
-use Rattle.ownership_rules.specs.declared.refusal.Refusal.{Refusal}
-use Rattle.ownership_rules.specs.declared.refusal.Refusal.TheVariants.{WriteToOwned, LinkFault, NotInProfile}
-use Rattle.ownership_rules.specs.Rules.{verdict_from}
-use Rattle.ownership_rules.specs.OnLiterals.{rules_on_literals}
+use Rattle.ownership_rules.proofs.Words.{◌≡◌, ℕ, ◌+◌, List, [], ◌∷◌, ◌++◌, Option, Some, None, refl, Evt, Xfer, Bytes32, One, Two, Three, Version, Header, Row, Write, nothing, Refusal, WriteToOwned, LinkFault, NotInProfile, verdict_from, rules_on_literals}
 
 -- a transfer ring of two segments, of 3 blocks at 0x30000 and of 2 blocks at 0x31000
 abbrev two_segments : Version → Header

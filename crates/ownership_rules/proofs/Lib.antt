@@ -4,3 +4,4 @@ pub mod Covered
 pub mod WorkedTraces
 pub mod WorkedLeases
 pub mod Examples
+pub mod Words

@@ -1,21 +1,8 @@
 -- Open leases have words of their own: a Link's crossing has a position before it
-use Rattle.std.proofs.Common.{◌<◌, ◌&&◌, ◌∷◌, ◌++◌, ℕ, List, [], filter, map, Option, Some, None, sym, subst, refl, inl, inr}
-use Rattle.std.specs.List.{flat_map}
-use Rattle.std.proofs.lemmas.Bool.{and_parts}
-use Rattle.segments.specs.Places.{is_crossing}
-use Rattle.segments.specs.RingView.{leased_crossings, leased_positions, due_crossings}
-use Rattle.segments.proofs.Crossings.{crossing_positive}
-use Rattle.commands.specs.declared.command.Command.{Command}
-use Rattle.commands.specs.Command.{named_context}
-use Rattle.traces.specs.declared.header.Header.{Header}
-use Rattle.traces.specs.declared.ring.Ring.{Ring}
-use Rattle.traces.specs.declared.register.Register.TheVariants.{Erstba}
-use Rattle.traces.specs.Header.{driver_rings, event_shape}
-use Rattle.ring_knowledge.specs.Known.{Known}
+use Rattle.ownership_rules.proofs.Words.{arith, ◌<◌, ◌∷◌, ◌++◌, ℕ, List, [], map, Option, Some, None, sym, subst, refl, inl, inr, flat_map, and_parts, leased_crossings, crossing_positive, Command, named_context, Header, Ring, Erstba, driver_rings, event_shape, Known, Leased, Block, Link, Range, open_on, open_leases, open_ranges, segment_ranges, table_range, context_ranges, range_of_command, range_of_context, entry_ranges, range_of_entry, device_ranges, range_of_device, slots}
+use Rattle.ownership_rules.proofs.Among.{IsIn, from_filter}
 use Rattle.ring_knowledge.specs.Rings as rings
 use Rattle.ownership_rules.specs.OpenLeases
-use Rattle.ownership_rules.specs.OpenLeases.{Leased, Block, Link, Range, open_on, open_leases, open_ranges, segment_ranges, table_range, context_ranges, range_of_command, range_of_context, entry_ranges, range_of_entry, device_ranges, range_of_device, slots}
-use Rattle.ownership_rules.proofs.Among.{IsIn, from_filter}
 
 -- a Link's crossing leads from one position to the next
 abbrev pub IsProper : Leased → Type 0
@@ -55,14 +42,7 @@ mapped f (x ∷ xs) proper l at =
 module _ (h : Header) (k : Known) where
   on_ring : (r : Ring) → AreProper (open_on h k r)
   unfolding open_on leased_crossings
-  on_ring r =
-      both (map (Block r.id) (leased_positions r.shape (k.ring r.id))) _ (mapped (Block r.id) (leased_positions r.shape (k.ring r.id)) (λ p at. tt))
-      (mapped (Link r.id) (filter (λ q. is_crossing r.shape q && (k.ring r.id).crossed q) (due_crossings r.shape (k.ring r.id))) links)
-    where
-      links : (q : ℕ) → IsIn q (filter (λ q. is_crossing r.shape q && (k.ring r.id).crossed q) (due_crossings r.shape (k.ring r.id))) → 0 < q
-      links q at =
-          let found = from_filter (λ q. is_crossing r.shape q && (k.ring r.id).crossed q) (due_crossings r.shape (k.ring r.id)) q at in
-          crossing_positive r.shape q (and_parts (is_crossing r.shape q) ((k.ring r.id).crossed q) found.1).0
+  on_ring r = grind (arith, both, mapped, IsIn, from_filter, crossing_positive, and_parts)
 
   segments : AreProper (segment_ranges h)
   unfolding segment_ranges
@@ -70,13 +50,11 @@ module _ (h : Header) (k : Known) where
 
   table : (v : Option ℕ) → AreProper (table_range h v)
   unfolding table_range
-  table None = none
-  table (Some v) = one _ _ _
+  table v = grind (arith, none, one)
 
   context : (p : ℕ) (c : Option ℕ) → AreProper (range_of_context h p c)
   unfolding range_of_context
-  context p None = none
-  context p (Some c) = one _ _ _
+  context p c = grind (arith, none, one)
 
   command : (p : ℕ) (c : Option Command) → AreProper (range_of_command h p c)
   unfolding range_of_command
@@ -85,13 +63,11 @@ module _ (h : Header) (k : Known) where
 
   entry : (s : ℕ) (d : Option ℕ) → AreProper (range_of_entry k s d)
   unfolding range_of_entry
-  entry s None = none
-  entry s (Some d) = one _ _ _
+  entry s d = grind (arith, none, one)
 
   device : (s : ℕ) (d : Option ℕ) → AreProper (range_of_device h s d)
   unfolding range_of_device
-  device s None = none
-  device s (Some d) = one _ _ _
+  device s d = grind (arith, none, one)
 
   ranges : AreProper (open_ranges h k)
   unfolding open_ranges context_ranges entry_ranges device_ranges

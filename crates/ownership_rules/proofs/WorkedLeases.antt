@@ -1,7 +1,5 @@
 -- The leases of accepted traces, by evaluation
-use Rattle.std.specs.Prelude.{◌≡◌, [], ◌∷◌, refl}
-use Rattle.ownership_rules.specs.Leases.{leases}
-use Rattle.ownership_rules.specs.OnLiterals.{rules_on_literals}
+use Rattle.ownership_rules.proofs.Words.{◌≡◌, [], ◌∷◌, refl, leases, rules_on_literals}
 use Rattle.ownership_rules.proofs.WorkedTraces as traces
 
 pub control_transfer : leases traces.control_transfer_header 6 traces.control_transfer_rows ≡ record { kind = 2; ring = 256; pos = 131072; from = 0; to = 4294967295 } ∷ record { kind = 2; ring = 16; pos = 262144; from = 9; to = 4294967295 } ∷ record { kind = 0; ring = 0; pos = 0; from = 16; to = 18 } ∷ record { kind = 0; ring = 0; pos = 1; from = 25; to = 27 } ∷ record { kind = 2; ring = 8; pos = 327688; from = 25; to = 4294967295 } ∷ record { kind = 2; ring = 1024; pos = 458752; from = 25; to = 4294967295 } ∷ record { kind = 2; ring = 1056; pos = 393216; from = 25; to = 27 } ∷ record { kind = 0; ring = 2; pos = 1; from = 33; to = 40 } ∷ record { kind = 0; ring = 2; pos = 2; from = 34; to = 40 } ∷ record { kind = 0; ring = 2; pos = 0; from = 38; to = 40 } ∷ []

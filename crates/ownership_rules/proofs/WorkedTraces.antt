@@ -1,17 +1,5 @@
 -- Traces with rows of each kind and their verdicts, by evaluation; tests/rows has these and more for the program
-use Rattle.std.specs.Prelude.{◌≡◌, List, [], ◌∷◌, Some, None, refl}
-use Rattle.trb.specs.declared.ring_kind.RingKind.TheVariants.{Cmd, Evt, Xfer}
-use Rattle.contexts.specs.declared.size.ContextSize.TheVariants.{Bytes32}
-use Rattle.traces.specs.declared.version.Version.{Version}
-use Rattle.traces.specs.declared.version.Version.TheVariants.{One, Three}
-use Rattle.traces.specs.declared.header.Header.{Header}
-use Rattle.traces.specs.declared.row.Row.{Row}
-use Rattle.traces.specs.declared.row.Row.TheVariants.{Sub, Write, Reg, Bell, Read}
-use Rattle.traces.specs.declared.register.Register.TheVariants.{Usbcmd, Crcr, Dcbaap, Config, Erstsz, Erstba, Erdp}
-use Rattle.ring_knowledge.specs.Known.{nothing}
-use Rattle.ownership_rules.specs.declared.refusal.Refusal.TheVariants.{WriteToOwned, NotDeclared, NotWhole, RingFull, Busy, BadErdp}
-use Rattle.ownership_rules.specs.Rules.{verdict_from}
-use Rattle.ownership_rules.specs.OnLiterals.{rules_on_literals}
+use Rattle.ownership_rules.proofs.Words.{◌≡◌, List, [], ◌∷◌, Some, None, refl, Cmd, Evt, Xfer, Bytes32, Version, One, Three, Header, Row, Sub, Write, Reg, Bell, Read, Usbcmd, Crcr, Dcbaap, Config, Erstsz, Erstba, Erdp, nothing, WriteToOwned, NotDeclared, NotWhole, RingFull, Busy, BadErdp, verdict_from, rules_on_literals}
 
 abbrev pub control_transfer_header : Header
 control_transfer_header = record { version = One; context_size = Bytes32; rings = record { id = 0; shape = record { kind = Cmd; segments = record { base = 65536; count = 16 } ∷ [] } } ∷ record { id = 1; shape = record { kind = Evt; segments = record { base = 131072; count = 16 } ∷ [] } } ∷ record { id = 2; shape = record { kind = Xfer; segments = record { base = 196608; count = 8 } ∷ [] } } ∷ [] }

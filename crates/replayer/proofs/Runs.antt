@@ -1,16 +1,13 @@
 -- What a replay answers from a world on
-use Rattle.replayer.proofs.Words.{◌≡◌, ◌+◌, ◌<◌, ◌++◌, ◌∷◌, ℕ, List, [], append-nil, drop, get_or, length, Option, Some, None, Ok, Err, refl, arith, common_steps, sym, Step, Harm, harm_of, Seen, NotPossible, judged, Scene, scene_ending_from, scene_seen_from}
-use Rattle.controller_model.specs.Steps.{Harmful as HarmfulAt}
+use Rattle.replayer.proofs.Words.{◌≡◌, ◌+◌, ◌<◌, ◌++◌, ◌∷◌, ℕ, List, append-nil, drop, get_or, length, Option, Some, None, Ok, Err, arith, common_steps, Step, Harm, harm_of, Seen, NotPossible, judged, Scene, scene_ending_from, scene_seen_from, HarmfulAt}
 use Rattle.controller_model.specs.Following.{IsStep}
 
 -- what a step that was made tells, and one that wasn't possible
 pub step_goes : {X : Type 0} (o : Option X) (seen shown : Seen) (P : X → Type 0) → IsStep (Ok seen) o shown P → (v : X) × (o ≡ Some v) × (seen ≡ shown) × P v
-step_goes None seen shown P made = absurd made
-step_goes (Some v) seen shown P made = (v, refl, made.0, made.1)
+step_goes o seen shown P made = grind arith
 
 pub step_sticks : {X : Type 0} (o : Option X) (shown : Seen) (P : X → Type 0) → IsStep (Err NotPossible) o shown P → o ≡ None
-step_sticks None shown P made = refl
-step_sticks (Some v) shown P made = absurd made
+step_sticks o shown P made = grind arith
 
 -- the steps from one on
 pub from_here : {X : Type 0} (xs : List X) (i : ℕ) (x : X) → i < length xs → x ≡ get_or xs i x → drop i xs ≡ x ∷ drop (i + 1) xs
@@ -20,5 +17,4 @@ from_here xs i x inside at = grind (arith, common_steps, inside, at)
 pub harmful : (x : Scene) (n : ℕ) (k : Harm) (items : List Seen) (rest : List Step) → harm_of x.header x.world ≡ Some k →
     (items ≡ items ++ scene_seen_from (Some x) rest) × (scene_ending_from n (Some x) rest ≡ HarmfulAt n k)
 unfolding scene_seen_from scene_ending_from judged
-harmful x n k items [] e = (sym (append-nil items), rw e refl)
-harmful x n k items (s ∷ rest) e = (rw e (sym (append-nil items)), rw e refl)
+harmful x n k items rest e = grind (arith, append-nil)

@@ -11,12 +11,11 @@ unfoldable pub use Rattle.contexts.specs.Contexts.{added_endpoints}
 pub use Rattle.contexts.specs.View.{View}
 pub use Rattle.contexts.specs.declared.size.ContextSize.{ContextSize}
 pub use Rattle.controller_model.proofs.RingRowLemmas.{none_dropped, nothing_listed, one_dropped, without_is}
-pub use Rattle.controller_model.specs.Following.{HasRoom}
 unfoldable pub use Rattle.controller_model.specs.RingRows.{with_ring}
 pub use Rattle.controller_model.specs.Scenes.{Scene, scene_before, scene_reached, step_made}
 unfoldable pub use Rattle.controller_model.specs.Scenes.{scene_ending_from, scene_replayed, scene_seen_by, scene_seen_from}
 unfoldable pub use Rattle.controller_model.specs.Showing.{shows}
-pub use Rattle.controller_model.specs.Steps.{Ending, Harmful, NoHarm}
+pub use Rattle.controller_model.specs.Steps.{Harmful, Harmful as HarmfulAt, NoHarm}
 unfoldable pub use Rattle.controller_model.specs.Steps.{judged}
 pub use Rattle.controller_model.specs.Worlds.{StandsFor}
 pub use Rattle.controller_model.specs.declared.fault.StepFault.TheVariants.{NotPossible}
@@ -37,7 +36,6 @@ unfoldable pub use Rattle.ownership_rules.specs.Events.{is_impossible_by_kind, i
 unfoldable pub use Rattle.ownership_rules.specs.Moves.{binding_in, binds, has_repeats, is_among, ring_bound}
 unfoldable pub use Rattle.ownership_rules.specs.Rules.{lenient}
 pub use Rattle.ownership_rules.specs.declared.refusal.Refusal.{Refusal}
-pub use Rattle.replayer.specs.LazySteps.Goals.{place_of}
 pub use Rattle.replayer.specs.LazySteps.Headers.{KeepHeaders}
 pub use Rattle.replayer.specs.LazySteps.Law.{NeedsLaw, StepsLaw}
 pub use Rattle.replayer.specs.LazySteps.Notes.{listed}
@@ -50,9 +48,8 @@ unfoldable pub use Rattle.replayer.specs.RowNotes.Added.{rings_added}
 pub use Rattle.replayer.specs.RowNotes.Noted.{AreNoted, MayBeRead}
 pub use Rattle.replayer.specs.Schedules.Harmful.{DoesHarm, rows_made}
 pub use Rattle.replayer.specs.declared.lazy_steps.note.Note.{Note}
-pub use Rattle.replayer.specs.declared.lazy_steps.note.Note.TheVariants.{Begun, Made, Next, Placed, StoppedAt, StoppedOpen, Succeeded, Taken}
+pub use Rattle.replayer.specs.declared.lazy_steps.note.Note.TheVariants.{Begun, Made, Next, Placed, Succeeded}
 pub use Rattle.replayer.specs.declared.row_notes.rings.CommandPlace.{CommandPlace}
-pub use Rattle.replayer.specs.declared.scheduler.harmful.FirstHarm.{FirstHarm}
 pub use Rattle.ring_knowledge.specs.Known.{Known}
 unfoldable pub use Rattle.ring_knowledge.specs.Known.{nothing}
 unfoldable pub use Rattle.ring_knowledge.specs.Learned.{learned}
@@ -83,7 +80,6 @@ pub use Rattle.safety.proofs.Words.{Change, Data, Link, Look, NextRow, RingSpot,
 unfoldable pub use Rattle.safety.proofs.Words.{changed_by}
 pub use Rattle.safety.specs.EndpointsKeep.{EndpointsKeep}
 pub use Rattle.safety.specs.Keeps.{DriverKeeps, IsDriverRing, IsTransferRing}
-pub use Rattle.safety.specs.KeptHistories.{IsDriverRow}
 pub use Rattle.safety.specs.LazyRuns.LateEvents.{IsTimely}
 pub use Rattle.safety.specs.LazyRuns.Law.{ContainsAll}
 unfoldable pub use Rattle.safety.specs.LazyRuns.Lazy.{behind_taken, brought, command_taken, further, goals, lazy_run, lazy_steps, looks_to, open_goals, pointers_after, pointers_at, pointers_for, post_of, report_goals, spots_before, steps_before, steps_for, stop_goal, stopped_goals, taken_up_to}
@@ -94,13 +90,11 @@ pub use Rattle.safety.specs.RingChanges.Withdrawals.{restored}
 unfoldable pub use Rattle.safety.specs.RingChanges.Withdrawals.{restored_on, ring_restored}
 pub use Rattle.safety.specs.RingsKeep.{RingsKeep}
 pub use Rattle.segments.proofs.Words.{nat_tests, next, position_or_len, spots_from, take_more}
-unfoldable pub use Rattle.segments.specs.Ceiling.{is_open, named}
 pub use Rattle.segments.specs.RingView.{floor_number}
-pub use Rattle.segments.specs.Shape.{is_shape}
-pub use Rattle.std.proofs.Common.{Bool, Err, List, None, Ok, Option, Result, Some, [], add-one, ap, append-nil, append_assoc, arith, drop, eq-eqb, false, filter, get_or, get_or-set_other, get_or-set_same, get_or-take, if◌then◌else◌, inl, inr, is_some, length, length-take-le, map, max, nat_lt, not, option_map, option_to_list, position, refl, replicate, slice_get, slice_index, subst, suc, sym, take_all, true, zero, ℕ, ◌&&◌, ◌*◌, ◌++◌, ◌+◌, ◌-◌, ◌<◌, ◌==◌, ◌||◌, ◌∙◌, ◌∷◌, ◌≡◌, ◌≤◌, ◌⊎◌}
+pub use Rattle.std.proofs.Common.{Bool, Err, List, None, Ok, Option, Result, Some, [], add-one, ap, append-nil, append_assoc, arith, drop, drop-cons, eq-eqb, false, filter, get_or, get_or-set_other, get_or-set_same, get_or-take, if◌then◌else◌, inl, inr, is_some, length, length-take-le, map, max, nat_lt, not, option_map, position, refl, replicate, rules, slice_get, slice_index, subst, suc, sym, take_all, true, zero, ℕ, ◌&&◌, ◌*◌, ◌++◌, ◌+◌, ◌-◌, ◌<◌, ◌==◌, ◌||◌, ◌∙◌, ◌∷◌, ◌≡◌, ◌≤◌}
 pub use Rattle.std.proofs.Math.Bool.{or-false}
 pub use Rattle.std.proofs.Math.ListN.{get_or-append, set}
-pub use Rattle.std.proofs.Math.Seq.{drop-cons, set-append_seam}
+pub use Rattle.std.proofs.Math.Seq.{set-append_seam}
 pub use Rattle.std.proofs.lemmas.Bool.{and_parts, cond-false, cond-true, cond_both, eqb-true, ltb-true, ne_eqb, or_parts}
 pub use Rattle.std.proofs.lemmas.Grind.{common_steps}
 pub use Rattle.std.proofs.lemmas.List.{get_or-replicate, get_or-reverse, length-replicate, length-reverse, reverse-reverse}
@@ -108,8 +102,8 @@ pub use Rattle.std.proofs.lemmas.List.Edits.{length-remove}
 pub use Rattle.std.proofs.lemmas.List.Elements.{All-append, All-cons, All-head, All-map, All-nil, All-same, All-tail, All-weaker}
 pub use Rattle.std.proofs.lemmas.List.Folds.{find_at}
 pub use Rattle.std.proofs.lemmas.Option.{none-some, same_Some, slice_get-get_or, slice_get_within}
-pub use Rattle.std.specs.Prelude.{All, IfOk, IfSome, OnOk, option_and_then, reverse, take}
-pub use Rattle.std.specs.declared.alloc.AllocError.{AllocError}
+pub use Rattle.std.specs.List.{cons_option, filter_map, range_with_len, remove}
+pub use Rattle.std.specs.Prelude.{All, IfOk, OnOk, option_and_then, reverse, take}
 pub use Rattle.trace_record.proofs.RingFinder.CommandRings.{IsCommandNumber, command_id_is, command_number, has_commands, read_at}
 pub use Rattle.trace_record.proofs.RingFinder.FoundRings.{no_command_ring, none_here, ring_here}
 pub use Rattle.trace_record.proofs.RingFinder.HeaderRings.{find_some, not_found, ring_found}
@@ -117,9 +111,8 @@ pub use Rattle.trace_record.proofs.RingFinder.RingsApart.{among_at}
 pub use Rattle.trace_record.specs.FollowsTrace.{FollowsTrace}
 pub use Rattle.trace_record.specs.RingFinder.Finding.{IsFinder}
 pub use Rattle.trace_record.specs.RingFinder.RecordsOfRings.{FollowsRings}
-pub use Rattle.trace_record.specs.Steps.{IfRefused}
 pub use Rattle.trace_record.specs.declared.trace_record.TraceRecord.{TraceRecord}
-pub use Rattle.traces.specs.Header.{IsHeader, id_or_none, is_transfer_kind, may_stand_together, no_shape, ring_with}
+pub use Rattle.traces.specs.Header.{IsHeader, is_transfer_kind, may_stand_together, no_shape, ring_with}
 unfoldable pub use Rattle.traces.specs.Header.{command_id, command_ring, ring_having, shape_of}
 pub use Rattle.traces.specs.Limits.{most_lines, most_streamed_lines}
 pub use Rattle.traces.specs.Rows.{AreSteps, IsRow, IsStep}
@@ -127,11 +120,11 @@ pub use Rattle.traces.specs.TraceRows.{IsTraceRow}
 pub use Rattle.traces.specs.declared.header.Header.{Header}
 pub use Rattle.traces.specs.declared.ring.Ring.{Ring}
 pub use Rattle.traces.specs.declared.row.Row.{Row}
-pub use Rattle.traces.specs.declared.row.Row.TheVariants.{Bell, Read, Reg, Sub, Write}
+pub use Rattle.traces.specs.declared.row.Row.TheVariants.{Bell, Read}
 pub use Rattle.traces.specs.declared.step.Step.TheVariants.{Finish, Other, Report}
 pub use Rattle.traces.specs.declared.trace_row.TraceRow.{TraceRow}
 pub use Rattle.traces.specs.declared.trace_row.TraceRow.TheVariants.{Comes, Goes, Plain, Withdraws}
-pub use Rattle.trb.specs.Block.{IsBlock, code, endpoint, kind, pointer, slot}
+pub use Rattle.trb.specs.Block.{IsBlock, code, kind, slot}
 pub use Rattle.trb.specs.CompletionCode.{is_stopping}
 pub use Rattle.trb.specs.declared.block.Block.{Block}
 pub use Rattle.trb.specs.declared.kind.BlockKind.{BlockKind}

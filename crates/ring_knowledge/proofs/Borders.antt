@@ -1,6 +1,5 @@
 -- Borders between descriptors, by how long the descriptor is that begins at a position
-use Rattle.ring_knowledge.proofs.Words.{rules, ◌≡◌, ◌≤◌, ◌-◌, ◌+◌, ◌<◌, ◌∷◌, ◌∙◌, ◌==◌, ℕ, List, [], true, ap, sym, arith, length, slice_index, sum, eq-eqb, ne_eqb, cases_eq, cond-true, cond-false, or_left, Shape, RingView, is_border, length_from, RingRecord, ArePositive, FollowsMarks}
-use Rattle.ring_knowledge.proofs.DeclaredMore.{sum-cons}
+use Rattle.ring_knowledge.proofs.MiddleLaws.{rules, ◌≡◌, ◌≤◌, ◌-◌, ◌+◌, ◌<◌, ◌∷◌, ◌∙◌, ◌==◌, ℕ, List, [], true, ap, sym, arith, length, slice_index, sum, eq-eqb, ne_eqb, cases_eq, cond-true, cond-false, or_left, Shape, RingView, is_border, length_from, RingRecord, ArePositive, FollowsMarks, sum-cons}
 
 -- where a descriptor begins, there is a border
 begins : (lengths : List ℕ) (start p : ℕ) → 0 < length_from lengths start p → is_border lengths start p ≡ true

@@ -1,6 +1,5 @@
 -- A record with one descriptor more follows what is declared with it
-use Rattle.ring_knowledge.proofs.Forgotten.{drop_append}
-use Rattle.ring_knowledge.proofs.Words.{length_from-push, drop, ◌≡◌, ◌+◌, ◌-◌, ◌<◌, ◌≤◌, ◌∷◌, ◌++◌, ◌==◌, ℕ, suc, zero, List, [], true, false, refl, ap, arith, length, set, length-append, not, sum, slice_index, replicate, nat_le, take, ltb-false, lt-ltb, le-ltb, le-leb, sum_by-cons, cases_lt, lt-leb, nat_tests, common_steps, Block, Shape, place_count, place_count_pos, RingView, Declares, changed, declared, floor_number, length_from, has_no_room, RingRecord, ArePositive, FollowsMarks, contains, nat_cmp, rules}
+use Rattle.ring_knowledge.proofs.LowerLaws.{drop_append, length_from-push, drop, ◌≡◌, ◌+◌, ◌-◌, ◌<◌, ◌≤◌, ◌∷◌, ◌++◌, ℕ, suc, zero, List, [], false, refl, ap, arith, length, set, length-append, not, sum, slice_index, replicate, nat_le, take, ltb-false, lt-ltb, le-ltb, le-leb, sum_by-cons, cases_lt, lt-leb, nat_tests, common_steps, Block, Shape, place_count, place_count_pos, RingView, Declares, changed, declared, floor_number, length_from, has_no_room, RingRecord, ArePositive, FollowsMarks, contains, nat_cmp, rules}
 
 pub sum-cons : (d : ℕ) (ds : List ℕ) → sum (d ∷ ds) ≡ d + sum ds
 sum-cons d ds = sum_by-cons (λ x. x) d ds
@@ -8,17 +7,13 @@ sum-cons d ds = sum_by-cons (λ x. x) d ds
 -- it begins behind them
 at_end : (ds : List ℕ) (n start p : ℕ) → ArePositive ds → p ≡ start + sum ds → length_from (ds ++ n ∷ []) start p ≡ n
 unfolding length_from
-at_end [] n start p pos h =
-    let here : (start == p) ≡ true = grind (arith, nat_tests, h) in
-    rw here refl
+at_end [] n start p pos h = grind (arith, nat_tests)
 at_end (d ∷ ds) n start p pos h = search (rules, sum-cons, nat_tests, at_end ds n (start + d) p pos.1)
 
 -- and none begins later
 past_end : (ds : List ℕ) (n start p : ℕ) → start + sum ds < p → length_from (ds ++ n ∷ []) start p ≡ 0
 unfolding length_from
-past_end [] n start p h =
-    let there : (start == p) ≡ false = grind (arith, nat_tests, h) in
-    rw there refl
+past_end [] n start p h = grind (arith, nat_tests)
 past_end (d ∷ ds) n start p h = search (rules, sum-cons, nat_tests, past_end ds n (start + d) p)
 
 positive_push : (ds : List ℕ) (n : ℕ) → ArePositive ds → 0 < n → ArePositive (ds ++ n ∷ [])
@@ -52,11 +47,6 @@ lengths_more [] (suc n) h = let less : suc n - 1 ≡ n = omega arith in rw less 
 lengths_more (l ∷ ls) n h = ap (λ xs. l ∷ xs) (lengths_more ls n h)
 
 module _ (shape : Shape) (v : RingView) (r : RingRecord) (follows : FollowsMarks shape v r) (blocks : List Block) where
-  room_left : has_no_room shape v (length blocks) ≡ false → length v.queue + length blocks + 1 ≤ floor_number v + place_count shape
-  unfolding has_no_room
-  room_left fits =
-      omega (arith, ltb-false (place_count shape - 1 + floor_number v) (declared v + length blocks) fits, follows.room, place_count_pos shape follows.allowed)
-
   begins_now : (ls : List ℕ) → 0 < length blocks → ls ≡ r.lengths.items ++ (length blocks ∷ replicate (length blocks - 1) 0) → (p : ℕ) → r.forgotten ≤ p →
       length_from (v.lengths ++ length blocks ∷ []) 0 p ≡ slice_index ls (p - r.forgotten)
   begins_now ls some e p kept = search (rules, length, replicate, slice_index, sum, cases_lt, length_from-push, index_before, at_end, index_at, past_end, index_past)
@@ -66,8 +56,9 @@ module _ (shape : Shape) (v : RingView) (r : RingRecord) (follows : FollowsMarks
       → n.lengths.items ≡ r.lengths.items ++ (length blocks ∷ replicate (length blocks - 1) 0)
       → n.given.items ≡ r.given.items → n.crossed.items ≡ r.crossed.items → n.floor ≡ r.floor → n.held ≡ r.held → n.withdrawn ≡ r.withdrawn → n.free ≡ r.free → n.forgotten ≡ r.forgotten
       → FollowsMarks shape (changed shape v (Declares blocks)) n
+  unfolding has_no_room
   declared_marks fits some n more lengths given crossed floor held withdrawn free forgotten =
-      search (rules, length, length-append, replicate, common_steps, floor_number, place_count, room_left, drop, drop_append, begins_now, sum_push, positive_push, contains, nat_cmp)
+      search (rules, length, length-append, replicate, common_steps, floor_number, place_count, ltb-false, place_count_pos, drop, drop_append, begins_now, sum_push, positive_push, contains, nat_cmp)
 
 -- the lengths as the code makes them
 pub lengths_grown : (ls ms : List ℕ) (start len n : ℕ) → start ≡ len → len ≡ length ls → 0 < n → ms ≡ take (start + n) ls ++ replicate (start + n - len) 0 →

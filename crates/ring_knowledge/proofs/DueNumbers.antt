@@ -1,16 +1,12 @@
 -- The number that is due at a place, and the crossing that is due at a Link
-use Rattle.ring_knowledge.proofs.Words.{◌≡◌, ◌+◌, ◌-◌, ◌*◌, ◌/◌, ◌%◌, ◌<◌, ◌≤◌, ℕ, refl, arith, inl, inr, length, slice_index, Some, max, cases_lt, mod-mul-add, mod-lt, div-add-mod', Shape, IsShape, place_count, links, ends, link_crossed, link_of, same_in_lap, crosses-from, end_in_lap, same_crossing, rules}
+use Rattle.ring_knowledge.proofs.Words.{◌≡◌, ◌+◌, ◌-◌, ◌%◌, ◌<◌, ◌≤◌, ℕ, refl, arith, inl, inr, length, slice_index, Some, max, cases_lt, mod-mul-add, mod-lt, Shape, IsShape, place_count, links, ends, link_crossed, link_of, same_in_lap, crosses-from, end_in_lap, same_crossing, rules}
 
 -- the least number from another one on with a remainder, on this side of the next multiple and behind it
 pub rest_here : (least count rest : ℕ) → rest < count → least % count ≤ rest → (least + (rest - least % count)) % count ≡ rest
-rest_here least count rest below reached =
-    let split : least + (rest - least % count) ≡ least / count * count + rest = omega (arith, div-add-mod' least count) in
-    rw split (mod-mul-add (least / count) count rest below)
+rest_here least count rest below reached = grind (arith, mod-mul-add)
 
 pub rest_next : (least count rest : ℕ) → rest < count → least % count < count → rest < least % count → (least + (count - least % count) + rest) % count ≡ rest
-rest_next least count rest below bound past =
-    let split : least + (count - least % count) + rest ≡ (least / count + 1) * count + rest = omega (arith, div-add-mod' least count) in
-    rw split (mod-mul-add (least / count + 1) count rest below)
+rest_next least count rest below bound past = grind (arith, mod-mul-add)
 
 -- the number from least on, of count numbers, that has a remainder
 pub record IsDue (least count rest n : ℕ) : Type 0 where

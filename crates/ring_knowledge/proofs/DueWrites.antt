@@ -1,7 +1,5 @@
 -- What a write would give of a ring, by the place of its address: xHCI 4.9.2
-use Rattle.ring_knowledge.proofs.Words.{none-some, ◌≡◌, ◌≢◌, ◌+◌, ◌-◌, ◌*◌, ◌%◌, ◌<◌, ◌≤◌, ◌∙◌, ◌==◌, ◌&&◌, ◌||◌, ℕ, Bool, true, false, Some, None, refl, ap, sym, arith, inl, inr, max, nat_lt, nat_le, lt-ltb, le-ltb, le-leb, eq-eqb, ne_eqb, eqb-true, ltb-true, leb-true, cases_lt, cases_eq, and_parts, or_cases, and_from, Place, AtData, AtLink, Spot, Shape, IsShape, place_count, address_of, cycle_of, link_crossed, is_crossing, link_address, place_at, number, is_due, is_crossing_due, gives, gives_crossing, place_count_pos, address_of-mod, place_at-Data, place_at-Link, place_at-address_of, place_at-link_address, crossed_link, crossing_positive, is_crossing-from, link_address_is, is_the, rules}
-use Rattle.ring_knowledge.proofs.Noted.{false_unless}
-use Rattle.ring_knowledge.proofs.DueNumbers.{same_due, same_due_crossing}
+use Rattle.ring_knowledge.proofs.MiddleLaws.{none-some, ◌≡◌, ◌≢◌, ◌+◌, ◌-◌, ◌*◌, ◌%◌, ◌<◌, ◌≤◌, ◌∙◌, ◌==◌, ◌&&◌, ◌||◌, ℕ, Bool, true, false, Some, None, refl, ap, sym, arith, inl, inr, max, nat_lt, nat_le, lt-ltb, le-ltb, le-leb, eq-eqb, ne_eqb, eqb-true, ltb-true, leb-true, cases_lt, cases_eq, and_parts, or_cases, and_from, Place, AtData, AtLink, Spot, Shape, IsShape, place_count, address_of, cycle_of, link_crossed, is_crossing, link_address, place_at, number, is_due, is_crossing_due, gives, gives_crossing, place_count_pos, address_of-mod, place_at-Data, place_at-Link, place_at-address_of, place_at-link_address, crossed_link, crossing_positive, is_crossing-from, link_address_is, is_the, rules, false_unless, same_due, same_due_crossing}
 
 pub data_is : (i v j w : ℕ) → Some (AtData i v) ≡ Some (AtData j w) → (i ≡ j) × (v ≡ w)
 data_is i v j w e = (cc, cc)
@@ -77,16 +75,7 @@ module _ (shape : Shape) (allowed : IsShape shape) (floor : Spot) where
     pub gives-data : (q : ℕ) → v ≡ 3 → number floor ≤ q → q < number floor + place_count shape → q % place_count shape ≡ i → w % 2 ≡ cycle_of shape q →
         (p : ℕ) → gives shape floor p a w ≡ is_the (Some q) p
     gives-data q third low high here cycle p = elim (cases_eq p q) [
-      | inl same ↦
-          let word_is : a ≡ address_of shape q + 12 = omega (arith, (place_at-Data shape allowed a i v at).2, ap (λ n. address_of shape n) here, address_of-mod shape allowed q) in
-          let one : (p == q) ≡ true = eq-eqb p q same in
-          let late : nat_le (number floor) q ≡ true = le-leb (number floor) q low in
-          let early : nat_lt q (number floor + place_count shape) ≡ true = lt-ltb q (number floor + place_count shape) high in
-          let there : (a == address_of shape q + 12) ≡ true = eq-eqb a (address_of shape q + 12) word_is in
-          let bit : (w % 2 == cycle_of shape q) ≡ true = eq-eqb (w % 2) (cycle_of shape q) cycle in
-          ap (λ n. gives shape floor n a w) same
-          ∙ and_from (is_due shape floor q && (a == address_of shape q + 12)) (w % 2 == cycle_of shape q) (and_from (is_due shape floor q) (a == address_of shape q + 12) (and_from _ _ late early) there) bit
-          ∙ sym one
+      | inl same ↦ grind (arith, place_at-Data, address_of-mod, eq-eqb, nat_le, le-leb, nat_lt, lt-ltb, and_from)
       | inr other ↦
           false_unless (gives shape floor p a w) (λ h.
           let g : Gives p a w = gives-true p a w h in
@@ -97,8 +86,7 @@ module _ (shape : Shape) (allowed : IsShape shape) (floor : Spot) where
 
     -- another word than the control word gives nothing
     pub gives-other_word : v ≢ 3 → (p : ℕ) → gives shape floor p a w ≡ false
-    gives-other_word other p =
-        false_unless (gives shape floor p a w) (λ h. let g : Gives p a w = gives-true p a w h in other (data_is i v (p % place_count shape) 3 (sym at ∙ g.word_at)).1)
+    gives-other_word other p = grind (arith, false_unless, gives-true, data_is)
 
     -- nor does the control word with the other cycle
     pub gives-other_cycle : (q : ℕ) → number floor ≤ q → q < number floor + place_count shape → q % place_count shape ≡ i → w % 2 ≢ cycle_of shape q →
@@ -111,11 +99,7 @@ module _ (shape : Shape) (allowed : IsShape shape) (floor : Spot) where
   -- a word of the Link of segment j
   module _ (a w j v : ℕ) (at : place_at shape a ≡ Some (AtLink j v)) where
     same_here : (q r : ℕ) → max (number floor) 1 ≤ q → q < max (number floor) 1 + place_count shape → link_crossed shape q ≡ Some j → (g : (i : ℕ) × GivesCrossing r i a w) → r ≡ q
-    same_here q r low high over found =
-        let i : ℕ = found.0 in
-        let g : GivesCrossing r i a w = found.1 in
-        let segment : j ≡ i = (link_is j v i 3 (sym at ∙ g.word_at)).0 in
-        same_due_crossing shape allowed (max (number floor) 1) j r q g.from g.within low high (g.over ∙ ap (λ n. Some n) (sym segment)) over
+    same_here q r low high over h6 = grind (arith, found, link_is, same_due_crossing)
 
     pub gives_crossing-link : (q : ℕ) → v ≡ 3 → max (number floor) 1 ≤ q → q < max (number floor) 1 + place_count shape → link_crossed shape q ≡ Some j →
         w % 2 ≡ cycle_of shape (q - 1) → (r : ℕ) → gives_crossing shape floor r a w ≡ is_the (Some q) r
@@ -155,14 +139,12 @@ module _ (shape : Shape) (allowed : IsShape shape) (floor : Spot) where
         other (g.cycle_is ∙ ap (λ n. cycle_of shape (n - 1)) same))
 
     pub no_position_of_link : (p : ℕ) → gives shape floor p a w ≡ false
-    no_position_of_link p =
-        false_unless (gives shape floor p a w) (λ h. let g : Gives p a w = gives-true p a w h in data_no_link (p % place_count shape) 3 j v (sym g.word_at ∙ at))
+    no_position_of_link p = grind (arith, false_unless, gives-true, data_no_link)
 
   -- an address of no word of the ring
   module _ (a w : ℕ) (at : place_at shape a ≡ None) where
     pub no_position_elsewhere : (p : ℕ) → gives shape floor p a w ≡ false
-    no_position_elsewhere p =
-        false_unless (gives shape floor p a w) (λ h. let g : Gives p a w = gives-true p a w h in none-some (AtData (p % place_count shape) 3) (sym at ∙ g.word_at))
+    no_position_elsewhere p = grind (arith, false_unless, gives-true, none-some)
 
     pub no_crossing_elsewhere : (q : ℕ) → gives_crossing shape floor q a w ≡ false
     no_crossing_elsewhere q = search (rules, false_unless, found, gives_crossing-true, none-some)

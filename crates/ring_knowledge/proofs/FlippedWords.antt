@@ -1,9 +1,5 @@
 -- Which words flip the Cycle bit of what is free and may be passed
-use Rattle.ring_knowledge.proofs.Words.{◌≡◌, ◌+◌, ◌*◌, ◌%◌, ◌∙◌, ◌==◌, ◌&&◌, ℕ, Bool, true, false, Some, refl, ap, sym, arith, not, nat_lt, list_any, range_with_len, and_parts, eq-eqb, eqb-true, AtData, Shape, place_count, place_count_pos, address_of, address_of-mod, cycle_of, place_at, place_at-Data, place_at-address_of, RingView, floor_number, ceiling, unrestored, due_positions, flips_passed, RingRecord, FollowsMarks}
-use Rattle.ring_knowledge.proofs.Noted.{false_unless}
-use Rattle.ring_knowledge.proofs.Ranges.{any_filtered, any_none, any_only}
-use Rattle.ring_knowledge.proofs.DueWrites.{data_is}
-use Rattle.ring_knowledge.proofs.DueNumbers.{IsDue, same_due}
+use Rattle.ring_knowledge.proofs.UpperLaws.{◌≡◌, ◌+◌, ◌*◌, ◌%◌, ◌∙◌, ◌==◌, ◌&&◌, ℕ, Bool, true, false, Some, refl, ap, sym, arith, not, nat_lt, list_any, range_with_len, and_parts, eq-eqb, eqb-true, AtData, Shape, place_count, place_count_pos, address_of, address_of-mod, cycle_of, place_at, place_at-Data, place_at-address_of, RingView, floor_number, ceiling, unrestored, due_positions, flips_passed, RingRecord, FollowsMarks, false_unless, any_filtered, any_none, any_only, data_is, IsDue, same_due}
 
 module _ (shape : Shape) (v : RingView) (r : RingRecord) (follows : FollowsMarks shape v r) (a w : ℕ) where
   abbrev flips : ℕ → Bool

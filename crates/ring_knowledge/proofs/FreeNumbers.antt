@@ -1,8 +1,6 @@
 -- The free positions of a ring that a record follows, as its set has them
-use Rattle.ring_knowledge.proofs.Words.{rules, slice_get, block_at, BTreeSet, IsOrdered, AllByRecursion, IsStrictlySortedBy, Less, nat_cmp_total, IsStrictlySortedBy-filter, btree_set_from_contains, exact_unsigned, any-filter_same, ◌-◌, ◌≤◌, leb-true, ◌≡◌, ◌≢◌, ◌+◌, ◌<◌, ◌∷◌, ◌∙◌, ◌&&◌, ◌||◌, ℕ, suc, zero, List, [], Bool, true, false, refl, ap, sym, arith, length, filter, not, nat_le, nat_lt, cases_lt, cases_eq, cases_Bool, false≢true, nat_tests, list_any, range_with_len, contains, is_at, nat_cmp, Shape, place_count, RingView, floor_number, unrestored, due_positions, is_not_restored, is_declared_as, address_of, cycle_of, ◌++◌, common_steps, FollowsMarks, RingRecord}
-use Rattle.ring_knowledge.proofs.Noted.{noted_past}
-use Rattle.ring_knowledge.proofs.Forgotten.{get_kept}
-use Rattle.ring_knowledge.proofs.Ranges.{any_filtered, any_same}
+use Rattle.ring_knowledge.proofs.MiddleLaws.{rules, slice_get, block_at, BTreeSet, IsOrdered, AllByRecursion, Less, nat_cmp_total, IsStrictlySortedBy-filter, btree_set_from_contains, exact_unsigned, any-filter_same, ◌-◌, ◌≤◌, leb-true, ◌≡◌, ◌≢◌, ◌+◌, ◌<◌, ◌∷◌, ◌∙◌, ◌&&◌, ◌||◌, ℕ, suc, zero, List, [], Bool, true, false, refl, ap, sym, arith, length, filter, not, nat_le, nat_lt, cases_lt, cases_eq, cases_Bool, false≢true, nat_tests, list_any, range_with_len, contains, is_at, nat_cmp, Shape, place_count, RingView, floor_number, unrestored, due_positions, is_not_restored, is_declared_as, address_of, cycle_of, ◌++◌, common_steps, FollowsMarks, RingRecord, noted_past, get_kept, any_filtered, any_same}
+use Rattle.std.specs.List.Sorted.{IsStrictlySortedBy}
 
 -- ---- one number of a set
 
@@ -11,9 +9,6 @@ at_is p q h = grind (arith, nat_tests, h)
 
 pub at_same : (p : ℕ) → is_at (nat_cmp p) p ≡ true
 at_same p = grind (arith, nat_tests)
-
-at_other : (p q : ℕ) → p ≢ q → is_at (nat_cmp p) q ≡ false
-at_other p q h = grind (arith, nat_tests, h)
 
 -- a set that isn't empty has a number
 pub some_in : (s : BTreeSet ℕ) → length s.keys ≢ 0 → (p : ℕ) × (contains nat_cmp s p ≡ true)
@@ -40,7 +35,7 @@ run_sorted a (suc n) = (above a (a + 1) n (omega arith), run_sorted (a + 1) n)
 
 in_run : (a n q : ℕ) → list_any (is_at (nat_cmp q)) (range_with_len a n) ≡ (nat_le a q && nat_lt q (a + n))
 in_run a zero q = grind (arith, nat_tests)
-in_run a (suc n) q = search (rules, cases_eq, nat_tests, list_any, is_at, nat_cmp, range_with_len, at_other, in_run (a + 1) n q)
+in_run a (suc n) q = search (rules, cases_eq, nat_tests, list_any, is_at, nat_cmp, range_with_len, in_run (a + 1) n q)
 
 -- a filter keeps of a number what the test says of it
 in_filter : (f : ℕ → Bool) (q : ℕ) (ks : List ℕ) → list_any (is_at (nat_cmp q)) (filter f ks) ≡ (f q && list_any (is_at (nat_cmp q)) ks)
@@ -50,9 +45,6 @@ module _ (shape : Shape) (v : RingView) (r : RingRecord) (follows : FollowsMarks
   within : (q : ℕ) → v.free q ≡ true → q < floor_number v + place_count shape
   within q free = search (rules, cases_lt, floor_number, place_count, false≢true, noted_past)
 
-  same_ends : (q : ℕ) → (v.free q && (nat_le (floor_number v) q && nat_lt q (floor_number v + place_count shape))) ≡ (nat_le (floor_number v) q && contains nat_cmp r.free q)
-  same_ends q = search (rules, cases_Bool, within, nat_tests)
-
   -- in ascending order they are the numbers of the set from the floor on
   pub unrestored_is : IsOrdered nat_cmp r.free → unrestored shape v ≡ filter (nat_le (floor_number v)) r.free.keys
   unfolding unrestored due_positions
@@ -61,7 +53,7 @@ module _ (shape : Shape) (v : RingView) (r : RingRecord) (follows : FollowsMarks
       (record { keys = filter v.free (range_with_len (floor_number v) (place_count shape)) }) (record { keys = filter (nat_le (floor_number v)) r.free.keys })
       (IsStrictlySortedBy-filter nat_cmp v.free (range_with_len (floor_number v) (place_count shape)) (run_sorted (floor_number v) (place_count shape)))
       (IsStrictlySortedBy-filter nat_cmp (nat_le (floor_number v)) r.free.keys ordered)
-      (λ q. in_filter v.free q (range_with_len (floor_number v) (place_count shape)) ∙ ap (λ b. v.free q && b) (in_run (floor_number v) (place_count shape) q) ∙ same_ends q
+      (λ q. in_filter v.free q (range_with_len (floor_number v) (place_count shape)) ∙ ap (λ b. v.free q && b) (in_run (floor_number v) (place_count shape) q) ∙ (search (rules, cases_Bool, within, nat_tests))
       ∙ sym (in_filter (nat_le (floor_number v)) q r.free.keys))
       exact_unsigned
 

@@ -1,7 +1,5 @@
 -- How many positions are given without a gap
-use Rattle.ring_knowledge.proofs.Words.{◌≡◌, ◌+◌, ◌<◌, ◌≤◌, ◌∙◌, ◌%◌, ℕ, suc, zero, true, false, refl, sym, arith, inl, inr, cases_lt, cases_eq, false≢true, Shape, place_count, RingView, Writes, changed, new_ring, floor_number, is_step_given, is_way_given, first_not_given, given_count, RingRecord, FollowsMarks, FollowsRing, rules}
-use Rattle.ring_knowledge.proofs.Noted.{noted_past}
-use Rattle.ring_knowledge.proofs.WholeDescriptors.{step_not_given}
+use Rattle.ring_knowledge.proofs.MiddleLaws.{◌≡◌, ◌+◌, ◌<◌, ◌≤◌, ◌%◌, ℕ, suc, zero, true, false, refl, sym, arith, cases_lt, cases_eq, false≢true, Shape, place_count, RingView, Writes, changed, new_ring, floor_number, is_step_given, is_way_given, first_not_given, given_count, RingRecord, FollowsMarks, FollowsRing, rules, noted_past, step_not_given}
 
 -- the steps up to g are given, and that to g isn't
 counted : (shape : Shape) (v : RingView) (n q g : ℕ) → q ≤ g → g ≤ q + n → ((r : ℕ) → q ≤ r → r < g → is_step_given shape v r ≡ true) → is_step_given shape v g ≡ false →
@@ -17,13 +15,7 @@ past_not_given shape v r follows q past =
 
 pub count_is : (shape : Shape) (v : RingView) (r : RingRecord) → FollowsRing shape v r → r.count ≡ given_count shape v
 unfolding given_count
-count_is shape v r known =
-    let within : r.count ≤ 0 + (floor_number v + place_count shape) =
-    elim (cases_lt (floor_number v + place_count shape) r.count) [
-      | inl far ↦ absurd (false≢true (sym (past_not_given shape v r known.marks (floor_number v + place_count shape) (omega arith)) ∙ known.steps (floor_number v + place_count shape) far))
-      | inr near ↦ omega arith
-    ] in
-    sym (counted shape v (floor_number v + place_count shape) 0 r.count (omega arith) within (λ q l u. known.steps q u) known.stop)
+count_is shape v r known = grind (arith, cases_lt, false≢true, past_not_given, counted)
 
 -- at first none is
 pub new_stop : (shape : Shape) → is_step_given shape new_ring 0 ≡ false

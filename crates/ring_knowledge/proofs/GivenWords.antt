@@ -1,10 +1,5 @@
 -- What a write gives of a ring that a record follows
-use Rattle.ring_knowledge.proofs.Words.{not-true, IsFromFloor, RingGiving, List, Contains, nat_le, nat_lt, leb-true, subst, gives_is, position_given_is, ◌≡◌, ◌+◌, ◌%◌, ◌<◌, ◌≤◌, ◌∷◌, ◌∙◌, ◌&&◌, ℕ, [], true, false, Option, None, Some, refl, ap, sym, arith, get_or, cond, not, max, option_map, IfSome, eq-eqb, ne_eqb, and_parts, AtData, AtLink, Shape, place_count, link_crossed, place_at, number, RingView, floor_number, gives, gives_crossing, due_positions, due_crossings, positions_given, crossings_given, link_of, is_crossing-from, RingRecord, is_noted, Position, Crossing, FollowsMarks, is_the, least_crossing, positions_of, crossings_of, rules}
-use Rattle.std.proofs.lemmas.Bool.{and_right, both_ways}
-use Rattle.ring_knowledge.proofs.Noted.{noted_due, false_unless}
-use Rattle.ring_knowledge.proofs.Ranges.{filter_none, filter_only}
-use Rattle.ring_knowledge.proofs.DueNumbers.{link_of-crossed}
-use Rattle.ring_knowledge.proofs.DueWrites.{data_is, link_is, Gives, gives-true, GivesCrossing, gives_crossing-true}
+use Rattle.ring_knowledge.proofs.UpperLaws.{not-true, IsFromFloor, RingGiving, List, Contains, nat_le, nat_lt, leb-true, subst, gives_is, position_given_is, ◌≡◌, ◌+◌, ◌%◌, ◌<◌, ◌≤◌, ◌∷◌, ◌∙◌, ◌&&◌, ℕ, [], true, false, Option, None, Some, refl, ap, sym, arith, get_or, cond, not, max, option_map, IfSome, eq-eqb, ne_eqb, and_parts, AtData, AtLink, Shape, place_count, link_crossed, place_at, number, RingView, floor_number, gives, gives_crossing, due_positions, due_crossings, positions_given, crossings_given, link_of, is_crossing-from, RingRecord, is_noted, Position, Crossing, FollowsMarks, is_the, least_crossing, positions_of, crossings_of, rules, and_right, both_ways, noted_due, false_unless, filter_none, filter_only, link_of-crossed, data_is, link_is, Gives, gives-true, GivesCrossing, gives_crossing-true}
 
 module _ (shape : Shape) (v : RingView) (r : RingRecord) (follows : FollowsMarks shape v r) where
   -- the mark of a due position
@@ -92,12 +87,10 @@ module _ (shape : Shape) (v : RingView) (r : RingRecord) (follows : FollowsMarks
 
 -- a position is no crossing
 pub no_crossing_named : (o : Option ℕ) → [] ≡ crossings_of (option_map Position o)
-no_crossing_named None = refl
-no_crossing_named (Some p) = refl
+no_crossing_named o = grind arith
 
 pub no_position_named : (o : Option ℕ) → [] ≡ positions_of (option_map Crossing o)
-no_position_named None = refl
-no_position_named (Some q) = refl
+no_position_named o = grind arith
 
 -- a position that a write gives isn't below the floor
 pub given_at : (shape : Shape) (v : RingView) (a w : ℕ) (giving : Option RingGiving) (p : ℕ) → positions_given shape v a w ≡ positions_of giving → giving ≡ Some (Position p) → floor_number v ≤ p

@@ -26,3 +26,7 @@ pub mod Withdrawn
 pub mod Declared
 pub mod FlippedWords
 pub mod Words
+pub mod LowerLaws
+pub mod MiddleLaws
+pub mod UpperLaws
+pub mod Laws

@@ -1,6 +1,5 @@
 -- The test of a move, at the one spot that a pointer and a cycle state name
-use Rattle.ring_knowledge.proofs.Words.{rules, ◌≡◌, ◌+◌, ◌-◌, ◌<◌, ◌≤◌, ◌∷◌, ◌∙◌, ◌&&◌, ◌||◌, ℕ, List, [], Bool, true, false, Some, None, refl, ap, sym, arith, inl, inr, All, find, list_any, flat_map, range_with_len, cases_Bool, cond-true, cond-false, and_parts, or_cases, false≢true, none-some, All-head, All-tail, All-weaker, Spot, Data, Link, Shape, IsShape, place_count, number, RingView, is_target, spots_between, may_move_to, is_move, found_is, between}
-use Rattle.ring_knowledge.proofs.SpotsBetween.{target_parts, one_between}
+use Rattle.ring_knowledge.proofs.LowerLaws.{rules, ◌≡◌, ◌+◌, ◌-◌, ◌<◌, ◌≤◌, ◌∷◌, ◌∙◌, ◌&&◌, ◌||◌, ℕ, List, [], Bool, true, false, Some, None, refl, ap, sym, arith, inl, inr, All, find, list_any, cases_Bool, cond-true, cond-false, and_parts, or_cases, false≢true, none-some, All-head, All-tail, All-weaker, Spot, Shape, IsShape, place_count, number, RingView, is_target, spots_between, may_move_to, is_move, found_is, between, target_parts, one_between}
 
 module _ (f g : Spot → Bool) where
   -- where none passes the first test, none passes both
@@ -12,16 +11,9 @@ module _ (f g : Spot → Bool) where
     any_passes : (xs : List Spot) → All (λ u. f u ≡ true → u ≡ t) xs → list_any (λ u. f u && g u) xs ≡ true → g t ≡ true
     any_passes [] only any = absurd (false≢true any)
     any_passes (x ∷ rest) only any = elim (or_cases (f x && g x) (list_any (λ u. f u && g u) rest) any) [
-      | inl here ↦
-          let parts = and_parts (f x) (g x) here in
-          ap g (sym (All-head (λ u. f u ≡ true → u ≡ t) x rest only parts.0)) ∙ parts.1
+      | inl here ↦ grind (arith, and_parts, All-head)
       | inr later ↦ any_passes rest (All-tail (λ u. f u ≡ true → u ≡ t) x rest only) later
     ]
-
-    or_same : (a b : Bool) → (b ≡ true → a ≡ true) → (a || b) ≡ a
-    or_same true b h = refl
-    or_same false true h = sym (h refl)
-    or_same false false h = refl
 
     -- where one alone passes it, that one decides
     any_only : (xs : List Spot) → find f xs ≡ Some t → All (λ u. f u ≡ true → u ≡ t) xs → list_any (λ u. f u && g u) xs ≡ g t
@@ -29,10 +21,7 @@ module _ (f g : Spot → Bool) where
     any_only (x ∷ rest) found only =
         let tail = All-tail (λ u. f u ≡ true → u ≡ t) x rest only in
         elim (cases_Bool (f x)) [
-          | inl passes ↦
-              let same : x ≡ t = All-head (λ u. f u ≡ true → u ≡ t) x rest only passes in
-              ap (λ b. (b && g x) || list_any (λ u. f u && g u) rest) passes ∙ ap (λ u. g u || list_any (λ w. f w && g w) rest) same
-              ∙ or_same (g t) (list_any (λ u. f u && g u) rest) (any_passes rest tail)
+          | inl passes ↦ grind (arith, All-head, any_passes)
           | inr fails ↦
               ap (λ b. (b && g x) || list_any (λ u. f u && g u) rest) fails
               ∙ any_only rest (sym (cond-false (f x) (Some x) (find f rest) fails) ∙ found) tail
@@ -46,9 +35,7 @@ module _ (shape : Shape) (v : RingView) (address : ℕ) (cycle : Bool) (least mo
   -- between two numbers of which the second is lower lies no spot
   pub no_move_between : most < least → false ≡ is_move shape v address cycle least most
   unfolding is_move spots_between
-  no_move_between none =
-      let empty : most + 1 - least ≡ 0 = omega arith in
-      sym (ap (λ n. list_any (λ u. is_target shape address cycle u && may_move_to shape v u) (flat_map (λ q. Link q ∷ Data q ∷ []) (range_with_len least n))) empty)
+  no_move_between none = grind arith
 
   pub one_move : IsShape shape → most < least + place_count shape → (t : Spot) → Some t ≡ find (is_target shape address cycle) (spots_between least most) →
       may_move_to shape v t ≡ is_move shape v address cycle least most

@@ -1,5 +1,5 @@
 -- What an event names, and where a pointer and a cycle state stand, by the first spot at an address
-use Rattle.ring_knowledge.proofs.Words.{◌≡◌, ◌≢◌, ◌<◌, ◌≤◌, ◌∙◌, ◌^◌, ℕ, Bool, Option, Some, None, ap, sym, arith, inl, inr, subst, IfSome, find, Spot, Shape, IsSpot, number, spot_address, named_spot, RingView, declared, floor_number, named, is_target, spots_between, target, cases_option, rank_least, rank_most, IsNamed, named_spot-Some, named_spot-is, IsFirstAt, rules}
+use Rattle.ring_knowledge.proofs.Words.{◌≡◌, ◌≢◌, ◌<◌, ◌≤◌, ◌^◌, ℕ, Bool, Option, Some, None, sym, arith, inl, inr, subst, IfSome, find, Spot, Shape, IsSpot, number, spot_address, named_spot, RingView, declared, floor_number, named, is_target, spots_between, target, cases_option, rank_least, rank_most, IsNamed, named_spot-Some, named_spot-is, IsFirstAt, rules}
 
 module _ (shape : Shape) (v : RingView) (is : IsSpot shape v.floor) (address : ℕ) where
   -- no spot lies at the address
@@ -35,11 +35,8 @@ module _ (shape : Shape) (v : RingView) (is : IsSpot shape v.floor) (address : �
 pub target_is : (shape : Shape) (v : RingView) (address : ℕ) (cycle : Bool) (least most : ℕ) → least ≡ floor_number v → most ≡ declared v →
     find (is_target shape address cycle) (spots_between least most) ≡ target shape v address cycle
 unfolding target
-target_is shape v address cycle least most floor end =
-    ap (λ n. find (is_target shape address cycle) (spots_between n most)) floor
-    ∙ ap (λ n. find (is_target shape address cycle) (spots_between (floor_number v) n)) end
+target_is shape v address cycle least most floor end = grind arith
 
 -- a spot within a bound has a small number
 pub few_within : (o : Option Spot) (most : ℕ) → most < 2 ^ 63 → IfSome o (λ t. number t ≤ most) → IfSome o (λ t. number t < 2 ^ 63)
-few_within None most few within = within
-few_within (Some t) most few within = omega arith
+few_within o most few within = grind arith

@@ -1,15 +1,12 @@
 -- Which numbers a list of marks notes as given
-use Rattle.ring_knowledge.proofs.Words.{◌≡◌, ◌+◌, ◌<◌, ◌≤◌, ◌==◌, ◌||◌, ℕ, List, Bool, true, false, refl, arith, length, get_or, set, lt-ltb, le-ltb, eq-eqb, ne_eqb, get_or-set_same, get_or-set_other, cases_lt, is_noted, rules}
-use Rattle.ring_knowledge.proofs.Ranges.{or_false}
+use Rattle.ring_knowledge.proofs.LowerLaws.{◌≡◌, ◌+◌, ◌<◌, ◌≤◌, ◌==◌, ◌||◌, ℕ, List, Bool, true, false, refl, arith, length, get_or, set, lt-ltb, le-ltb, eq-eqb, ne_eqb, get_or-set_same, get_or-set_other, cases_lt, is_noted, rules, or_false}
 
 pub or_true : (b : Bool) → (b || true) ≡ true
-or_true true = refl
-or_true false = refl
+or_true b = grind arith
 
 -- what isn't true is false
 pub false_unless : (b : Bool) → (b ≡ true → ⊥) → b ≡ false
-false_unless true h = absurd (h refl)
-false_unless false h = refl
+false_unless b h = grind arith
 
 module _ (least count : ℕ) (marks : List Bool) (i n : ℕ) where
   -- below the least due one
@@ -35,5 +32,4 @@ module _ (least count : ℕ) (marks : List Bool) (i n : ℕ) where
 pub noted_more : (least count : ℕ) (marks : List Bool) (i j n m : ℕ) → least ≤ m → m < least + count → j < length marks →
     (n ≡ m → i ≡ j) → (least ≤ n → n < least + count → i ≡ j → n ≡ m) →
     is_noted least count (set marks j true) i n ≡ (is_noted least count marks i n || (n == m))
-noted_more least count marks i j n m low high inside same only =
-    search (rules, length, set, cases_lt, noted_below, ne_eqb, noted_past, noted_due, eq-eqb, get_or, get_or-set_same, or_true, get_or-set_other, or_false)
+noted_more least count marks i j n m low high inside same only = grind (arith, set, cases_lt, noted_below, ne_eqb, noted_past, noted_due, eq-eqb, get_or-set_same, or_true, get_or-set_other, or_false)

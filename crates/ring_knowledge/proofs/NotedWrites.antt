@@ -1,8 +1,5 @@
 -- A record with the mark of what a write gives follows what is known after the write
-use Rattle.ring_knowledge.proofs.Words.{none-some, drop, ◌≡◌, ◌+◌, ◌%◌, ◌<◌, ◌≤◌, ◌∷◌, ◌∙◌, ◌==◌, ◌&&◌, ◌||◌, ℕ, List, [], Bool, true, false, None, Some, refl, get_or, ap, sym, arith, inl, inr, length, set, subst, Contains, eq-eqb, ne_eqb, length-set, mod-lt, cases_Bool, false≢true, Shape, place_count, links, link_crossed, is_crossing, RingView, Writes, changed, floor_number, gives, gives_crossing, positions_given, crossings_given, is_step_given, is_way_given, link_of, place_count_pos, crossed_link, is_crossing-from, gives_is, position_given, position_given_is, crossing_given, crossing_given_is, RingRecord, is_noted, FollowsMarks, FollowsRing, least_crossing, contains, nat_cmp, or_left, rules}
-use Rattle.ring_knowledge.proofs.Noted.{false_unless, noted_more}
-use Rattle.ring_knowledge.proofs.DueNumbers.{same_due, same_due_crossing, link_of-crossed}
-use Rattle.ring_knowledge.proofs.DueWrites.{GivesCrossing, gives_crossing-true}
+use Rattle.ring_knowledge.proofs.UpperLaws.{none-some, ◌≡◌, ◌+◌, ◌%◌, ◌<◌, ◌≤◌, ◌∷◌, ◌∙◌, ◌==◌, ◌&&◌, ◌||◌, ℕ, List, [], Bool, true, false, None, Some, refl, get_or, ap, sym, arith, inl, inr, length, set, subst, Contains, eq-eqb, ne_eqb, length-set, mod-lt, cases_Bool, false≢true, Shape, place_count, links, link_crossed, is_crossing, RingView, Writes, changed, floor_number, gives, gives_crossing, positions_given, crossings_given, is_step_given, is_way_given, link_of, place_count_pos, crossed_link, is_crossing-from, gives_is, position_given, position_given_is, crossing_given, crossing_given_is, RingRecord, is_noted, FollowsMarks, FollowsRing, least_crossing, or_left, rules, false_unless, noted_more, same_due, same_due_crossing, link_of-crossed, GivesCrossing, gives_crossing-true}
 
 none_in : (n : ℕ) → Contains [] n → ⊥
 none_in n c = omega (arith, c.1)
@@ -56,27 +53,7 @@ module _ (shape : Shape) (v : RingView) (a w : ℕ) where
         ((p : ℕ) → (v.given p || gives shape v.floor p a w) ≡ is_noted (floor_number v) (place_count shape) given (p % place_count shape) p) →
         ((q : ℕ) → (v.crossed q || gives_crossing shape v.floor q a w) ≡ (is_crossing shape q && is_noted (least_crossing v) (place_count shape) crossed (link_of shape q) q)) →
         (n : RingRecord) → HasMarks r n given crossed → FollowsMarks shape (changed shape v (Writes a w)) n
-    with_marks given crossed places segments positions crossings n has = record {
-      allowed = follows.allowed;
-      passed = rw has.forgotten follows.passed;
-      queue = ap (λ k. drop k v.queue) has.forgotten ∙ follows.queue ∙ sym has.blocks;
-      count = omega (arith, follows.count, has.forgotten, ap length has.blocks);
-      floor = follows.floor ∙ sym has.floor;
-      held = follows.held ∙ sym has.held;
-      begins = rw (has.lengths, has.forgotten) follows.begins;
-      as_many = ap length has.lengths ∙ follows.as_many ∙ sym (ap length has.blocks);
-      whole = follows.whole;
-      positive = follows.positive;
-      room = follows.room;
-      places = ap length has.given_is ∙ places ∙ follows.places;
-      given = λ p. positions p ∙ ap (λ marks. is_noted (floor_number v) (place_count shape) marks (p % place_count shape) p) (sym has.given_is);
-      segments = omega (arith, follows.segments, segments, ap length has.crossed_is);
-      crossed = λ q. crossings q ∙ ap (λ marks. is_crossing shape q && is_noted (least_crossing v) (place_count shape) marks (link_of shape q) q) (sym has.crossed_is);
-      withdrawn = λ p kept. follows.withdrawn p (omega (arith, has.forgotten, kept)) ∙ ap (λ s. contains nat_cmp s p) (sym has.withdrawn);
-      free = λ p. follows.free p ∙ ap (λ s. contains nat_cmp s p) (sym has.free);
-      free_withdrawn = follows.free_withdrawn;
-      free_given = λ p free. or_left (v.given p) (gives shape v.floor p a w) (follows.free_given p free);
-    }
+    with_marks given crossed places segments positions crossings n has = grind (arith, or_left)
 
     -- a write that gives nothing
     pub nothing_noted : FollowsRing shape v r → positions_given shape v a w ≡ [] → crossings_given shape v a w ≡ [] → FollowsRing shape (changed shape v (Writes a w)) r
@@ -101,9 +78,7 @@ module _ (shape : Shape) (v : RingView) (a w : ℕ) where
 
     -- a crossing that is given leads over a Link
     pub over_a_link : (m : ℕ) → crossings_given shape v a w ≡ m ∷ [] → link_crossed shape m ≡ None → ⊥
-    over_a_link m one none =
-        let found = gives_crossing-true shape follows.allowed v.floor m a w (crossing_gives m one) in
-        none-some found.0 (sym none ∙ found.1.over)
+    over_a_link m one none = grind (arith, gives_crossing-true, crossing_gives, none-some, gives_crossing-true shape follows.allowed v.floor m a w (crossing_gives m one))
 
     -- a write that gives crossing m, over the Link of segment j
     pub crossing_noted : (j m : ℕ) → j < length (links shape) → link_crossed shape m ≡ Some j → positions_given shape v a w ≡ [] → crossings_given shape v a w ≡ m ∷ [] →

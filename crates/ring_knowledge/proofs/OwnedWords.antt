@@ -1,17 +1,12 @@
 -- Which words of a ring its controller may own, by the place of the address
-use Rattle.ring_knowledge.proofs.Words.{none-some, ◌≡◌, ◌+◌, ◌/◌, ◌%◌, ◌<◌, ◌≤◌, ◌∙◌, ◌&&◌, ◌||◌, ℕ, Bool, true, false, Some, None, refl, ap, sym, arith, length, slice_index, get_or, nat_lt, lt-ltb, ltb-true, list_any, range_with_len, and_parts, and_from, AtData, AtLink, Shape, place_count, address_of, links, link_crossed, is_crossing, link_address, overlap, place_at, RingView, floor_number, due_positions, due_crossings, leased_positions, leased_crossings, is_handed_over, contains, nat_cmp, not, link_of, place_count_pos, place_below, address_aligned, address_of-first, address_of-mod, link_aligned, crosses, crossed_link, crossing_positive, is_crossing-from, link_address_is, place_at-data, place_at-link, place_at-Data, place_at-Link, RingRecord, is_noted, FollowsMarks, least_crossing, rules}
-use Rattle.ring_knowledge.proofs.Noted.{noted_due, noted_within, false_unless}
-use Rattle.ring_knowledge.proofs.Ranges.{any_filtered, any_none, any_only, or_false}
-use Rattle.ring_knowledge.proofs.DueNumbers.{IsDue, link_of-crossed, due_number, same_due, due_crossing, same_due_crossing}
-use Rattle.ring_knowledge.proofs.DueWrites.{data_is, data_no_link, link_is}
+use Rattle.ring_knowledge.proofs.UpperLaws.{none-some, ◌≡◌, ◌+◌, ◌/◌, ◌%◌, ◌<◌, ◌≤◌, ◌∙◌, ◌&&◌, ◌||◌, ℕ, Bool, true, false, Some, None, ap, sym, arith, length, slice_index, get_or, nat_lt, lt-ltb, ltb-true, list_any, range_with_len, and_parts, and_from, AtData, AtLink, Shape, place_count, address_of, links, link_crossed, is_crossing, link_address, overlap, place_at, RingView, floor_number, due_positions, due_crossings, leased_positions, leased_crossings, is_handed_over, contains, nat_cmp, not, link_of, place_count_pos, place_below, address_aligned, address_of-mod, link_aligned, crosses, crossed_link, crossing_positive, is_crossing-from, link_address_is, place_at-data, place_at-link, place_at-Data, place_at-Link, RingRecord, is_noted, FollowsMarks, least_crossing, rules, noted_due, noted_within, false_unless, any_filtered, any_none, any_only, or_false, IsDue, link_of-crossed, due_number, same_due, due_crossing, same_due_crossing, data_is, data_no_link, link_is}
 
 -- a word and a block with a byte in common: the word is one of the block's
 word_inside : (a b : ℕ) → a % 4 ≡ 0 → b % 16 ≡ 0 → a < b + 16 → b < a + 4 → b ≤ a
 word_inside a b word block near far = omega arith
 
 and_true : (b : Bool) → (b && true) ≡ b
-and_true true = refl
-and_true false = refl
+and_true b = grind arith
 
 module _ (shape : Shape) (v : RingView) (r : RingRecord) (follows : FollowsMarks shape v r) (a : ℕ) (word : a % 4 ≡ 0) where
   -- a word with a byte of a position's block is a word of its place
@@ -22,9 +17,7 @@ module _ (shape : Shape) (v : RingView) (r : RingRecord) (follows : FollowsMarks
       let far = ltb-true (address_of shape p) (a + 4) bytes.1 in
       let low : address_of shape p ≤ a = word_inside a (address_of shape p) word (address_aligned shape follows.allowed p) near far in
       let below = place_below shape follows.allowed p in
-      let first = address_of-first shape (p % place_count shape) below in
-      let same = address_of-mod shape follows.allowed p in
-      place_at-data shape follows.allowed (p % place_count shape) a below word (omega (arith, first, same)) (omega (arith, first, same))
+      search (rules, place_at-data)
 
   -- one with a byte of a crossed Link is a word of the Link
   of_link : (q j : ℕ) → link_crossed shape q ≡ Some j → overlap a 4 (link_address shape q) 16 ≡ true → place_at shape a ≡ Some (AtLink j (a % 16 / 4))
@@ -35,8 +28,7 @@ module _ (shape : Shape) (v : RingView) (r : RingRecord) (follows : FollowsMarks
       let inside : j < length (links shape) = (crosses shape q j over).link in
       let at = link_address_is shape q j over in
       let aligned = link_aligned shape follows.allowed j inside in
-      let low : slice_index (links shape) j ≤ a = word_inside a (slice_index (links shape) j) word aligned (omega (arith, at)) (omega (arith, at)) in
-      place_at-link shape follows.allowed j a inside word low (omega (arith, at))
+      grind (arith, slice_index, word_inside, place_at-link)
 
   positions_are : list_any (λ p. overlap a 4 (address_of shape p) 16) (leased_positions shape v)
       ≡ list_any (λ p. is_handed_over v p && overlap a 4 (address_of shape p) 16) (range_with_len (floor_number v) (place_count shape))
@@ -82,8 +74,7 @@ module _ (shape : Shape) (v : RingView) (r : RingRecord) (follows : FollowsMarks
 
   -- it is given as its place's mark says
   given_here : (i p : ℕ) → IsDue (floor_number v) (place_count shape) i p → v.given p ≡ get_or r.given.items i false
-  given_here i p due =
-      follows.given p ∙ noted_due (floor_number v) (place_count shape) r.given.items (p % place_count shape) p due.from due.within ∙ ap (λ n. get_or r.given.items n false) due.rest_is
+  given_here i p due = grind (arith, noted_due)
 
   -- where its mark is set, they are owned unless it is free
   pub owned_data : (i w : ℕ) (kept : Bool) → place_at shape a ≡ Some (AtData i w) → get_or r.given.items i false ≡ true →
@@ -138,7 +129,4 @@ module _ (shape : Shape) (v : RingView) (r : RingRecord) (follows : FollowsMarks
   -- elsewhere
   pub owned_nowhere : place_at shape a ≡ None → false
       ≡ (list_any (λ p. overlap a 4 (address_of shape p) 16) (leased_positions shape v) || list_any (λ q. overlap a 4 (link_address shape q) 16) (leased_crossings shape v))
-  owned_nowhere at =
-      let positions = no_positions (λ j u e. none-some (AtData j u) (sym at ∙ e)) in
-      let crossings = no_crossings (λ j u e. none-some (AtLink j u) (sym at ∙ e)) in
-      sym (ap (λ b. b || list_any (λ q. overlap a 4 (link_address shape q) 16) (leased_crossings shape v)) positions ∙ crossings)
+  owned_nowhere at = grind (arith, no_positions, none-some, no_crossings)

@@ -1,6 +1,5 @@
 -- The spots that events and completions let a record reach
-use Rattle.ring_knowledge.proofs.Words.{◌≡◌, ◌<◌, ℕ, true, refl, Spot, Data, Link, Shape, after, RingView, Holds, changed, given_count, is_way_given, is_reached, are_given, are_ways_given, after_is, RingRecord, FollowsRing, rules}
-use Rattle.ring_knowledge.proofs.GivenCount.{count_is}
+use Rattle.ring_knowledge.proofs.UpperLaws.{◌≡◌, ◌<◌, ℕ, true, refl, Spot, Data, Link, Shape, after, RingView, Holds, changed, given_count, is_way_given, is_reached, are_given, are_ways_given, after_is, RingRecord, FollowsRing, rules, count_is}
 use Rattle.ring_knowledge.proofs.StopSpots.{reached_block, reached_link, way_without}
 
 -- the spot behind a block that is given with all before it

@@ -1,6 +1,5 @@
 -- Tests over a run of numbers of which at most one passes
-use Rattle.ring_knowledge.proofs.Words.{rules, ◌≡◌, ◌≢◌, ◌+◌, ◌<◌, ◌≤◌, ◌∷◌, ◌∙◌, ◌||◌, ◌&&◌, ℕ, suc, zero, List, [], Bool, true, false, refl, ap, arith, inl, inr, cond, filter, range_with_len, list_any, cases_eq, or_left, or_right}
-use Rattle.std.proofs.lemmas.Bool.{or_parts}
+use Rattle.ring_knowledge.proofs.Words.{rules, ◌≡◌, ◌≢◌, ◌+◌, ◌<◌, ◌≤◌, ◌∷◌, ◌∙◌, ◌||◌, ◌&&◌, ℕ, suc, zero, List, [], Bool, true, false, refl, ap, arith, inl, inr, cond, filter, range_with_len, list_any, cases_eq, or_left, or_right, or_parts}
 
 -- no number passes
 pub any_none : (f : ℕ → Bool) (a n : ℕ) → ((p : ℕ) → a ≤ p → p < a + n → f p ≡ false) → list_any f (range_with_len a n) ≡ false
@@ -8,8 +7,7 @@ any_none f a zero h = refl
 any_none f a (suc n) h = search (rules, list_any, range_with_len, any_none f (a + 1) n)
 
 pub or_false : (b : Bool) → (b || false) ≡ b
-or_false true = refl
-or_false false = refl
+or_false b = grind arith
 
 -- no number but j passes
 pub any_only : (f : ℕ → Bool) (a n j : ℕ) → a ≤ j → j < a + n → ((p : ℕ) → a ≤ p → p < a + n → p ≢ j → f p ≡ false) → list_any f (range_with_len a n) ≡ f j
@@ -18,10 +16,7 @@ any_only f a (suc n) j l u h = elim (cases_eq a j) [
   | inl same ↦
       let rest : list_any f (range_with_len (a + 1) n) ≡ false = any_none f (a + 1) n (λ p l' u'. h p (omega arith) (omega arith) (omega arith)) in
       rw (rest, or_false (f a)) (ap f same)
-  | inr other ↦
-      let here : f a ≡ false = h a (omega arith) (omega arith) other in
-      let rest : list_any f (range_with_len (a + 1) n) ≡ f j = any_only f (a + 1) n j (omega arith) (omega arith) (λ p l' u' ne. h p (omega arith) (omega arith) ne) in
-      rw (here, rest) refl
+  | inr other ↦ grind (arith, any_only f (a + 1) n j (omega arith) (omega arith) (λ p l' u' ne. h p (omega arith) (omega arith) ne))
 ]
 
 pub filter_none : (f : ℕ → Bool) (a n : ℕ) → ((p : ℕ) → a ≤ p → p < a + n → f p ≡ false) → filter f (range_with_len a n) ≡ []
@@ -55,5 +50,4 @@ any_same f g (x ∷ xs) same = ap (λ b. b || list_any f xs) (same x) ∙ ap (λ
 -- the same of the numbers of a run
 pub any_same_from : (f g : ℕ → Bool) (a n : ℕ) → ((p : ℕ) → a ≤ p → f p ≡ g p) → list_any f (range_with_len a n) ≡ list_any g (range_with_len a n)
 any_same_from f g a zero same = refl
-any_same_from f g a (suc n) same =
-    ap (λ b. b || list_any f (range_with_len (a + 1) n)) (same a (omega arith)) ∙ ap (λ b. g a || b) (any_same_from f g (a + 1) n (λ p late. same p (omega arith)))
+any_same_from f g a (suc n) same = grind (arith, any_same_from f g (a + 1) n (λ p late. same p (omega arith)))

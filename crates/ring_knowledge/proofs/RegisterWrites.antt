@@ -1,5 +1,5 @@
 -- What a record of the registers holds after one is written
-use Rattle.ring_knowledge.proofs.Words.{◌≡◌, ◌<◌, ◌∷◌, ◌==◌, ◌&&◌, ◌||◌, if◌then◌else◌, ℕ, List, [], false, Option, Some, None, refl, length, set, get_or, get_or-set_other, get_or-set_same, not, eqb-true, length-set, cases_Bool, nat_tests, Header, Register, Usbcmd, ordinal, with_register, run_bit, reset_bit, Known, nothing, register_written, run_or_stop, valued, FollowsRegisters, RegisterRecord, rules}
+use Rattle.ring_knowledge.proofs.Words.{arith, ◌≡◌, ◌<◌, ◌∷◌, ◌==◌, ◌&&◌, ◌||◌, if◌then◌else◌, ℕ, List, [], false, Option, Some, None, refl, length, set, get_or, get_or-set_other, get_or-set_same, not, eqb-true, length-set, cases_Bool, nat_tests, Header, Register, Usbcmd, ordinal, with_register, run_bit, reset_bit, Known, nothing, register_written, run_or_stop, valued, FollowsRegisters, RegisterRecord, rules}
 
 value_at : (values : List (Option ℕ)) (n m : ℕ) (x : Option ℕ) → n < length values → get_or (set values n x) m None ≡ (if m == n then x else get_or values m None)
 value_at values n m x below = search (rules, length, get_or, set, eqb-true, get_or-set_same, get_or-set_other, nat_tests)
@@ -20,14 +20,12 @@ module _ (k : Known) (v : ℕ) where
 
 pub registers_after : (h : Header) (k : Known) (r : Register) (v : ℕ) → (register_written h k r v).register ≡ with_register k.register r v
 unfolding register_written valued
-registers_after h k Usbcmd v = runs_registers (valued k Usbcmd v) v
-registers_after h k _ v = refl
+registers_after h k r v = grind (arith, runs_registers)
 
 -- of another register than USBCMD
 pub others_same : (h : Header) (k : Known) (r : Register) (v : ℕ) → (r ≡ Usbcmd → ⊥) → ((register_written h k r v).started ≡ k.started) × ((register_written h k r v).stopped ≡ k.stopped)
 unfolding register_written valued
-others_same h k Usbcmd v other = absurd (other refl)
-others_same h k _ v other = (refl, refl)
+others_same h k r v other = grind arith
 
 module _ (h : Header) (k : Known) (r : RegisterRecord) (f : FollowsRegisters k r) (q : Register) (v n : ℕ) (is : n ≡ ordinal q) (below : n < 11) where
   values_after : (p : Register) → (register_written h k q v).register p ≡ get_or (set r.values n (Some v)) (ordinal p) None
@@ -55,5 +53,4 @@ unfolding nothing no_value
 follows_nothing = record { started = refl; stopped = refl; as_many = refl; values = none_written }
   where
     none_written : (q : Register) → no_value ≡ get_or (None ∷ None ∷ None ∷ None ∷ None ∷ None ∷ None ∷ None ∷ None ∷ None ∷ None ∷ []) (ordinal q) None
-    none_written Usbcmd = refl
-    none_written _ = refl
+    none_written q = grind arith

@@ -1,5 +1,5 @@
 -- The first spot from another one on at an address, by the place of the address
-use Rattle.ring_knowledge.proofs.Words.{◌≡◌, ◌≢◌, ◌+◌, ◌%◌, ◌<◌, ◌≤◌, ◌∙◌, ℕ, Some, None, refl, ap, sym, arith, inl, inr, slice_index, cases_lt, AtData, AtLink, Spot, Data, Link, Shape, IsShape, place_count, address_of, links, link_crossed, link_address, place_at, IsSpot, number, rank, spot_address, link_aligned, address_aligned, address_of-mod, same_position, place_at-Data, place_at-Link, place_at-None, place_at-None_link, crosses, crossed_link, crossing_positive, is_crossing-from, link_address_is, same_crossing_at, rank_least, rank_most, data_not_link, IsFirstAt, rules}
+use Rattle.ring_knowledge.proofs.Words.{◌≡◌, ◌≢◌, ◌+◌, ◌%◌, ◌<◌, ◌≤◌, ◌∙◌, ℕ, Some, None, ap, sym, arith, inl, inr, slice_index, cases_lt, AtData, AtLink, Spot, Data, Link, Shape, IsShape, place_count, address_of, links, link_crossed, link_address, place_at, IsSpot, number, rank, spot_address, link_aligned, address_aligned, address_of-mod, same_position, place_at-Data, place_at-Link, place_at-None, place_at-None_link, crosses, crossed_link, crossing_positive, is_crossing-from, link_address_is, same_crossing_at, rank_least, rank_most, data_not_link, IsFirstAt, rules}
 
 module _ (shape : Shape) (is : IsShape shape) (address : ℕ) where
   -- no spot lies off the boundaries of blocks
@@ -20,20 +20,12 @@ module _ (shape : Shape) (is : IsShape shape) (address : ℕ) where
       place_at-None_link shape is address over.0 0 none (crosses shape q over.0 over.1).link (omega arith) (omega arith)
 
   module _ (from : Spot) (boundary : address % 16 ≡ 0) where
-    -- no spot at the address of a position comes before it, less than a lap from another one on
-    least_position : (p : ℕ) → p < number from + place_count shape → address_of shape p ≡ address → (u : Spot) → IsSpot shape u → rank from ≤ rank u →
-        spot_address shape u ≡ address → rank (Data p) ≤ rank u
-    least_position p near at (Link q) spot later same = search (rules, data_not_link, cases_lt, same_position, rank_least)
-    least_position p near at (Data q) spot later same = search (rules, data_not_link, cases_lt, same_position, rank_least)
-
     -- the position that is due at the place of an address
     pub first_position : (place word p : ℕ) → place_at shape address ≡ Some (AtData place word) → number from ≤ p → p < number from + place_count shape →
         p % place_count shape ≡ place → IsFirstAt shape from address (Data p)
     first_position place word p found low near rest =
         let here = place_at-Data shape is address place word found in
-        let aligned = address_aligned shape is place in
-        let at : address_of shape p ≡ address = sym (address_of-mod shape is p) ∙ ap (λ n. address_of shape n) rest ∙ omega (arith, here.1, here.2) in
-        record { spot = refl; later = omega (arith, rank_most from); at = at; least = least_position p near at }
+        grind (arith, address_aligned, address_of-mod, rank_most, data_not_link, cases_lt, same_position, rank_least)
 
     -- no spot at the address of a Link comes before its next crossing
     least_crossing_at : (passed q : ℕ) → ((r : ℕ) → 0 < r → rank from ≤ rank (Link r) → passed < r) → q ≤ passed + place_count shape → IsSpot shape (Link q) →
@@ -53,5 +45,4 @@ module _ (shape : Shape) (is : IsShape shape) (address : ℕ) where
     first_crossing_at segment word passed q found behind ahead low near over =
         let here = place_at-Link shape is address segment word found in
         let at : link_address shape q ≡ address = link_address_is shape q segment over ∙ omega (arith, link_aligned shape is segment here.0, here.1, here.2) in
-        let crossing = is_crossing-from shape q segment over in
-        record { spot = crossing; later = ahead q low; at = at; least = least_crossing_at passed q behind near crossing at }
+        search (rules, is_crossing-from, least_crossing_at)

@@ -9,15 +9,11 @@ find_none : (f : Spot → Bool) (a n : ℕ) → ((u : Spot) → a ≤ number u �
 find_none f a zero none = refl
 find_none f a (suc n) none = search (rules, flat_map, range_with_len, cond-false, find, false_from_ne_true, find_none f (a + 1) n)
 
-not_here : (f : Spot → Bool) (a : ℕ) (t : Spot) → f (Link a) ≡ false → f (Data a) ≡ false → f t ≡ true → number t ≢ a
-not_here f a (Data q) no_link no_block passes same = false≢true (sym no_block ∙ ap (λ n. f (Data n)) (sym same) ∙ passes)
-not_here f a (Link q) no_link no_block passes same = false≢true (sym no_link ∙ ap (λ n. f (Link n)) (sym same) ∙ passes)
-
 -- one spot passes
 find_only : (f : Spot → Bool) (a n : ℕ) (t : Spot) → a ≤ number t → number t < a + n → f t ≡ true →
     ((u : Spot) → a ≤ number u → number u < a + n → f u ≡ true → u ≡ t) → find f (flat_map (λ q. Link q ∷ Data q ∷ []) (range_with_len a n)) ≡ Some t
 find_only f a zero t low high passes only = absurd (omega arith)
-find_only f a (suc n) t low high passes only = search (rules, flat_map, range_with_len, cases_Bool, cond-true, find, cond-false, not_here, number, cases_eq, find_only f (a + 1) n t)
+find_only f a (suc n) t low high passes only = search (rules, flat_map, range_with_len, cases_Bool, cond-true, find, cond-false, false≢true, number, cases_eq, find_only f (a + 1) n t)
 
 -- ---- the targets of a pointer and a cycle state
 
@@ -28,9 +24,7 @@ target_parts shape address cycle t h = search (rules, and_parts, is_spot, spot_a
 target_test : (shape : Shape) (address : ℕ) (cycle : Bool) (t : Spot) → IsSpot shape t → spot_address shape t ≡ address →
     (spot_cycle shape t == (if cycle then 1 else 0)) ≡ true → is_target shape address cycle t ≡ true
 unfolding is_target
-target_test shape address cycle t is at has =
-    and_from (is_spot shape t && spot_address shape t == address) (spot_cycle shape t == (if cycle then 1 else 0))
-    (and_from (is_spot shape t) (spot_address shape t == address) is (eq-eqb (spot_address shape t) address at)) has
+target_test shape address cycle t is at has = grind (arith, and_from, eq-eqb)
 
 target_cycle : (shape : Shape) (address : ℕ) (cycle : Bool) (t : Spot) → is_target shape address cycle t ≡ true → (spot_cycle shape t == (if cycle then 1 else 0)) ≡ true
 unfolding is_target
@@ -45,9 +39,7 @@ module _ (shape : Shape) (is : IsShape shape) (address : ℕ) (cycle : Bool) (le
   -- with no spot at the address there is none
   pub none_between : ((t : Spot) → IsSpot shape t → spot_address shape t ≢ address) → None ≡ find (is_target shape address cycle) (spots_between least most)
   unfolding spots_between
-  none_between nowhere =
-      sym (find_none (is_target shape address cycle) least (most + 1 - least) (λ u low high passes.
-      let at = target_parts shape address cycle u passes in nowhere u at.0 at.1))
+  none_between nowhere = grind (arith, find_none, target_parts)
 
   module _ (near : most < least + place_count shape) (t : Spot) (first : IsFirstAt shape (Link least) address t) where
     -- only the first spot from the least number on can be it

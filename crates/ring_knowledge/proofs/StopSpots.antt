@@ -1,12 +1,8 @@
 -- A spot at which a controller may have stopped is one before which all is given, on a ring that a record follows
-use Rattle.ring_knowledge.proofs.Words.{in_range_all, all_in_range, ◌≡◌, ◌≢◌, ◌+◌, ◌-◌, ◌<◌, ◌≤◌, ◌∙◌, ◌||◌, ℕ, suc, zero, Bool, true, false, None, Some, refl, ap, sym, arith, inl, inr, not, is_some, nat_lt, nat_le, lt-ltb, le-ltb, le-leb, leb-true, ltb-true, eq-eqb, eqb-true, ne_eqb, cases_lt, and_parts, and_from, or_cases, or_left, or_right, false≢true, Spot, Data, Link, Shape, place_count, is_crossing, link_crossed, RingView, is_way_given, is_step_given, given_count, is_stop_spot, stopped_number, is_reached, are_given, are_ways_given, link_of, is_crossing-from, RingRecord, is_noted, FollowsMarks, FollowsRing, least_crossing, rules}
-use Rattle.ring_knowledge.proofs.DueNumbers.{link_of-crossed}
-use Rattle.ring_knowledge.proofs.GivenCount.{count_is}
+use Rattle.ring_knowledge.proofs.UpperLaws.{in_range_all, all_in_range, ◌≡◌, ◌≢◌, ◌+◌, ◌-◌, ◌<◌, ◌≤◌, ◌∙◌, ◌||◌, ℕ, suc, zero, Bool, true, false, None, Some, refl, ap, sym, arith, inl, inr, not, is_some, nat_lt, nat_le, lt-ltb, le-ltb, le-leb, leb-true, ltb-true, eq-eqb, eqb-true, ne_eqb, cases_lt, and_parts, and_from, or_cases, or_left, or_right, false≢true, Spot, Data, Link, Shape, place_count, is_crossing, link_crossed, RingView, is_way_given, is_step_given, given_count, is_stop_spot, stopped_number, is_reached, are_given, are_ways_given, link_of, is_crossing-from, RingRecord, is_noted, FollowsMarks, FollowsRing, least_crossing, rules, link_of-crossed, count_is}
 
 same_tests : (a b : Bool) → (a ≡ true → b ≡ true) → (b ≡ true → a ≡ true) → a ≡ b
-same_tests true b f g = sym (f refl)
-same_tests false true f g = g refl
-same_tests false false f g = refl
+same_tests a b f g = grind arith
 
 -- ---- the way to a position
 
@@ -60,22 +56,16 @@ module _ (shape : Shape) (v : RingView) where
 
   pub reached_link : (q : ℕ) → ((p : ℕ) → p < q → is_step_given shape v p ≡ true) → is_reached shape v (Link q) ≡ true
   unfolding is_reached
-  reached_link q steps =
-      and_from (are_given v q) (are_ways_given shape v (q - 1)) (all_given q steps)
-      (all_ways (q - 1) (λ p some near. (step_parts shape v p (steps p (omega arith))).1))
+  reached_link q steps = grind (arith, and_from, all_given, all_ways, step_parts)
 
   -- before what is reached all steps are given
   steps_to_block : (q : ℕ) → is_reached shape v (Data q) ≡ true → ((p : ℕ) → p < q → is_step_given shape v p ≡ true) × (is_way_given shape v q ≡ true)
   unfolding is_reached
-  steps_to_block q reached =
-      let parts = and_parts (are_given v q) (are_ways_given shape v q) reached in
-      (λ p below. step_both shape v p (given_at q parts.0 p below) (way_at q parts.1 p (omega arith)), way_at q parts.1 q (omega arith))
+  steps_to_block q reached = grind (arith, and_parts, step_both, given_at, way_at)
 
   steps_to_link : (q : ℕ) → is_reached shape v (Link q) ≡ true → (p : ℕ) → p < q → is_step_given shape v p ≡ true
   unfolding is_reached
-  steps_to_link q reached p below =
-      let parts = and_parts (are_given v q) (are_ways_given shape v (q - 1)) reached in
-      step_both shape v p (given_at q parts.0 p below) (way_at (q - 1) parts.1 p (omega arith))
+  steps_to_link q reached p below = grind (arith, and_parts, step_both, given_at, way_at)
 
 -- ---- where a controller may have stopped
 
@@ -91,9 +81,7 @@ module _ (shape : Shape) (v : RingView) (r : RingRecord) (known : FollowsRing sh
   -- the block at the count, and any other
   pub stop_at_count : (p : ℕ) → p ≡ r.count → is_way_given shape v p ≡ is_stop_spot shape v (Data p)
   unfolding is_stop_spot
-  stop_at_count p same =
-      let count = count_is shape v r known in
-      sym (rw (le-ltb p (given_count shape v) (omega arith), eq-eqb p (given_count shape v) (omega arith)) refl)
+  stop_at_count p same = grind (arith, count_is, le-ltb, eq-eqb)
 
   pub stop_elsewhere : (p : ℕ) → p ≢ r.count → nat_lt p r.count ≡ is_stop_spot shape v (Data p)
   unfolding is_stop_spot

@@ -1,6 +1,5 @@
 -- Whether the further blocks of a descriptor are given, on a ring that a record follows
-use Rattle.ring_knowledge.proofs.Words.{rules, false≢true, in_range_all, all_in_range, ◌≡◌, ◌+◌, ◌-◌, ◌%◌, ◌<◌, ◌≤◌, ◌∙◌, ◌&&◌, ◌||◌, ℕ, List, Bool, true, false, Some, None, ap, sym, arith, slice_index, not, is_some, list_all, range_with_len, Shape, place_count, link_crossed, is_crossing, RingView, floor_number, is_step_given, is_way_given, is_not_whole, descriptor_length, link_of, is_crossing-from, RingRecord, is_noted, FollowsMarks, least_crossing, false_from_ne_true}
-use Rattle.ring_knowledge.proofs.DueNumbers.{link_of-crossed}
+use Rattle.ring_knowledge.proofs.LowerLaws.{rules, false≢true, in_range_all, all_in_range, ◌≡◌, ◌+◌, ◌-◌, ◌%◌, ◌<◌, ◌≤◌, ◌∙◌, ◌&&◌, ◌||◌, ℕ, List, Bool, true, false, Some, None, ap, sym, arith, slice_index, not, is_some, list_all, range_with_len, Shape, place_count, link_crossed, is_crossing, RingView, floor_number, is_step_given, is_way_given, is_not_whole, descriptor_length, link_of, is_crossing-from, RingRecord, is_noted, FollowsMarks, least_crossing, false_from_ne_true, link_of-crossed}
 
 module _ (shape : Shape) (v : RingView) (r : RingRecord) (follows : FollowsMarks shape v r) where
   -- a position that isn't given

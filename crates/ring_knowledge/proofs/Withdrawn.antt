@@ -1,9 +1,5 @@
 -- A record that follows a ring of which a descriptor is withdrawn, or what is free is restored
-use Rattle.ring_knowledge.proofs.Forgotten.{drop_no_ops}
-use Rattle.ring_knowledge.proofs.Words.{length-no_ops, split_sum, drop, ◌-◌, ◌≡◌, ◌+◌, ◌<◌, ◌≤◌, ◌∷◌, ◌++◌, ◌∙◌, ◌&&◌, ◌||◌, ℕ, suc, zero, List, [], Bool, true, false, refl, ap, sym, arith, inl, inr, length, slice_index, replicate, sum, not, set, nat_le, nat_lt, if◌then◌else◌, cases_eq, cases_lt, cases_Bool, eq-eqb, ne_eqb, nat_tests, common_steps, and_parts, or_cases, Block, Shape, RingView, length_from, descriptor_length, no_ops, split_at, FollowsMarks, FollowsRing, RingRecord, ArePositive, ◌%◌, no_op, is_in, place_count, floor_number, is_step_given, is_way_given, changed, Withdraws, Restores, list_any, range_with_len, contains, nat_cmp, is_noted, false≢true, or_left, or_right, leb-true, ltb-true, rules}
-use Rattle.ring_knowledge.proofs.Ranges.{none_each}
-use Rattle.ring_knowledge.proofs.Noted.{false_unless}
-use Rattle.ring_knowledge.proofs.DeclaredMore.{sum-cons}
+use Rattle.ring_knowledge.proofs.MiddleLaws.{drop_no_ops, length-no_ops, split_sum, drop, ◌-◌, ◌≡◌, ◌+◌, ◌<◌, ◌≤◌, ◌∷◌, ◌++◌, ◌∙◌, ◌&&◌, ◌||◌, ℕ, suc, zero, List, [], Bool, true, false, refl, ap, sym, arith, inl, inr, length, slice_index, replicate, sum, not, set, nat_le, nat_lt, if◌then◌else◌, cases_eq, cases_lt, cases_Bool, eq-eqb, ne_eqb, nat_tests, common_steps, and_parts, or_cases, Block, Shape, RingView, length_from, descriptor_length, no_ops, split_at, FollowsMarks, FollowsRing, RingRecord, ArePositive, ◌%◌, no_op, is_in, place_count, floor_number, is_step_given, is_way_given, changed, Withdraws, Restores, list_any, range_with_len, contains, nat_cmp, is_noted, false≢true, or_left, or_right, leb-true, ltb-true, rules, none_each, false_unless, sum-cons}
 
 -- a descriptor's length, as the record has it
 pub length_is : (shape : Shape) (v : RingView) (r : RingRecord) → FollowsMarks shape v r → (p : ℕ) → r.forgotten ≤ p → descriptor_length v p ≡ slice_index r.lengths.items (p - r.forgotten)
@@ -22,17 +18,12 @@ pub one_no_op : (xs : List Block) (p k : ℕ) → set (no_ops xs p k) (p + k) no
 unfolding no_ops
 one_no_op [] p k = refl
 one_no_op (b ∷ rest) zero zero = ap (λ ys. no_op ∷ ys) (sym (none_no_op rest zero))
-one_no_op (b ∷ rest) zero (suc k) =
-    let next : zero + suc k ≡ suc (zero + k) = omega arith in
-    ap (λ n. set (no_op ∷ no_ops rest zero k) n no_op) next ∙ ap (λ ys. no_op ∷ ys) (one_no_op rest zero k)
-one_no_op (b ∷ rest) (suc p) k =
-    let next : suc p + k ≡ suc (p + k) = omega arith in
-    ap (λ n. set (b ∷ no_ops rest p k) n no_op) next ∙ ap (λ ys. b ∷ ys) (one_no_op rest p k)
+one_no_op (b ∷ rest) zero (suc k) = grind (arith, set, one_no_op rest zero k)
+one_no_op (b ∷ rest) (suc p) k = grind (arith, set, one_no_op rest p k)
 
 -- what was added for want of memory is out again
 pub back : (old mid new inside : Bool) → (inside ≡ false → mid ≡ old) → (inside ≡ true → old ≡ false) → new ≡ (mid && not inside) → new ≡ old
-back old mid new true same none is = search rules
-back old mid new false same none is = search rules
+back old mid new inside same none is = grind arith
 
 -- ---- the descriptors
 

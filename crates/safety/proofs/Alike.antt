@@ -1,8 +1,7 @@
 -- Two knowledges of which an event says the same: what it reads and what it changes is alike, but that in one more may be given,
 -- and rings may be held at greater numbers
-use Rattle.safety.proofs.Words.{◌≡◌, ◌≤◌, ℕ, true, nat_lt, Option, unwrap_or, is_none, arith, refl, sym, ap, subst, inl, inr, ltb-true, lt-ltb, leb-true, le-leb, eqb-true, eq-eqb, rules, cases_eq, false≢true, and_parts, and_from, or_cases, or_left, or_right, Spot, Data, Link, Shape, number, RingView, RingChange, Reaches, Holds, changed, floor_number, given_count, ceiling, is_way_given, is_open, is_data_below, is_stop_spot, stopped_number, GivesMore, step_more, given_count_grows, Header, shape_of, Known, on_ring, IsHeldMore}
+use Rattle.safety.proofs.LowerLaws.{◌≡◌, ◌≤◌, ℕ, true, nat_lt, Option, unwrap_or, is_none, arith, sym, ap, subst, ltb-true, lt-ltb, leb-true, le-leb, eqb-true, eq-eqb, rules, cases_eq, false≢true, and_parts, and_from, or_cases, or_left, or_right, Spot, Shape, number, RingView, RingChange, Reaches, Holds, changed, floor_number, given_count, ceiling, is_way_given, is_open, is_data_below, is_stop_spot, stopped_number, GivesMore, step_more, given_count_grows, Header, shape_of, Known, on_ring, IsHeldMore, same_held}
 use Rattle.safety.proofs.DriverRows.{ring_here, ring_elsewhere}
-use Rattle.safety.proofs.HeldTwice.{held_same as same_held}
 
 pub record RingAlike (v w : RingView) : Type 0 where
   pub floor : w.floor ≡ v.floor
@@ -46,35 +45,18 @@ module _ (shape : Shape) (v w : RingView) (a : RingAlike v w) where
 
   pub stop_more : (t : Spot) → is_stop_spot shape v t ≡ true → is_stop_spot shape w t ≡ true
   unfolding is_stop_spot is_way_given
-  stop_more (Data p) stops = search (rules, or_cases, nat_lt, or_left, lt-ltb, ltb-true, count_more, and_parts, eqb-true, or_right, and_from, eq-eqb, le-leb, leb-true)
-  stop_more (Link q) stops = search (rules, or_cases, nat_lt, or_left, lt-ltb, ltb-true, count_more, and_parts, eqb-true, or_right, and_from, eq-eqb, le-leb, leb-true)
+  stop_more t stops = grind (arith, or_cases, nat_lt, or_left, lt-ltb, ltb-true, count_more, and_parts, eqb-true, or_right, and_from, eq-eqb, le-leb, leb-true)
 
   pub stopped_more : (t : Spot) → stopped_number shape v t ≤ stopped_number shape w t
   unfolding stopped_number
   stopped_more o = grind (arith, count_more)
-
-  -- the pointer reaches a spot, or the ring is held
-  pub reaches_alike : (t : Spot) → RingAlike (changed shape v (Reaches t)) (changed shape w (Reaches t))
-  reaches_alike t = record { floor = refl; held = a.held; more = record { given = a.more.given; crossed = a.more.crossed } }
-
-  pub holds_alike : (m n : ℕ) → m ≤ n → RingAlike (changed shape v (Holds m)) (changed shape w (Holds n))
-  holds_alike m n more = record { floor = a.floor; held = more; more = record { given = a.more.given; crossed = a.more.crossed } }
 
 -- ---- what is known
 
 module _ (h : Header) (P : ℕ → Type 0) (k l : Known) (a : Alike P k l) where
   on_ring_rings : (r : ℕ) (c d : RingChange) → RingAlike (changed (shape_of h r) (k.ring r) c) (changed (shape_of h r) (l.ring r) d) →
       (q : ℕ) → RingAlike ((on_ring h k r c).ring q) ((on_ring h l r d).ring q)
-  on_ring_rings r c d here q =
-      elim (cases_eq q r) [
-        | inl same ↦
-            subst (λ n. RingAlike ((on_ring h k r c).ring n) ((on_ring h l r d).ring n)) (sym same)
-            (subst (λ v. RingAlike v ((on_ring h l r d).ring r)) (sym (ring_here h k r c))
-            (subst (λ v. RingAlike (changed (shape_of h r) (k.ring r) c) v) (sym (ring_here h l r d)) here))
-        | inr other ↦
-            subst (λ v. RingAlike v ((on_ring h l r d).ring q)) (sym (ring_elsewhere h k r q c other))
-            (subst (λ v. RingAlike (k.ring q) v) (sym (ring_elsewhere h l r q d other)) (a.rings q))
-      ]
+  on_ring_rings r c d here q = grind (arith, cases_eq, ring_here, ring_elsewhere, cases_eq q r)
 
   pub reached_alike : (r : ℕ) (t : Spot) → Alike P (on_ring h k r (Reaches t)) (on_ring h l r (Reaches t))
   unfolding on_ring

@@ -1,11 +1,8 @@
 -- What the success of a command changes, at two knowledges that are alike: it leaves both alike
-use Rattle.safety.proofs.Words.{[], ◌≡◌, if◌then◌else◌, ◌∷◌, ℕ, Bool, true, false, List, Option, None, Some, arith, refl, sym, subst, put, put_pair, Spot, number, Reaches, ceiling, target, Command, EndpointState, Stopped, is_off, Change, SlotGoesOn, DeviceLeft, Disables, Places, Stops, Resets, slot_gone_on, Header, shape_of, ring_having, Known, on_ring, set_to, bound_to, moved_to, moved, pointed, disabled, in_state, held_at_ceiling, changed_by, changed_by_all, rules}
-use Rattle.safety.proofs.Alike.{Alike, ceiling_more, reached_alike, held_alike}
-use Rattle.safety.proofs.AlikeTransfers.{state_put, move_put}
+use Rattle.safety.proofs.MiddleLaws.{[], ◌≡◌, if◌then◌else◌, ◌∷◌, ℕ, Bool, true, false, List, Option, None, Some, arith, sym, subst, put, put_pair, Spot, number, Reaches, ceiling, target, Command, EndpointState, Stopped, is_off, Change, SlotGoesOn, DeviceLeft, Disables, Places, Stops, Resets, slot_gone_on, Header, shape_of, ring_having, Known, on_ring, set_to, bound_to, moved_to, moved, pointed, disabled, in_state, held_at_ceiling, changed_by, changed_by_all, rules, Alike, ceiling_more, reached_alike, held_alike, state_put, move_put}
 
 pub both_sides_if : {A : Type 0} (R : A → A → Type 0) (b : Bool) (x y u v : A) → (b ≡ true → R x u) → (b ≡ false → R y v) → R (if b then x else y) (if b then u else v)
-both_sides_if R true x y u v here there = here refl
-both_sides_if R false x y u v here there = there refl
+both_sides_if R b x y u v here there = grind arith
 
 module _ (h : Header) where
   -- where a ring is bound or moved, its target is the same
@@ -39,15 +36,13 @@ module _ (h : Header) where
     moved_alike : (k l : Known) → Alike P k l → (o : Option ℕ) (p : ℕ) (cycle : Bool) →
         ((r : ℕ) → o ≡ Some r → target (shape_of h r) (l.ring r) p cycle ≡ target (shape_of h r) (k.ring r) p cycle) → Alike P (moved h k o p cycle) (moved h l o p cycle)
     unfolding moved
-    moved_alike k l a None p cycle same = a
-    moved_alike k l a (Some r) p cycle same = search (rules, moved_to, target, shape_of, k.ring, target_alike)
+    moved_alike k l a o p cycle same = grind (arith, target_alike)
 
     bound_alike : (k l : Known) → Alike P k l → (s i : ℕ) (o : Option ℕ) (p : ℕ) (cycle : Bool) →
         ((r : ℕ) → o ≡ Some r → target (shape_of h r) (l.ring r) p cycle ≡ target (shape_of h r) (k.ring r) p cycle) → Alike P (bound_to h k s i o p cycle) (bound_to h l s i o p cycle)
     unfolding bound_to
     bound_alike k l a s i None p cycle same = a
-    bound_alike k l a s i (Some r) p cycle same =
-        bound_with (moved h k (Some r) p cycle) (moved h l (Some r) p cycle) (moved_alike k l a (Some r) p cycle same) s i r k.ring_of l.ring_of k.was_bound l.was_bound a.ring_of a.was_bound
+    bound_alike k l a s i (Some r) p cycle same = search (rules, bound_with, moved_alike)
 
     pointed_alike : (k l : Known) → Alike P k l → (s i p : ℕ) (cycle : Bool) (state : EndpointState) → TargetIs k l (Places s i p cycle state) →
         Alike P (pointed h k s i p cycle) (pointed h l s i p cycle)
@@ -74,9 +69,7 @@ module _ (h : Header) where
         let y : Known = pointed h l s i p cycle in
         move_put P (in_state h x s i state) (in_state h y s i state) s i l.must_move k.must_move false a.must_move
         (state_put P x y s i state (pointed_alike k l a s i p cycle state same))
-    change_alike c k l a (Stops s i) same =
-        subst (λ (f : ℕ → ℕ → Option ℕ). Alike P (changed_by h c k (Stops s i)) (held_at_ceiling h (in_state h l s i Stopped) (f s i))) (sym a.ring_of)
-        (ceiling_alike (in_state h k s i Stopped) (in_state h l s i Stopped) (state_put P k l s i Stopped a) (k.ring_of s i))
+    change_alike c k l a (Stops s i) same = grind (arith, Option, Alike, ceiling_alike, state_put)
     change_alike c k l a (Resets s i) same = state_put P k l s i Stopped a
 
     pub changes_alike : (c : Command) (k l : Known) → Alike P k l → (all : List Change) → TargetsAre c k l all → Alike P (changed_by_all h c k all) (changed_by_all h c l all)

@@ -1,7 +1,6 @@
 -- An event that may be read at one of two knowledges that are alike: it may be read at the other, and leaves both alike
-use Rattle.safety.proofs.Words.{[], ◌≡◌, ◌≤◌, ◌==◌, ◌&&◌, ℕ, false, not, Some, refl, ap, rules, or_parts, or_from, not-false, Block, BlockKind, TransferEvent, CommandCompletion, kind, is_transfer_event, Spot, named, Header, Read, Config, shape_of, register_or_zero, Known, event_read, learned, is_in_profile, is_impossible_by_kind, lenient, if◌then◌else◌, true, List, Option, None, arith, sym, subst, ltb-true, lt-ltb, false≢true, and_parts, and_from, not_from_true, code, slot, number, after, Reaches, ceiling, cases_option, Command, Change, changes, command_id, on_ring, command_at, next_command, changed_by_all, succeeded, stop_ended, finished, completed, was_stop_seen, can_finish, may_be_taken, is_stopping_now, is_impossible_completion}
-use Rattle.safety.proofs.LowerLaws.{EventFacts, event_facts, event_still, Alike, ceiling_more, reached_alike}
-use Rattle.safety.proofs.AlikeTransfers.{transfer_alike, both_sides, seen_put}
+use Rattle.safety.proofs.MiddleLaws.{[], ◌≡◌, ◌≤◌, ◌==◌, ◌&&◌, ℕ, false, not, Some, refl, ap, rules, or_parts, or_from, not-false, Block, BlockKind, TransferEvent, CommandCompletion, kind, is_transfer_event, Spot, named, Header, Read, Config, shape_of, register_or_zero, Known, event_read, learned, is_in_profile, is_impossible_by_kind, lenient, if◌then◌else◌, true, List, arith, sym, subst, ltb-true, lt-ltb, false≢true, and_parts, and_from, not_from_true, code, slot, number, after, Reaches, cases_option, Command, Change, changes, command_id, on_ring, command_at, next_command, changed_by_all, succeeded, stop_ended, finished, completed, was_stop_seen, can_finish, may_be_taken, is_stopping_now, is_impossible_completion, event_facts, event_still, Alike, ceiling_more, reached_alike, both_sides, seen_put}
+use Rattle.safety.proofs.AlikeTransfers.{transfer_alike}
 use Rattle.safety.proofs.AlikeChanges.{TargetsAre, changes_alike}
 
 -- A Command Completion Event that is possible at one of two knowledges that are alike: it is possible at the other, and leaves both alike
@@ -20,8 +19,7 @@ module _ (h : Header) (P : ℕ → Type 0) (k l : Known) (a : Alike P k l) where
 
   pub taken_alike : may_be_taken h k ≡ true → may_be_taken h l ≡ true
   unfolding may_be_taken
-  taken_alike may =
-      search (rules, command_id, lt-ltb, next_command, ceiling, shape_of, l.ring, next_alike, ltb-true, k.ring, ceiling_more, a.rings)
+  taken_alike may = grind (arith, lt-ltb, next_alike, ltb-true, ceiling_more)
 
   seen_alike : (c : Command) → was_stop_seen l c ≡ was_stop_seen k c
   unfolding was_stop_seen
@@ -57,14 +55,9 @@ module _ (h : Header) (P : ℕ → Type 0) (k l : Known) (a : Alike P k l) where
         (reached_alike h P (finished h k b (Some c)) (finished h l b (Some c)) (finish_alike b c may at) r (after_is (next_command h k)))))
 
     module _ (config : register_or_zero l.register Config ≡ register_or_zero k.register Config) where
-      can_alike : (b : Block) → (o : Option Command) → command_at h k (next_command h k) ≡ o → can_finish k b o ≡ true → (c : Command) × (command_at h k (next_command h k) ≡ Some c) × (can_finish l b (Some c) ≡ true)
-      unfolding can_finish
-      can_alike b None at can = absurd (false≢true can)
-      can_alike b (Some c) at can = (c, at, search (rules, and_parts, and_from, seen_alike))
-
       pub completion_alike : (b : Block) → is_impossible_completion h k b ≡ false → (is_impossible_completion h l b ≡ false) × Alike P (completed h k b) (completed h l b)
-      unfolding is_impossible_completion
-      completion_alike b possible = search (rules, or_parts, not-false, can_alike, next_alike, or_from, not_from_true, taken_alike, completed_alike)
+      unfolding is_impossible_completion can_finish
+      completion_alike b possible = grind (arith, or_parts, not-false, false≢true, and_parts, and_from, seen_alike, next_alike, or_from, not_from_true, taken_alike, completed_alike)
 
 -- what else an event reads is alike
 pub record EventAlike (h : Header) (k l : Known) : Type 0 where
@@ -90,11 +83,4 @@ module _ (h : Header) (P : ℕ → Type 0) (k l : Known) (a : Alike P k l) (x : 
 
   pub read_alike : (e : Block) → lenient h k (Read e) ≡ [] → ReadAlike h P k l e
   unfolding learned
-  read_alike b clean =
-      let f : EventFacts h k b = event_facts h k b clean in
-      let here = kind_alike b (kind b) f.possible f.inside in
-      let y = here.1 in
-      record {
-        possible = event_still h k l b x.started x.stopped x.reads x.room clean here.0;
-        after = search (rules, y);
-      }
+  read_alike b clean = search (rules, event_still, kind_alike b (kind b) (event_facts h k b clean).possible (event_facts h k b clean).inside)

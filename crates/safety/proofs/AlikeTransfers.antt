@@ -1,17 +1,14 @@
 -- A Transfer Event that is possible at one of two knowledges that are alike: it is possible at the other, and leaves both alike
-use Rattle.safety.proofs.Words.{◌≡◌, ◌&&◌, ◌||◌, if◌then◌else◌, ◌∙◌, ℕ, Bool, true, false, not, Option, None, Some, arith, refl, sym, ap, subst, inl, inr, rules, false≢true, and_parts, and_from, or_parts, and_cases, or_from, not-false, not_from_true, none-some, put_pair, Block, pointer, code, slot, endpoint, Spot, number, after, named, is_open, stopped_number, EndpointState, is_off, is_running, Header, shape_of, Known, RingSpot, on_ring, spot_on, event_at, passed, broken_off, stopped_at, transferred, transferred_at, transfer_read, is_in_profile, is_working, is_stopping_now, can_report, can_report_at, is_impossible_transfer}
+use Rattle.safety.proofs.Words.{◌≡◌, ◌&&◌, ◌||◌, if◌then◌else◌, ◌∙◌, ℕ, Bool, true, false, not, Option, Some, arith, refl, sym, ap, inl, inr, rules, false≢true, and_parts, and_from, or_parts, and_cases, or_from, not-false, not_from_true, none-some, put_pair, Block, pointer, slot, endpoint, Spot, number, after, named, EndpointState, is_off, Header, shape_of, Known, RingSpot, on_ring, spot_on, event_at, passed, broken_off, stopped_at, transferred, transferred_at, transfer_read, is_in_profile, is_working, is_stopping_now, can_report, can_report_at, is_impossible_transfer}
 use Rattle.safety.proofs.Alike.{Alike, below_more, open_alike, stop_more, stopped_more, reached_alike, held_alike}
 
 pub both_sides : {A : Type 0} (R : A → A → Type 0) (b : Bool) (x y u v : A) → R x u → R y v → R (if b then x else y) (if b then u else v)
-both_sides R true x y u v here there = here
-both_sides R false x y u v here there = there
+both_sides R b x y u v here there = grind arith
 
 -- from one chain of two tests to another
 pub chain_from : (b c x y z u v w : Bool) → (x ≡ true → u ≡ true) → (y ≡ true → v ≡ true) → (z ≡ true → w ≡ true) →
     (if b then x else if c then y else z) ≡ true → (if b then u else if c then v else w) ≡ true
-chain_from true c x y z u v w one two three h = one h
-chain_from false true x y z u v w one two three h = two h
-chain_from false false x y z u v w one two three h = three h
+chain_from b c x y z u v w one two three h = grind arith
 
 pub state_put : (P : ℕ → Type 0) (m n : Known) (s i : ℕ) (state : EndpointState) → Alike P m n →
     Alike P (let x : Known = record m { endpoint_state = put_pair m.endpoint_state s i state } in x) (let x : Known = record n { endpoint_state = put_pair n.endpoint_state s i state } in x)
@@ -38,15 +35,13 @@ module _ (h : Header) (P : ℕ → Type 0) (k l : Known) (a : Alike P k l) where
 
   stopped_alike : (s i r : ℕ) (t : Spot) → Alike P (stopped_at h k s i r t) (stopped_at h l s i r t)
   unfolding stopped_at on_ring
-  stopped_alike s i r t =
-      search (rules, stopped_number, shape_of, k.ring, l.ring, on_ring, held_alike, stopped_more, a.rings, seen_put, true, reached_alike)
+  stopped_alike s i r t = grind (arith, held_alike, stopped_more, seen_put, reached_alike)
 
   -- ---- what is possible
 
   working_alike : (s i r : ℕ) → is_working k s i r ≡ true → is_working l s i r ≡ true
   unfolding is_working
-  working_alike s i r works =
-      search (rules, and_parts, is_running, k.endpoint_state, is_open, k.ring, and_from, l.endpoint_state, l.ring, open_alike, shape_of, a.rings)
+  working_alike s i r works = grind (arith, and_parts, and_from, open_alike)
 
   module _ (stopping : (s i : ℕ) → is_stopping_now h k s i ≡ true → is_stopping_now h l s i ≡ true) where
     report_alike : (c s i r : ℕ) (t : Spot) → can_report h k c s i r t ≡ true → can_report h l c s i r t ≡ true
@@ -56,13 +51,7 @@ module _ (h : Header) (P : ℕ → Type 0) (k l : Known) (a : Alike P k l) where
     report_at : (b : Block) (o p : Option RingSpot) → ((at : RingSpot) → o ≡ Some at → p ≡ Some at) → can_report_at h k b o ≡ true →
         (can_report_at h l b p ≡ true) × Alike P (transferred_at h k b o) (transferred_at h l b p)
     unfolding can_report_at transferred_at transferred
-    report_at b None p same can = absurd (false≢true can)
-    report_at b (Some at) p same can =
-        let e : p ≡ Some at = same at refl in (
-          ap (λ x. can_report_at h l b x) e ∙ report_alike (code b) (slot b) (endpoint b) at.ring at.spot can,
-          subst (λ x. Alike P (transferred h k (code b) (slot b) (endpoint b) at.ring at.spot) (transferred_at h l b x)) (sym e)
-              (search (rules, both_sides, passed_alike, move_put, broken_alike, stopped_alike)),
-        )
+    report_at b o p same can = search (rules, false≢true, report_alike, Alike, both_sides, passed_alike, move_put, broken_alike, stopped_alike)
 
     -- each spot that is named on an endpoint's ring is so at the other too
     module _ (names : (s i r p : ℕ) (t : Spot) → k.ring_of s i ≡ Some r → named (shape_of h r) (k.ring r) p ≡ Some t → named (shape_of h r) (l.ring r) p ≡ Some t) where

@@ -1,7 +1,5 @@
 -- Areas and ranges under lease that have no byte in common
-use Rattle.safety.proofs.Words.{[], ◌≡◌, ◌≢◌, ◌+◌, ◌*◌, ◌/◌, ◌^◌, ◌<◌, ◌≤◌, ◌⊎◌, ◌∷◌, ◌∙◌, ℕ, Bool, false, List, nat_lt, nat_le, Some, arith, refl, sym, inl, inr, lt-ltb, le-ltb, ltb-true, leb-true, rules, list_any, flat_map, cases_lt, and_left, and_right, or_parts, or_from, and_parts, and_cases, false≢true, false_from_ne_true, list_any-append, is_in, overlap, device_context_bytes, input_context_bytes, Command, named_context, table_bytes, event_shape, base_address, Erstba, Header, touches_ring, Known, entry_of, Range, SegmentTable, Use, InputContext, SlotEntry, DeviceContext, covers, lease_start, lease_bytes, range_of_device, device_ranges, open_ranges, open_leases, is_leased, is_bad_area, is_in_range_lease, is_soiled, IsUnfinished, is_the_controllers, segment_ranges}
-use Rattle.safety.proofs.SafeContext.{none_in_range}
-use Rattle.safety.proofs.UnfinishedLists.{fails_in, context_leased, device_listed, device_leased, entry_leased, table_leased, in_right}
+use Rattle.safety.proofs.LowerLaws.{[], ◌≡◌, ◌≢◌, ◌+◌, ◌*◌, ◌/◌, ◌^◌, ◌<◌, ◌≤◌, ◌⊎◌, ◌∷◌, ◌∙◌, ℕ, Bool, false, List, nat_lt, nat_le, Some, arith, refl, sym, lt-ltb, le-ltb, ltb-true, leb-true, rules, list_any, flat_map, cases_lt, and_left, and_right, or_parts, or_from, and_parts, and_cases, false≢true, false_from_ne_true, list_any-append, is_in, overlap, device_context_bytes, input_context_bytes, Command, named_context, table_bytes, event_shape, base_address, Erstba, Header, touches_ring, Known, entry_of, Range, SegmentTable, Use, InputContext, SlotEntry, DeviceContext, covers, lease_start, lease_bytes, range_of_device, device_ranges, open_ranges, open_leases, is_leased, is_bad_area, is_in_range_lease, is_soiled, IsUnfinished, is_the_controllers, none_in_range, fails_in, context_leased, device_listed, device_leased, entry_leased, table_leased, in_right}
 
 -- ---- two ranges of bytes
 
@@ -9,8 +7,7 @@ pub not_overlap : (a m b n : ℕ) → overlap a m b n ≡ false → (b + n ≤ a
 not_overlap a m b n none = search (rules, and_cases, nat_lt, cases_lt, false≢true, lt-ltb)
 
 pub overlap_from : (a m b n : ℕ) → (b + n ≤ a) ⊎ (a + m ≤ b) → overlap a m b n ≡ false
-overlap_from a m b n (inl high) = and_left (nat_lt a (b + n)) (nat_lt b (a + m)) (le-ltb a (b + n) high)
-overlap_from a m b n (inr low) = and_right (nat_lt a (b + n)) (nat_lt b (a + m)) (le-ltb b (a + m) low)
+overlap_from a m b n h5 = grind (arith, and_left, nat_lt, le-ltb, and_right)
 
 pub overlap_turned : (a m b n : ℕ) → overlap a m b n ≡ false → overlap b n a m ≡ false
 overlap_turned a m b n none = search (rules, not_overlap, overlap_from)
@@ -56,8 +53,7 @@ module _ (h : Header) where
   covers_range from len n a u = refl
 
   pub device_apart : (k : Known) (from len t e : ℕ) → AreaParts k from len → 0 < t → t < 256 → k.device t ≡ Some e → overlap from len e (device_context_bytes h.context_size) ≡ false
-  device_apart k from len t e p low high at =
-      sym (covers_range from len (device_context_bytes h.context_size) e (DeviceContext t)) ∙ fails_in (covers h from len) (device_ranges h k) _ p.devices (device_listed h k t e low high at)
+  device_apart k from len t e p low high at = grind (arith, covers_range, fails_in, device_listed)
 
   pub devices_apart : (k : Known) (from len : ℕ) → ((t e : ℕ) → k.device t ≡ Some e → overlap from len e (device_context_bytes h.context_size) ≡ false) →
       list_any (covers h from len) (device_ranges h k) ≡ false
@@ -92,5 +88,4 @@ module _ (h : Header) where
   -- a word that the controller doesn't write alone is in no device context under lease
   pub not_in_device : (k : Known) (a : ℕ) → is_the_controllers h k a ≡ false → (s d : ℕ) → 0 < s → s < 256 → k.device s ≡ Some d → overlap a 4 d (device_context_bytes h.context_size) ≡ false
   unfolding is_the_controllers
-  not_in_device k a none s d low high at =
-      search (rules, covers_range, device_context_bytes, fails_in, covers, segment_ranges, device_ranges, in_right, device_listed)
+  not_in_device k a none s d low high at = grind (arith, covers_range, fails_in, in_right, device_listed)

@@ -1,6 +1,5 @@
 -- Where an unfinished command's input context lies: in no ring, and clean
-use Rattle.safety.proofs.Words.{◌≡◌, ◌+◌, ◌*◌, ◌/◌, ◌<◌, ◌≤◌, ◌∙◌, ℕ, true, false, nat_lt, Some, arith, sym, ap, lt-ltb, leb-true, ltb-true, rules, none_each, false_from_ne_true, false≢true, or_parts, and_parts, and_from, Shape, is_inside, Command, named_context, input_context_bytes, Header, Ring, touches_ring, Known, is_bad_area, is_soiled, is_bad_command, has_bad_context, IsIn, any_of, some_of, IsUnfinished, DriverKeeps}
-use Rattle.segments.specs.Places.{touches}
+use Rattle.safety.proofs.Words.{◌≡◌, ◌+◌, ◌*◌, ◌/◌, ◌<◌, ◌≤◌, ◌∙◌, ℕ, true, false, nat_lt, Some, arith, sym, ap, lt-ltb, leb-true, ltb-true, rules, none_each, false_from_ne_true, false≢true, or_parts, and_parts, and_from, Shape, is_inside, Command, named_context, input_context_bytes, Header, Ring, touches_ring, Known, is_bad_area, is_soiled, is_bad_command, has_bad_context, IsIn, any_of, some_of, IsUnfinished, DriverKeeps, touches}
 use Rattle.safety.proofs.Stored.{IsInNoContext}
 
 -- a clean area has no soiled word

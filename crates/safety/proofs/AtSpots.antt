@@ -32,11 +32,7 @@ cycle_at memory a = omega arith
 
 module _ (shape : Shape) (is : IsShape shape) (memory : ℕ → ℕ) (v : RingView) (k : RingKeeps shape memory v) where
   near : (t : Spot) → MayStand shape v t → (floor_number v ≤ number t) × (number t < floor_number v + place_count shape)
-  near t at =
-      let high = given_count_near shape is memory v k in
-      let low = rank_least v.floor in
-      let top = rank_most t in
-      (omega (arith, at.reached), omega (arith, at.below))
+  near t at = grind (arith, given_count_near, rank_least, rank_most, given_count_near shape is memory v k, rank_least v.floor, rank_most t)
 
   pub takeable : (q : ℕ) → MayStand shape v (Data q) → v.given q ≡ true → v.free q ≡ false → Takeable shape memory v q
   unfolding is_step_given
@@ -64,26 +60,13 @@ module _ (shape : Shape) (is : IsShape shape) (memory : ℕ → ℕ) (v : RingVi
       }
 
   pub waits_at_block : (q : ℕ) → MayStand shape v (Data q) → v.given q ≡ false → cycle (block_at memory (address_of shape q)) ≢ cycle_of shape q
-  waits_at_block q at missing same =
-      let n = near (Data q) at in
-      k.not_yet q (due_from shape v.floor q n.0 n.1) missing (sym (cycle_at memory (address_of shape q)) ∙ same)
+  waits_at_block q at missing same = grind (arith, near, due_from, cycle_at, near (Data q) at)
 
   crossing_near : (q : ℕ) → MayStand shape v (Link q) → is_crossing_due shape v.floor q ≡ true
-  crossing_near q at =
-      let n = near (Link q) at in
-      crossing_due_from shape v.floor q (record { crossing = at.is_spot; from = n.0; within = inl n.1 })
+  crossing_near q at = grind (arith, near, crossing_due_from, near (Link q) at)
 
   pub crossable : (q : ℕ) → MayStand shape v (Link q) → v.crossed q ≡ true → Crossable shape memory v q
-  crossable q at given =
-      let found = crossed_link shape q at.is_spot in
-      let kept = k.kept_link q found.0 (crossing_near q at) given found.1 in
-      record {
-        given = given;
-        link = found.0;
-        crosses = found.1;
-        leads = kept.0;
-        cycle_is = cycle_at memory (link_address shape q) ∙ kept.1;
-      }
+  crossable q at given = grind (arith, crossed_link, crossing_near, cycle_at, crossed_link shape q at.is_spot, k.kept_link q (crossed_link shape q at.is_spot).0 (crossing_near q at) given (crossed_link shape q at.is_spot).1)
 
   pub waits_at_link : (q : ℕ) → MayStand shape v (Link q) → v.crossed q ≡ false → cycle (block_at memory (link_address shape q)) ≢ cycle_of shape (q - 1)
   waits_at_link q at missing same = k.not_yet_link q (crossing_near q at) missing (sym (cycle_at memory (link_address shape q)) ∙ same)

@@ -1,8 +1,7 @@
 -- The command ring's first doorbell beneath an event that isn't read yet: the two may change places
-use Rattle.safety.proofs.Words.{[], ◌≡◌, ◌==◌, ◌&&◌, if◌then◌else◌, ◌∙◌, ℕ, Bool, true, false, not, Some, is_none, arith, refl, sym, ap, subst, inl, ltb-true, eqb-true, rules, MayCome, none-some, false≢true, and_parts, or_from, not-false, not_from_true, cond-true, cond-false, Block, BlockKind, TransferEvent, CommandCompletion, kind, is_transfer_event, is_command_completion, Opens, ceiling, is_open, ceiling_held, is_stop_of, Header, Bell, Read, IsHeader, shape_of, command_id, Known, on_ring, command_at, next_command, endpoint_rung, rung, event_read, learned, is_in_profile, may_be_taken, is_stopping_now, is_impossible_by_kind, is_bad_bell, is_bad_doorbell, doorbell_tests, lenient_tests, lenient, DriverKeeps, HeldMore, is_open_if, Square}
+use Rattle.safety.proofs.UpperLaws.{[], ◌≡◌, ◌==◌, ◌&&◌, if◌then◌else◌, ◌∙◌, ℕ, Bool, true, false, not, Some, is_none, arith, refl, sym, ap, subst, inl, ltb-true, eqb-true, rules, MayCome, none-some, false≢true, and_parts, or_from, not-false, not_from_true, cond-true, cond-false, Block, BlockKind, TransferEvent, CommandCompletion, kind, is_transfer_event, is_command_completion, Opens, ceiling, is_open, ceiling_held, is_stop_of, Header, Bell, Read, IsHeader, shape_of, command_id, Known, on_ring, command_at, next_command, endpoint_rung, rung, event_read, learned, is_in_profile, may_be_taken, is_stopping_now, is_impossible_by_kind, is_bad_bell, is_bad_doorbell, doorbell_tests, lenient_tests, lenient, DriverKeeps, HeldMore, is_open_if, Square, clean_tests, event_still, EventFacts, event_facts, bell_facts, endpoints_of, transfer_command, ring_here, ring_elsewhere, SameDriver, on_ring_same, both_drivers, Woken, completion_facts, read_same, read_both, flip_driver, woken_more, transfer_woken}
 use Rattle.safety.proofs.DriverHistories.{kept_driver}
-use Rattle.safety.proofs.LowerLaws.{clean_tests, event_still, EventFacts, event_facts, bell_facts, endpoints_of, transfer_command, ring_here, ring_elsewhere, SameDriver, on_ring_same, both_drivers, Woken}
-use Rattle.safety.proofs.MiddleLaws.{completion_facts, counted, read_same, read_both, flip_driver, woken_more, transfer_woken}
+use Rattle.safety.proofs.HeldFurther.{counted}
 
 -- the same events may be read, and leave the ring woken
 pub record ReadWoken (h : Header) (r : ℕ) (S : ℕ → ℕ → Bool) (k l : Known) (e : Block) : Type 0 where

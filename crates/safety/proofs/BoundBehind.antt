@@ -1,8 +1,6 @@
 -- A ring that waits for a binding behind an event waited for it before
-use Rattle.safety.proofs.Words.{[], ◌≡◌, if◌then◌else◌, ◌∷◌, ◌∙◌, ℕ, Bool, true, false, map, refl, sym, ap, inl, inr, list_any, and_parts, and_from, false≢true, cases_option, cases_Bool, Block, Command, AddressDevice, ConfigureEndpoint, is_off, is_open, added_endpoints, Header, Read, IsHeader, is_ring, Known, unfinished, learned, lenient, Binding, binding_in, binds, ring_bound, binds_ring, is_being_bound, awaits_binding, some_of, any_of, IsUnfinished, DriverKeeps, List, Option, None, rules, none-some, BlockKind, kind, Spot, number, after, Reaches, Holds, ceiling, stopped_number, target, Change, shape_of, command_id, ring_having, RingSpot, on_ring, event_at, command_at, next_command, passed, broken_off, stopped_at, transferred, transferred_at, transfer_read, set_to, bound_to, moved_to, moved, pointed, disabled, in_state, held_at_ceiling, changed_by, changed_by_all, succeeded, stop_ended, finished, completed, event_read, arith}
-use Rattle.safety.proofs.LowerLaws.{clean_tests, off_is, view_after, open_held, held_open}
+use Rattle.safety.proofs.UpperLaws.{[], ◌≡◌, if◌then◌else◌, ◌∷◌, ◌∙◌, ℕ, Bool, true, false, refl, sym, ap, inl, inr, list_any, and_parts, and_from, false≢true, cases_option, cases_Bool, Block, Command, AddressDevice, ConfigureEndpoint, is_off, is_open, Header, Read, IsHeader, is_ring, Known, learned, lenient, Binding, binding_in, binds, ring_bound, binds_ring, is_being_bound, awaits_binding, some_of, any_of, IsUnfinished, DriverKeeps, List, Option, None, rules, none-some, BlockKind, kind, Spot, number, Reaches, Holds, ceiling, stopped_number, target, Change, shape_of, ring_having, on_ring, event_at, passed, broken_off, stopped_at, transferred, transferred_at, transfer_read, set_to, bound_to, moved_to, moved, pointed, disabled, in_state, held_at_ceiling, changed_by, changed_by_all, succeeded, stop_ended, finished, completed, event_read, arith, clean_tests, off_is, view_after, open_held, held_open, read_on, Behind, event_behind, listed_unfinished, listed_before, rings_behind}
 use Rattle.safety.proofs.DriverHistories.{kept_driver}
-use Rattle.safety.proofs.MiddleLaws.{read_on, Behind, event_behind, listed_unfinished, listed_before, rings_behind}
 
 -- An event opens no ring: one that is open behind it was open before
 
@@ -30,35 +28,19 @@ module _ (h : Header) where
     unfolding stopped_at
     stopped_opens s i = search (rules, on_ring, stopped_number, shape_of, k.ring, both_open, hold_opens, reach_opens)
 
-  at_opens : (k : Known) (b : Block) (o : Option RingSpot) → OpensNone k (transferred_at h k b o)
-  unfolding transferred_at transferred broken_off passed
-  at_opens k b o = grind (arith, same_opens, reach_opens, both_open, hold_opens, stopped_opens)
-
   -- ---- a completion
 
-  target_opens : (k : Known) (r : ℕ) (o : Option Spot) → OpensNone k (moved_to h k r o)
-  unfolding moved_to set_to
-  target_opens k r o = grind (arith, same_opens, on_ring, both_open, number, reach_opens, hold_opens)
-
   moved_opens : (k : Known) (o : Option ℕ) (p : ℕ) (cycle : Bool) → OpensNone k (moved h k o p cycle)
-  unfolding moved
-  moved_opens k o p cycle = grind (arith, same_opens, target_opens, target, shape_of, k.ring)
+  unfolding moved moved_to set_to
+  moved_opens k o p cycle = grind (arith, same_opens, on_ring, both_open, number, reach_opens, hold_opens, target, shape_of, k.ring)
 
   bound_opens : (k : Known) (s i : ℕ) (o : Option ℕ) (p : ℕ) (cycle : Bool) → OpensNone k (bound_to h k s i o p cycle)
   unfolding bound_to
   bound_opens k s i o p cycle = grind (arith, same_opens, moved_opens)
 
-  pointed_opens : (k : Known) (s i p : ℕ) (cycle : Bool) → OpensNone k (pointed h k s i p cycle)
-  unfolding pointed
-  pointed_opens k s i p cycle = search (rules, is_off, k.endpoint_state, bound_to, ring_having, moved, k.ring_of, bound_opens, moved_opens)
-
-  held_opens : (k : Known) (o : Option ℕ) → OpensNone k (held_at_ceiling h k o)
-  unfolding held_at_ceiling
-  held_opens k o = grind (arith, same_opens, hold_opens, ceiling, shape_of, k.ring)
-
   change_opens : (c : Command) (k : Known) (change : Change) → OpensNone k (changed_by h c k change)
-  unfolding changed_by disabled in_state
-  change_opens c k o = grind (arith, pointed_opens, held_opens, in_state, k.ring_of)
+  unfolding changed_by disabled in_state pointed held_at_ceiling
+  change_opens c k o = grind (arith, is_off, bound_to, ring_having, moved, bound_opens, moved_opens, same_opens, hold_opens, ceiling, shape_of, in_state, k.ring_of)
 
   changes_open : (c : Command) (k : Known) (all : List Change) → OpensNone k (changed_by_all h c k all)
   unfolding changed_by_all
@@ -66,24 +48,15 @@ module _ (h : Header) where
   changes_open c k (change ∷ rest) =
       let l : Known = changed_by h c k change in both_open k l (changed_by_all h c l rest) (change_opens c k change) (changes_open c l rest)
 
-  stop_opens : (k : Known) (c : Command) → OpensNone k (stop_ended h k c)
-  unfolding stop_ended
-  stop_opens k o = grind (arith, same_opens)
-
   finish_opens : (k : Known) (b : Block) (o : Option Command) → OpensNone k (finished h k b o)
-  unfolding finished succeeded
-  finish_opens k b o = grind (arith, same_opens, both_open, changes_open, stop_opens)
-
-  completion_opens : (k : Known) (b : Block) → OpensNone k (completed h k b)
-  unfolding completed
-  completion_opens k b =
-      search (rules, finished, command_at, next_command, both_open, on_ring, command_id, after, shape_of, finish_opens, reach_opens)
+  unfolding finished succeeded stop_ended
+  finish_opens k b o = grind (arith, same_opens, both_open, changes_open)
 
   -- ---- any event
 
   kind_opens : (k : Known) (b : Block) (n : BlockKind) → OpensNone k (event_read h k n b)
-  unfolding event_read transfer_read
-  kind_opens k b o = grind (arith, at_opens, event_at, completion_opens, same_opens)
+  unfolding event_read transfer_read transferred_at transferred broken_off passed completed
+  kind_opens k b o = grind (arith, reach_opens, both_open, hold_opens, stopped_opens, event_at, finish_opens, same_opens)
 
   pub opened_before : (k : Known) (b : Block) (r : ℕ) → is_open ((learned h k (Read b)).ring r) ≡ true → is_open (k.ring r) ≡ true
   unfolding learned
@@ -118,19 +91,13 @@ module _ (h : Header) (is : IsHeader h) (k : Known) (d : DriverKeeps h k) (e : B
             ∙ ap (λ t. list_any (λ b. is_ring r (ring_bound h b)) (if t then binding_in h l n 1 ∷ [] else [])) (sym off) ∙ bound
         | inr on ↦ absurd (false≢true (ap (λ t. list_any (λ b. is_ring r (ring_bound h b)) (if t then binding_in h l n 1 ∷ [] else [])) (sym on) ∙ bound))
       ]
-  binds_before p r (ConfigureEndpoint s false n) u bound =
-      ap (λ m. let x : Known = record k { memory = m } in list_any (λ b. is_ring r (ring_bound h b)) (map (binding_in h x n) (added_endpoints m n))) (sym b.driver.memory) ∙ bound
+  binds_before p r (ConfigureEndpoint s false n) u bound = grind (arith, b)
   binds_before p r _ u bound = absurd (false≢true bound)
 
   pub bound_before : (r : ℕ) → is_being_bound h l r ≡ true → is_being_bound h k r ≡ true
   unfolding is_being_bound
-  bound_before r binding =
-      let found = some_of (binds_ring h l r) (unfinished h l) binding in
-      let u = listed_unfinished h l found.0 found.1 in
-      any_of (binds_ring h k r) (unfinished h k) found.0 (listed_before h is k d e may found.0 found.1) (binds_before u.0 r found.0 u.1 found.2)
+  bound_before r binding = grind (arith, some_of, listed_unfinished, any_of, listed_before, binds_before)
 
   pub awaits_before : (r : ℕ) → awaits_binding h l r ≡ true → awaits_binding h k r ≡ true
   unfolding awaits_binding
-  awaits_before r awaits =
-      let parts = and_parts (is_open (l.ring r)) (is_being_bound h l r) awaits in
-      and_from (is_open (k.ring r)) (is_being_bound h k r) (opened_before h k e r parts.0) (bound_before r parts.1)
+  awaits_before r awaits = grind (arith, and_parts, and_from, opened_before, bound_before)

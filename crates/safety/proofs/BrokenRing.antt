@@ -1,8 +1,6 @@
 -- A take with which an endpoint halts or goes to Error: what the event names, and the ring behind it
-use Rattle.safety.proofs.Words.{[], ◌≡◌, ◌+◌, ◌-◌, ◌<◌, ◌≤◌, ◌∷◌, ◌∙◌, ℕ, true, false, List, length, drop, map, Some, arith, refl, sym, ap, get_or, length-drop, eqb-true, drop-drop, range_with_len, false≢true, get_or-map-range_with_len, Spot, Data, Shape, address_of, number, after, IsShape, RingView, floor_number, named, RingKeeps, Header, takes_of, is_last, RingState, RingMatches, Unreported}
+use Rattle.safety.proofs.LowerLaws.{[], ◌≡◌, ◌+◌, ◌-◌, ◌<◌, ◌≤◌, ◌∷◌, ◌∙◌, ℕ, true, false, List, length, drop, map, Some, arith, refl, sym, ap, get_or, length-drop, eqb-true, drop-drop, range_with_len, false≢true, get_or-map-range_with_len, Spot, Data, Shape, address_of, number, after, IsShape, RingView, floor_number, named, RingKeeps, Header, takes_of, is_last, RingState, RingMatches, Unreported, held_from, number_after}
 use Rattle.safety.proofs.NoWait.{ceiling_held}
-use Rattle.safety.proofs.RingGoesOn.{held_from}
-use Rattle.safety.proofs.LookedRing.{number_after}
 use Rattle.safety.proofs.ReportedRing.{open_takes, drop_range, low, count, named_near, floor_before}
 
 last_at : (h : Header) (a b : ℕ) (xs : List ℕ) → is_last h a (b ∷ xs) ≡ true → get_or (b ∷ xs) (length xs) 0 ≡ a

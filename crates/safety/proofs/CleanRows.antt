@@ -1,5 +1,5 @@
 -- What a register write, a doorbell or an event that breaks no rule says
-use Rattle.safety.proofs.Words.{[], ◌≡◌, ◌==◌, ◌&&◌, ◌||◌, if◌then◌else◌, ℕ, not, true, false, or_parts, not-false, Block, kind, cycle, is_transfer_event, is_event, cycle_of, Header, Register, Reg, Bell, Read, event_shape, Known, is_bad_register, is_bad_erdp, register_tests, is_bad_bell, is_bad_doorbell, doorbell_tests, is_in_profile, is_impossible_by_kind, is_past_room, is_impossible, event_tests, lenient_tests, lenient}
+use Rattle.safety.proofs.Words.{arith, [], ◌≡◌, ◌==◌, ◌&&◌, ◌||◌, if◌then◌else◌, ℕ, not, true, false, or_parts, not-false, Block, kind, cycle, is_transfer_event, is_event, cycle_of, Header, Register, Reg, Bell, Read, event_shape, Known, is_bad_register, is_bad_erdp, register_tests, is_bad_bell, is_bad_doorbell, doorbell_tests, is_in_profile, is_impossible_by_kind, is_past_room, is_impossible, event_tests, lenient_tests, lenient}
 use Rattle.safety.proofs.TestsPassed.{AllFail, tests_fail}
 
 pub record RegisterFacts (h : Header) (k : Known) (r : Register) (v : ℕ) : Type 0 where
@@ -20,15 +20,11 @@ pub record EventFacts (h : Header) (k : Known) (b : Block) : Type 0 where
 
 pub register_facts : (h : Header) (k : Known) (r : Register) (v : ℕ) → lenient h k (Reg r v) ≡ [] → RegisterFacts h k r v
 unfolding lenient_tests register_tests
-register_facts h k r v clean =
-    let fails : AllFail (register_tests h k r v) = tests_fail h k (Reg r v) clean in
-    record { good = fails.0; erdp = fails.1.0 }
+register_facts h k r v clean = grind (arith, AllFail, tests_fail, tests_fail h k (Reg r v) clean)
 
 pub bell_facts : (h : Header) (k : Known) (s t : ℕ) → lenient h k (Bell s t) ≡ [] → BellFacts h k s t
 unfolding lenient_tests doorbell_tests is_bad_doorbell
-bell_facts h k s t clean =
-    let parts = or_parts (not k.started) (if s == 0 then not (t == 0) else is_bad_bell h k s t) (tests_fail h k (Bell s t) clean).0 in
-    record { started = not-false k.started parts.0; good = parts.1 }
+bell_facts h k s t clean = grind (arith, or_parts, tests_fail, not-false, or_parts (not k.started) (if s == 0 then not (t == 0) else is_bad_bell h k s t) (tests_fail h k (Bell s t) clean).0)
 
 pub event_facts : (h : Header) (k : Known) (b : Block) → lenient h k (Read b) ≡ [] → EventFacts h k b
 unfolding lenient_tests event_tests is_impossible
@@ -36,6 +32,4 @@ event_facts h k b clean =
     let fails : AllFail (event_tests h k b) = tests_fail h k (Read b) clean in
     let four = or_parts (not k.started || is_past_room h k || not (cycle b == cycle_of (event_shape h) k.reads) || not (is_event (kind b))) (is_impossible_by_kind h k (kind b) b) fails.0 in
     let three = or_parts (not k.started || is_past_room h k || not (cycle b == cycle_of (event_shape h) k.reads)) (not (is_event (kind b))) four.0 in
-    let two = or_parts (not k.started || is_past_room h k) (not (cycle b == cycle_of (event_shape h) k.reads)) three.0 in
-    let one = or_parts (not k.started) (is_past_room h k) two.0 in
-    record { started = not-false k.started one.0; room = one.1; turn = two.1; event = three.1; possible = four.1; inside = fails.1.0 }
+    grind (arith, or_parts, not-false)

@@ -1,8 +1,8 @@
 -- A write that gives a command and an event that isn't read yet: the event stays possible, the command is unfinished behind it, and what
 -- is known is the same both ways but for the numbers at which rings are held
-use Rattle.safety.proofs.Words.{[], ◌≡◌, ◌≢◌, ◌⊎◌, ◌∙◌, ℕ, Bool, false, true, Option, None, Some, option_and_then, slice_get, arith, refl, sym, ap, subst, inl, inr, rules, MayCome, or_right, none-some, same_Some, Block, is_inside, RingView, Writes, changed, is_due, gives, positions_given, cases_option, gives_is, address_inside, position_given_is, Command, AddressDevice, Header, Write, Read, IsHeader, shape_of, command_id, Known, command_at, with_device, with_word, written, taken_device, device_named, no_device, command_given, learned, lenient, IsHeldMore, HeldMore, IsDriverRing, IsUnfinished, CommandKeeps, DriverKeeps, ◌∷◌, List, BlockKind, kind, Spot, target, is_off, Change, ring_having, RingSpot, on_ring, event_at, next_command, passed, broken_off, stopped_at, transferred, transferred_at, transfer_read, set_to, bound_to, moved_to, moved, pointed, disabled, in_state, held_at_ceiling, changed_by, changed_by_all, succeeded, stop_ended, finished, completed, event_read}
-use Rattle.safety.proofs.LowerLaws.{clean_tests, fewer, event_facts, ring_shape, due_has_ring, at_number, taken, written_ring, written_device, SameGiven, SameDriver, both_drivers, Alike, held_twice}
-use Rattle.safety.proofs.MiddleLaws.{taking, contains_first, and_then_parts, read_on, ReadAlike, EverySlot, SameStates, held_more, counted, read_same, command_same, event_behind, word_read, Untaken, device_read, device_driver, devices_same, beyond}
+use Rattle.safety.proofs.UpperLaws.{[], ◌≡◌, ◌≢◌, ◌⊎◌, ◌∙◌, ℕ, Bool, false, true, Option, None, Some, option_and_then, slice_get, arith, refl, sym, ap, subst, rules, MayCome, or_right, none-some, same_Some, Block, is_inside, RingView, Writes, changed, is_due, gives, positions_given, cases_option, gives_is, address_inside, position_given_is, Command, AddressDevice, Header, Write, Read, IsHeader, shape_of, command_id, Known, command_at, with_device, with_word, written, taken_device, device_named, no_device, command_given, learned, lenient, IsHeldMore, HeldMore, IsDriverRing, IsUnfinished, CommandKeeps, DriverKeeps, ◌∷◌, List, BlockKind, kind, target, Change, on_ring, event_at, next_command, passed, broken_off, stopped_at, transferred, transferred_at, transfer_read, set_to, bound_to, moved_to, moved, pointed, disabled, in_state, held_at_ceiling, changed_by, changed_by_all, succeeded, stop_ended, finished, completed, event_read, clean_tests, fewer, event_facts, ring_shape, due_has_ring, at_number, taken, written_ring, written_device, SameGiven, SameDriver, both_drivers, Alike, held_twice, taking, contains_first, and_then_parts, read_on, ReadAlike, EverySlot, held_more, read_same, command_same, event_behind, word_read, Untaken, device_read, device_driver, beyond}
+use Rattle.safety.proofs.HeldFurther.{SameStates, counted}
+use Rattle.safety.proofs.DeviceBeneath.{devices_same}
 use Rattle.safety.proofs.DriverHistories.{kept_driver}
 use Rattle.safety.proofs.WriteBehind.{command_behind}
 use Rattle.safety.proofs.WriteBeneath.{word_driver}
@@ -19,33 +19,20 @@ module _ (h : Header) where
 
   -- ---- a completion
 
-  moved_left : (k : Known) (o : Option ℕ) (p : ℕ) (cycle : Bool) → DevicesLeft k (moved h k o p cycle)
-  unfolding moved moved_to set_to on_ring
-  moved_left k o p cycle = grind (arith, none_left, target, shape_of, k.ring)
-
-  held_left : (k : Known) (o : Option ℕ) → DevicesLeft k (held_at_ceiling h k o)
-  unfolding held_at_ceiling on_ring
-  held_left k o = grind (arith, none_left)
-
   change_left : (c : Command) (k : Known) (change : Change) → DevicesLeft k (changed_by h c k change)
-  unfolding changed_by disabled in_state pointed bound_to
-  change_left c k o =
-      grind (arith, fewer, k.device, is_off, bound_to, ring_having, moved, moved_left, held_left, in_state, k.ring_of, none_left)
+  unfolding changed_by disabled in_state pointed bound_to moved moved_to set_to on_ring held_at_ceiling
+  change_left c k o = grind (arith, fewer, target, shape_of, none_left)
 
   changes_left : (c : Command) (k : Known) (all : List Change) → DevicesLeft k (changed_by_all h c k all)
   unfolding changed_by_all
   changes_left c k [] = none_left k
   changes_left c k (change ∷ rest) = λ s x at. change_left c k change s x (changes_left c (changed_by h c k change) rest s x at)
 
-  finish_left : (k : Known) (b : Block) (o : Option Command) → DevicesLeft k (finished h k b o)
-  unfolding finished succeeded stop_ended
-  finish_left k b o = grind (arith, none_left, changes_left)
-
   -- ---- any event
 
   kind_left : (k : Known) (b : Block) (n : BlockKind) → DevicesLeft k (event_read h k n b)
-  unfolding event_read transfer_read completed on_ring transferred_at transferred passed broken_off stopped_at
-  kind_left k b o = grind (arith, event_at, finish_left, command_at, next_command, none_left)
+  unfolding event_read transfer_read completed on_ring transferred_at transferred passed broken_off stopped_at finished succeeded stop_ended
+  kind_left k b o = grind (arith, event_at, changes_left, command_at, next_command, none_left)
 
   pub devices_left : (k : Known) (e : Block) → DevicesLeft k (learned h k (Read e))
   unfolding learned
@@ -146,15 +133,7 @@ module _ (h : Header) (is : IsHeader h) (k : Known) (d : DriverKeeps h k) (a w :
 
     -- the slot of an Address Device has one behind the event
     there_taken : (f : ℕ × ℕ) → taken h k a w ≡ Some f → beneath.device f.0 ≡ Some f.1
-    there_taken f at =
-        let t = taking h k a w f clean.0 at in
-        elim (cases_option (beneath.device f.0)) [
-          | inl none ↦ absurd (given_keeps.device f.0 t.takes.context t.takes.bsr (same_Some c t.command (sym given ∙ t.given) ∙ t.takes.command) none)
-          | inr some ↦
-              let now : m.device f.0 ≡ Some f.1 =
-              ap (λ g. g f.0) (written_device h k a w f at) ∙ at_number (λ (v : Option ℕ). v ≡ Some f.1) k.device f.0 (Some f.1) f.0 (λ here. refl) (λ other. absurd (other refl)) in
-              some.1 ∙ sym (devices_left h m e f.0 some.0 some.1) ∙ now
-        ]
+    there_taken f at = search (rules, taking, cases_option, given_keeps, same_Some, written_device, at_number, Option, devices_left, taking h k a w f clean.0 at, cases_option (beneath.device f.0))
 
     -- one that was there is there still
     device_kept : (s n x : ℕ) (bsr : Bool) → c ≡ AddressDevice s bsr n → k.device s ≡ Some x → l.device s ≢ None
@@ -167,21 +146,13 @@ module _ (h : Header) (is : IsHeader h) (k : Known) (d : DriverKeeps h k) (a w :
     pub device_alike : (s n : ℕ) (bsr : Bool) → c ≡ AddressDevice s bsr n → ((k.device s ≡ None) × (l.device s ≡ None)) ⊎ ((k.device s ≢ None) × (l.device s ≢ None))
     device_alike s n bsr same = search (rules, l, cases_option, none-some, devices_left, device_kept)
 
-    device_same : (s x y : ℕ) (o u : Option ℕ) → ((o ≡ None) × (u ≡ None)) ⊎ ((o ≢ None) × (u ≢ None)) → x ≡ y → no_device u s x ≡ no_device o s y
-    unfolding no_device
-    device_same s x y o z both same = grind (arith, none-some)
-
     pub names_same : (s : ℕ) → device_named l s ≡ device_named k s
     unfolding device_named
     names_same s = let driver = (event_behind h is k d e may).driver in let memory = driver.memory in let register = driver.register in cc
 
     taken_by : (x : Command) → c ≡ x → taken_device l x ≡ taken_device k x
-    unfolding taken_device
-    taken_by (AddressDevice s bsr n) at = device_same s (device_named l s) (device_named k s) (k.device s) (l.device s) (device_alike s n bsr at) (names_same s)
-    taken_by _ at = refl
-
-    taken_same : taken h l a w ≡ taken h k a w
-    taken_same = search (rules, option_and_then, taken_device, behind_given, taken_by)
+    unfolding taken_device no_device
+    taken_by x at = search (rules, none-some, device_alike, names_same)
 
     -- ---- what is known
 
@@ -227,4 +198,4 @@ module _ (h : Header) (is : IsHeader h) (k : Known) (d : DriverKeeps h k) (a w :
     -- the same both ways, but for where rings are held
     pub command_after : HeldMore (learned h l (Write a w)) beneath
     unfolding learned written
-    command_after = subst (λ o. HeldMore (with_device h (with_word h l a w) o) beneath) (sym taken_same) command_held
+    command_after = subst (λ o. HeldMore (with_device h (with_word h l a w) o) beneath) (sym (search (rules, option_and_then, taken_device, behind_given, taken_by))) command_held

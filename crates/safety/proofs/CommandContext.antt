@@ -1,7 +1,5 @@
 -- Behind an event that is read before it, a command that a write gives has the same input context, and may move the same rings
-use Rattle.safety.proofs.Words.{[], ◌≡◌, ◌∙◌, ℕ, false, Bool, Option, Some, ap, subst, MayCome, or_parts, or_from, Block, Command, SetTrDequeue, input_context_bytes, Header, Write, Read, IsHeader, Known, command_given, learned, is_bad_area, is_soiled, covers, device_ranges, is_bad_dequeue, is_bad_move, lenient, DriverKeeps, MovesIf, has_bad_context, rules, arith}
-use Rattle.safety.proofs.AreaFacts.{AreaParts, area_parts, area_from, clean_same}
-use Rattle.safety.proofs.MiddleLaws.{context_parts, context_from, Behind, devices_fewer, none_fewer, event_behind}
+use Rattle.safety.proofs.UpperLaws.{[], ◌≡◌, ◌∙◌, ℕ, false, Bool, Some, ap, subst, MayCome, or_parts, or_from, Block, Command, SetTrDequeue, Header, Write, Read, IsHeader, Known, command_given, learned, is_bad_area, is_soiled, covers, device_ranges, is_bad_dequeue, is_bad_move, lenient, DriverKeeps, MovesIf, has_bad_context, rules, arith, AreaParts, area_parts, area_from, clean_same, context_parts, context_from, Behind, devices_fewer, none_fewer, event_behind}
 use Rattle.safety.proofs.GivenBehind.{between, own_between}
 
 module _ (h : Header) (is : IsHeader h) (k : Known) (d : DriverKeeps h k) (e : Block) (may : lenient h k (Read e) ≡ []) where
@@ -21,9 +19,7 @@ module _ (h : Header) (is : IsHeader h) (k : Known) (d : DriverKeeps h k) (e : B
   clean_behind from len good = clean_same k l from len b.driver.soiled ∙ good
 
   pub context_behind : (n : ℕ) → has_bad_context h k (Some n) ≡ false → has_bad_context h l (Some n) ≡ false
-  context_behind n good =
-      let p = context_parts h k n good in
-      context_from h l n (area_behind n (input_context_bytes h.context_size) p.area) (clean_behind n (input_context_bytes h.context_size) p.clean)
+  context_behind n good = grind (arith, context_parts, context_from, area_behind, clean_behind)
 
   module _ (a w : ℕ) (clean : MayCome h k (Write a w)) (c : Command) (given : command_given h k a w ≡ Some c) where
     abbrev x : Known

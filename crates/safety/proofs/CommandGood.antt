@@ -1,6 +1,6 @@
 -- Behind an event that is read before it, a command that a write gives names a slot and an endpoint that are there, and its contexts lie and
 -- say what they may
-use Rattle.safety.proofs.Words.{[], ◌≡◌, ◌∙◌, ℕ, not, false, Option, Some, refl, MayCome, or_parts, or_from, Block, input_add_flag, Command, named_slot, named_endpoint, named_context, Header, Write, Read, IsHeader, Known, command_given, learned, lenient, DriverKeeps, has_bad_content, has_bad_context, is_bad_added, is_bad_command, names_disabled_endpoint, names_disabled_slot, takes_bad_device, type_in, arith}
+use Rattle.safety.proofs.Words.{[], ◌≡◌, ◌∙◌, ℕ, not, false, Some, MayCome, or_parts, or_from, Block, input_add_flag, Command, named_slot, named_endpoint, named_context, Header, Write, Read, IsHeader, Known, command_given, learned, lenient, DriverKeeps, has_bad_content, has_bad_context, is_bad_added, is_bad_command, names_disabled_endpoint, names_disabled_slot, takes_bad_device, type_in, arith}
 use Rattle.safety.proofs.GivenBehind.{between, own_between, facts}
 use Rattle.safety.proofs.CommandContext.{context_behind}
 use Rattle.safety.proofs.DeviceBehind.{device_behind}
@@ -13,22 +13,9 @@ module _ (h : Header) (is : IsHeader h) (k : Known) (d : DriverKeeps h k) (a w :
   abbrev x : Known
   x = between h is k d a w e clean may c given
 
-  -- states of slots and endpoints are the same between and behind the event
-  slot_same : (o : Option ℕ) → names_disabled_slot l o ≡ names_disabled_slot x o
-  unfolding names_disabled_slot
-  slot_same o = grind arith
-
-  endpoint_same : (o : Option (ℕ × ℕ)) → names_disabled_endpoint l o ≡ names_disabled_endpoint x o
-  unfolding names_disabled_endpoint
-  endpoint_same o = grind arith
-
-  context_of : (o : Option ℕ) → has_bad_context h k o ≡ false → has_bad_context h l o ≡ false
-  unfolding has_bad_context
-  context_of o good = grind (arith, context_behind)
-
   -- the command breaks BadCommand behind the event no more than before it
   pub good_behind : is_bad_command h l c ≡ false
-  unfolding is_bad_command has_bad_content is_bad_added type_in
+  unfolding is_bad_command has_bad_content is_bad_added type_in names_disabled_slot names_disabled_endpoint has_bad_context
   good_behind =
       let there_content = or_parts _ (has_bad_content h x c) (own_between h is k d a w e clean may c given).good in
       let there_context = or_parts _ (has_bad_context h x (named_context c)) there_content.0 in
@@ -36,6 +23,6 @@ module _ (h : Header) (is : IsHeader h) (k : Known) (d : DriverKeeps h k) (a w :
       let content = or_parts _ (has_bad_content h k c) (facts h is k d a w e clean may c given).own.good in
       or_from _ (has_bad_content h l c)
       (or_from _ (has_bad_context h l (named_context c))
-      (or_from (names_disabled_slot l (named_slot c)) (names_disabled_endpoint l (named_endpoint c)) (slot_same (named_slot c) ∙ there_names.0) (endpoint_same (named_endpoint c) ∙ there_names.1))
-      (context_of (named_context c) (or_parts _ (has_bad_context h k (named_context c)) content.0).1))
+      (or_from (names_disabled_slot l (named_slot c)) (names_disabled_endpoint l (named_endpoint c)) ((grind arith) ∙ there_names.0) ((grind arith) ∙ there_names.1))
+      (grind (arith, context_behind)))
       (grind (arith, or_parts, not, input_add_flag, type_in, takes_bad_device, k.memory, or_from, device_behind, false))

@@ -1,7 +1,5 @@
 -- Behind an event that is read before it, a second Address Device that a write gives finds nothing left on its ring
-use Rattle.safety.proofs.Words.{[], ◌≡◌, ◌∙◌, ℕ, Bool, length, Some, arith, refl, sym, ap, subst, inl, inr, MayCome, cases_lt, Block, RingView, declared, floor_number, Command, AddressDevice, Header, Write, Read, IsHeader, Known, command_given, learned, lenient, DriverKeeps}
-use Rattle.safety.proofs.Concerned.{Concerns}
-use Rattle.safety.proofs.MiddleLaws.{write_leaves, event_behind, rings_behind}
+use Rattle.safety.proofs.UpperLaws.{[], ◌≡◌, ◌∙◌, ℕ, Bool, length, Some, arith, refl, sym, ap, subst, inl, inr, MayCome, cases_lt, Block, RingView, declared, floor_number, Command, AddressDevice, Header, Write, Read, IsHeader, Known, command_given, learned, lenient, DriverKeeps, Concerns, write_leaves, event_behind, rings_behind}
 use Rattle.safety.proofs.CommandBeneath.{written_keeps, command_event, alike_there}
 use Rattle.safety.proofs.GivenBehind.{there, facts}
 

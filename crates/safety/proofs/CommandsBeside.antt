@@ -1,5 +1,5 @@
 -- What the rules say of a command holds still where nothing that the command reads has changed
-use Rattle.safety.proofs.Words.{[], ◌≡◌, ◌≢◌, ◌<◌, ◌==◌, ◌&&◌, ◌||◌, if◌then◌else◌, ◌∷◌, ◌∙◌, ℕ, not, Bool, false, map, Option, None, Some, is_none, nat_lt, arith, refl, ap, nat_le, rules, list_any, or_parts, or_from, and_left, Command, AddressDevice, ConfigureEndpoint, named_slot, named_endpoint, named_context, is_disabled, is_off, added_endpoints, input_add_flag, Header, is_ring, Known, binding_in, binds, ring_bound, binds_ring, drops, adds_streams, has_bad_content, has_bad_context, is_bad_added, is_bad_command, names_disabled_endpoint, names_disabled_slot, streams_in, takes_bad_device, type_in}
+use Rattle.safety.proofs.Words.{[], ◌≡◌, ◌≢◌, ◌<◌, ◌==◌, ◌&&◌, ◌||◌, if◌then◌else◌, ◌∷◌, ◌∙◌, ℕ, not, Bool, false, map, Option, None, Some, is_none, nat_lt, arith, refl, ap, nat_le, rules, list_any, or_parts, or_from, and_left, Command, AddressDevice, ConfigureEndpoint, named_slot, named_context, is_disabled, is_off, added_endpoints, input_add_flag, Header, is_ring, Known, binding_in, binds, ring_bound, binds_ring, drops, adds_streams, has_bad_content, has_bad_context, is_bad_added, is_bad_command, names_disabled_endpoint, names_disabled_slot, streams_in, takes_bad_device, type_in}
 use Rattle.safety.proofs.Concerned.{Concerns}
 use Rattle.safety.proofs.ContextReads.{AgreeIn, any_same, map_same, added_indices, added_same, add_flag_same, drop_flag_same, type_same, streams_same, pointer_same, cycle_same}
 
@@ -61,10 +61,6 @@ module _ (h : Header) where
     unfolding drops
     drops_beside o b s i = grind (arith, false, nat_le, drop_flag_same, h.context_size, k.memory, l.memory, b.memory)
 
-    endpoint_beside : (c : Command) → Beside k l c → names_disabled_endpoint l (named_endpoint c) ≡ names_disabled_endpoint k (named_endpoint c)
-    unfolding names_disabled_endpoint
-    endpoint_beside o b = grind (arith, b.off)
-
     -- a device context that is under lease isn't taken again
     pub leased_device : (s n : ℕ) → l.device s ≢ None → takes_bad_device h l s n ≡ false
     unfolding takes_bad_device
@@ -92,8 +88,8 @@ module _ (h : Header) where
     content_beside _ b good = refl
 
     pub good_beside : (c : Command) → Beside k l c → is_bad_command h k c ≡ false → is_bad_command h l c ≡ false
-    unfolding is_bad_command names_disabled_slot has_bad_context
-    good_beside c b good = search (rules, or_parts, or_from, endpoint_beside, content_beside)
+    unfolding is_bad_command names_disabled_slot has_bad_context names_disabled_endpoint
+    good_beside c b good = search (rules, or_parts, or_from, content_beside)
 
     pub in_profile_beside : (c : Command) → Beside k l c → adds_streams h k c ≡ false → adds_streams h l c ≡ false
     in_profile_beside c b good = profile_beside c b ∙ good

@@ -1,18 +1,6 @@
 -- A doorbell keeps what is kept of unfinished commands: none of them touches the endpoint
-use Rattle.safety.proofs.Words.{[], ◌≡◌, ◌≢◌, ◌==◌, ◌&&◌, if◌then◌else◌, ◌∙◌, ℕ, not, Bool, true, false, Option, None, Some, refl, sym, ap, subst, eq-eqb, rules, cond_both, cond-false, or_parts, or_left, and_from, false≢true, put_pair, Opens, number, Command, SetTrDequeue, EndpointState, is_off, is_stopped, is_at_rest, changes, Header, Bell, IsHeader, shape_of, command_id, Known, on_ring, endpoint_rung, rung, touches_endpoint, is_touched, is_bad_bell, is_bad_doorbell, doorbell_tests, lenient_tests, lenient, IsUnfinished, CommandKeeps, DriverKeeps, drops, is_dropped, arith}
-use Rattle.safety.proofs.TestsPassed.{tests_fail}
-use Rattle.safety.proofs.DriverRows.{ring_here, ring_elsewhere}
-use Rattle.safety.proofs.Headers.{transfer_not_command}
-use Rattle.safety.specs.EndpointsKeep.{IsTransferRing as IsTransferTest}
-use Rattle.safety.proofs.RingIds.{command_not_transfer}
-use Rattle.safety.proofs.BoundRings.{bound_transfer}
-use Rattle.safety.proofs.SameDriver.{SameGiven, on_ring_same}
-use Rattle.safety.proofs.EndpointPut.{at_pair}
+use Rattle.safety.proofs.MiddleLaws.{[], ◌≡◌, ◌≢◌, ◌==◌, ◌&&◌, if◌then◌else◌, ◌∙◌, ℕ, not, Bool, true, false, Option, None, Some, refl, sym, ap, subst, eq-eqb, rules, cond_both, cond-false, or_parts, or_left, and_from, false≢true, put_pair, Opens, number, Command, SetTrDequeue, is_stopped, is_at_rest, changes, Header, Bell, IsHeader, shape_of, command_id, Known, on_ring, endpoint_rung, rung, touches_endpoint, is_touched, is_bad_bell, is_bad_doorbell, doorbell_tests, lenient_tests, lenient, IsUnfinished, CommandKeeps, DriverKeeps, drops, is_dropped, arith, tests_fail, ring_here, ring_elsewhere, transfer_not_command, IsTransferTest, command_not_transfer, bound_transfer, SameGiven, on_ring_same, at_pair, unfinished_fails, standing_same, unfinished_view, PlacesStay, MovesAhead, still_restored, SameStates, RingsStay, ring_stays, same_stay}
 use Rattle.safety.proofs.NothingFree.{opened_free}
-use Rattle.safety.proofs.UnfinishedLists.{unfinished_fails}
-use Rattle.safety.proofs.MovesSame.{standing_same, unfinished_view}
-use Rattle.safety.proofs.CommandsStay.{PlacesStay, MovesAhead, still_restored}
-use Rattle.safety.proofs.CommandsSame.{SameStates, RingsStay, ring_stays, same_stay}
 
 opened_states : (h : Header) (k : Known) (r : ℕ) → SameStates k (on_ring h k r Opens)
 unfolding on_ring
@@ -44,14 +32,9 @@ module _ (h : Header) (is : IsHeader h) (k : Known) (d : DriverKeeps h k) where
       let none = unfinished_fails h k (touches_endpoint h k s t) u (SetTrDequeue q i p cycle) untouched unfinished_at in
       false≢true (sym none ∙ or_left (s == q && t == i) false (and_from (s == q) (t == i) (eq-eqb s q (sym same_slot)) (eq-eqb t i (sym same_index))))
 
-  -- nor one that an unfinished command drops
-  drops_touches : (s t : ℕ) (c : Command) → drops k c s t ≡ true → touches_endpoint h k s t c ≡ true
-  unfolding drops touches_endpoint changes
-  drops_touches s t o drops_it = grind (arith, false, or_left, is_dropped, k.memory, false≢true)
-
   none_drops : (s t u : ℕ) (c : Command) → is_touched h k s t ≡ false → IsUnfinished h k u c → drops k c s t ≡ true → ⊥
-  unfolding is_touched
-  none_drops s t u c untouched unfinished_at drops_it = false≢true (sym (unfinished_fails h k (touches_endpoint h k s t) u c untouched unfinished_at) ∙ drops_touches s t c drops_it)
+  unfolding is_touched drops touches_endpoint changes
+  none_drops s t u c untouched unfinished_at drops_it = false≢true (sym (unfinished_fails h k (touches_endpoint h k s t) u c untouched unfinished_at) ∙ (grind (arith, false, or_left, is_dropped, k.memory, false≢true)))
 
   module _ (s t r : ℕ) (has : k.ring_of s t ≡ Some r) (untouched : is_touched h k s t ≡ false) where
     opened : Known

@@ -1,6 +1,5 @@
 -- What is kept of unfinished commands is kept where slots, endpoints, contexts and device contexts are as they were
-use Rattle.safety.proofs.Words.{◌≡◌, ◌∙◌, ℕ, Bool, true, false, Option, None, Some, refl, sym, ap, rules, MovesRestored, or_parts, Command, AddressDevice, SetTrDequeue, named_context, is_disabled, is_off, is_at_rest, Header, shape_of, Known, device_ranges, is_bad_area, is_soiled, IsUnfinished, CommandKeeps, binds_ring, has_bad_content, has_bad_context, is_bad_command}
-use Rattle.safety.proofs.CommandsBeside.{Beside}
+use Rattle.safety.proofs.LowerLaws.{◌≡◌, ◌∙◌, ℕ, Bool, true, false, Option, None, Some, refl, sym, ap, rules, MovesRestored, or_parts, Command, AddressDevice, SetTrDequeue, named_context, is_disabled, is_off, is_at_rest, Header, shape_of, Known, device_ranges, is_bad_area, is_soiled, IsUnfinished, CommandKeeps, binds_ring, has_bad_content, has_bad_context, is_bad_command, Beside}
 use Rattle.safety.proofs.CommandsStay.{Standing, PlacesStay, MovesAhead, RingsBeside, own_keeps, pair_keeps, commands_stay, still_restored}
 
 pub record SameStates (k l : Known) : Type 0 where

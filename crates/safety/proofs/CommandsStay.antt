@@ -1,9 +1,5 @@
 -- What is kept of unfinished commands is kept where nothing that they read has changed
-use Rattle.safety.proofs.Words.{◌≡◌, ◌≢◌, ◌≤◌, ◌∙◌, ℕ, not, Bool, true, false, map, All, Option, None, Some, arith, refl, sym, ap, subst, List, get_or, eq-eqb, rules, MovesRestored, or_parts, or_from, not-false, not_from_true, Shape, RingView, declared, floor_number, ceiling, is_move, Command, AddressDevice, SetTrDequeue, is_at_rest, context_pointer, context_cycle, Header, shape_of, Known, binds, ring_bound, binds_ring, has_repeats, is_bad_dequeue, is_bad_move, IsUnfinished, StaysIf, MovesIf, CommandKeeps, is_placed, is_placement, drops, Binding, list_any, is_ring, Any-from_list_any, All-get_or, cases_option, list_any_at, false≢true, placement_still, exclude, adds_streams, is_bad_command}
-use Rattle.safety.proofs.Concerned.{Concerns}
-use Rattle.safety.proofs.ContextReads.{pointer_same, cycle_same}
-use Rattle.safety.proofs.BoundRings.{ring_is}
-use Rattle.safety.proofs.CommandsBeside.{Beside, good_beside, in_profile_beside, binds_beside, binds_ring_beside, drops_beside}
+use Rattle.safety.proofs.LowerLaws.{◌≡◌, ◌≢◌, ◌≤◌, ◌∙◌, ℕ, not, Bool, true, false, map, All, Some, arith, refl, sym, ap, subst, List, get_or, eq-eqb, rules, MovesRestored, or_parts, or_from, not-false, not_from_true, Shape, RingView, declared, floor_number, ceiling, is_move, Command, AddressDevice, SetTrDequeue, is_at_rest, context_pointer, context_cycle, Header, shape_of, Known, binds, ring_bound, binds_ring, has_repeats, is_bad_dequeue, is_bad_move, IsUnfinished, StaysIf, MovesIf, CommandKeeps, is_placed, is_placement, drops, Binding, list_any, is_ring, Any-from_list_any, All-get_or, cases_option, list_any_at, false≢true, placement_still, exclude, adds_streams, is_bad_command, Concerns, pointer_same, cycle_same, ring_is, Beside, good_beside, in_profile_beside, binds_beside, binds_ring_beside, drops_beside}
 
 -- the pointer of a ring on which nothing is given stands there still, and nothing is given still
 pub record Standing (shape : Shape) (v w : RingView) : Type 0 where
@@ -44,18 +40,9 @@ module _ (h : Header) where
   pub pair_keeps : (k : Known) (p q : ℕ) (c d : Command) → CommandKeeps h k p c → IsUnfinished h k q d → q ≢ p → PairKeeps k c d
   pair_keeps k p q c d keeps u other = record { alone = keeps.alone q d u other; unshared = λ r bound. keeps.unshared r q d bound u other }
 
-  -- a ring that an unfinished command binds stands still
-  placed_bound : (k : Known) (bs : List Binding) (r : ℕ) → All (λ b. is_placed h k (ring_bound h b) b ≡ true) bs → list_any (λ b. is_ring r (ring_bound h b)) bs ≡ true → ceiling (shape_of h r) (k.ring r) ≤ floor_number (k.ring r)
-  unfolding is_placed
-  placed_bound k bs r all bound =
-      let any = Any-from_list_any (λ b. is_ring r (ring_bound h b)) bs bound in
-      let b : Binding = any.1 in
-      let at : is_placed h k (ring_bound h b) b ≡ true = subst (λ (x : Binding). is_placed h k (ring_bound h x) x ≡ true) any.3 (All-get_or (λ x. is_placed h k (ring_bound h x) x ≡ true) bs any.0 b any.2 all) in
-      placement_still (shape_of h r) (k.ring r) b.pointer b.cycle (sym (ap (λ o. is_placed h k o b) (ring_is r (ring_bound h b) any.4)) ∙ at)
-
   pub bound_still : (k : Known) (p : ℕ) (c : Command) → CommandKeeps h k p c → (r : ℕ) → binds_ring h k r c ≡ true → ceiling (shape_of h r) (k.ring r) ≤ floor_number (k.ring r)
-  unfolding binds_ring
-  bound_still k p c keeps r bound = placed_bound k (binds h k c) r keeps.binds bound
+  unfolding binds_ring is_placed
+  bound_still k p c keeps r bound = grind (arith, Any-from_list_any, All-get_or, placement_still, ring_is)
 
   -- the rings that a command names, and the endpoints that have them
   pub record RingsBeside (k l : Known) (c : Command) : Type 0 where
@@ -70,27 +57,11 @@ module _ (h : Header) where
     pub moved : MovesRestored k c → MovesRestored l c
 
   module _ (k l : Known) where
-    dequeue_beside : (o : Option ℕ) (p : ℕ) (cycle : Bool) → ((r : ℕ) → o ≡ Some r → MovesAhead (shape_of h r) (k.ring r) (l.ring r)) →
-        is_bad_dequeue h k o p cycle ≡ false → is_bad_dequeue h l o p cycle ≡ false
-    unfolding is_bad_dequeue
-    dequeue_beside None p cycle ahead good = good
-    dequeue_beside (Some r) p cycle ahead good = search (rules, not_from_true, is_move, shape_of, l.ring, ceiling, declared, not-false, k.ring)
-
     set_beside : (s i p : ℕ) (cycle : Bool) → RingsBeside k l (SetTrDequeue s i p cycle) → is_bad_move h k (SetTrDequeue s i p cycle) ≡ false → is_bad_move h l (SetTrDequeue s i p cycle) ≡ false
-    unfolding is_bad_move
+    unfolding is_bad_move is_bad_dequeue
     set_beside s i p cycle b good =
         let parts = or_parts (not (is_at_rest (k.endpoint_state s i))) (is_bad_dequeue h k (k.ring_of s i) p cycle) good in
-        let rests : is_at_rest (k.endpoint_state s i) ≡ true = not-false (is_at_rest (k.endpoint_state s i)) parts.0 in
-        or_from (not (is_at_rest (l.endpoint_state s i))) (is_bad_dequeue h l (l.ring_of s i) p cycle)
-        (not_from_true (is_at_rest (l.endpoint_state s i)) (b.rest s i p cycle refl rests))
-        (ap (λ o. is_bad_dequeue h l o p cycle) (b.ring_of s i (refl, (refl, refl)))
-        ∙ dequeue_beside (k.ring_of s i) p cycle (λ r at. b.ahead s i p r cycle refl at rests) parts.1)
-
-    moves_beside : (c : Command) → RingsBeside k l c → MovesIf h k c → MovesIf h l c
-    unfolding is_bad_move
-    moves_beside (SetTrDequeue s i p cycle) b good = set_beside s i p cycle b good
-    moves_beside (AddressDevice s bsr n) b good = tt
-    moves_beside _ b good = refl
+        search (rules, not-false, or_from, not_from_true)
 
     stays_beside : (c : Command) → Beside h k l c → RingsBeside k l c → StaysIf h k c → StaysIf h l c
     stays_beside (AddressDevice s bsr n) m b stays =
@@ -115,7 +86,7 @@ module _ (h : Header) where
     placed_beside bs still all x d inside = search (rules, get_or, cases_option, false≢true, list_any_at, eq-eqb)
 
     pub own_beside : (c : Command) → Beside h k l c → RingsBeside k l c → OwnKeeps k c → OwnKeeps l c
-    unfolding binds_ring
+    unfolding binds_ring is_bad_move
     own_beside c m b own =
         let one : binds h l c ≡ binds h k c = binds_beside h k l c m in
         record {
@@ -126,7 +97,7 @@ module _ (h : Header) where
           unkept = λ r s i bound has.
               let before = sym (binds_ring_beside h k l c m r) ∙ bound in
               drops_beside h k l c m s i ∙ own.unkept r s i before (b.kept r s i before has);
-          moves_on = moves_beside c b own.moves_on;
+          moves_on = grind (arith, set_beside);
           stays = stays_beside c m b own.stays;
         }
 

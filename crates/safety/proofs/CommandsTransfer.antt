@@ -1,19 +1,6 @@
 -- A Transfer Event keeps what is kept of unfinished commands
-use Rattle.safety.proofs.Words.{◌≡◌, ◌≢◌, ◌==◌, ◌||◌, ◌∙◌, ℕ, not, Bool, true, false, nat_lt, Option, None, Some, arith, refl, sym, ap, subst, inl, inr, eq-eqb, ltb-true, rules, cases_eq, and_parts, and_cases, or_parts, not-false, false≢true, Block, code, slot, endpoint, pointer, Spot, number, ceiling, is_data_below, cases_option, given_below, step_is, ceiling_within, below_is, IsAhead, named_ahead, Command, AddressDevice, StopEndpoint, is_stop_of, EndpointState, is_off, is_running, is_at_rest, Header, IsHeader, shape_of, command_id, Known, RingSpot, event_at, command_at, next_command, transferred, transferred_at, transfer_read, is_in_profile, may_be_taken, is_stopping_now, can_report, can_report_at, is_impossible_transfer, IsDriverRing, IsUnfinished, Stays, DriverKeeps, CommandsKeep, binds_ring, drops, same_Some, and_from}
-use Rattle.safety.proofs.Headers.{ring_shape, transfer_driver, transfer_not_command}
-use Rattle.safety.proofs.NoWait.{ceiling_given}
-use Rattle.safety.proofs.SafeContext.{AtFloor, at_floor}
-use Rattle.safety.proofs.Transfers.{chain, spot_is}
-use Rattle.safety.proofs.TransferFrames.{spot_ring}
-use Rattle.safety.proofs.CommandRing.{due_has_ring}
-use Rattle.safety.proofs.SameDriver.{SameDriver, transfer_same}
-use Rattle.safety.proofs.TransferLeaves.{TransferLeaves, transferred_leaves}
-use Rattle.safety.proofs.MovesSame.{ahead_held, unfinished_view}
-use Rattle.safety.proofs.CommandsStay.{Standing, PlacesStay, MovesAhead, bound_still, still_restored}
-use Rattle.safety.proofs.BoundRings.{drops_concerns, stops_drop_none}
-use Rattle.safety.proofs.Concerned.{not_both}
-use Rattle.safety.proofs.CommandsSame.{SameStates, RingsStay, same_stay}
-use Rattle.safety.proofs.StatesParts.{stop_is}
+use Rattle.safety.proofs.MiddleLaws.{◌≡◌, ◌≢◌, ◌==◌, ◌||◌, ◌∙◌, ℕ, not, Bool, true, false, nat_lt, Option, None, Some, arith, refl, sym, ap, subst, inl, inr, eq-eqb, ltb-true, rules, cases_eq, and_parts, and_cases, or_parts, not-false, false≢true, Block, slot, endpoint, pointer, Spot, number, ceiling, is_data_below, cases_option, given_below, step_is, ceiling_within, below_is, IsAhead, named_ahead, Command, AddressDevice, StopEndpoint, is_stop_of, EndpointState, is_off, is_running, is_at_rest, Header, IsHeader, shape_of, command_id, Known, RingSpot, event_at, command_at, next_command, transferred_at, transfer_read, is_in_profile, may_be_taken, is_stopping_now, can_report, can_report_at, is_impossible_transfer, IsDriverRing, IsUnfinished, Stays, DriverKeeps, CommandsKeep, binds_ring, drops, same_Some, and_from, ring_shape, transfer_driver, transfer_not_command, ceiling_given, AtFloor, at_floor, chain, spot_is, spot_ring, due_has_ring, SameDriver, TransferLeaves, transferred_leaves, ahead_held, unfinished_view, Standing, PlacesStay, MovesAhead, bound_still, still_restored, drops_concerns, stops_drop_none, not_both, SameStates, RingsStay, same_stay, stop_is}
+use Rattle.safety.proofs.SameDriver.{transfer_same}
 
 pub rest_not_running : (e : EndpointState) → is_at_rest e ≡ true → is_running e ≡ false
 rest_not_running o rests = grind (arith, false≢true)
@@ -64,9 +51,7 @@ module _ (h : Header) (is : IsHeader h) (k : Known) (d : DriverKeeps h k) where
     drops_it = (d.unfinished u e unfinished_at).unkept r s i bound has
 
     bound_none_below : is_data_below (ceiling (shape_of h r) (k.ring r)) t ≡ true → ⊥
-    bound_none_below below =
-        let still = bound_still h k u e (d.unfinished u e unfinished_at) r bound in
-        absurd (omega (arith, (below_is (ceiling (shape_of h r) (k.ring r)) t below), still, ahead.from))
+    bound_none_below below = grind (arith, bound_still, below_is, bound_still h k u e (d.unfinished u e unfinished_at) r bound)
 
     bound_none_stops : is_stopping_now h k s i ≡ true → ⊥
     bound_none_stops stopping =
@@ -109,11 +94,7 @@ module _ (h : Header) (is : IsHeader h) (k : Known) (d : DriverKeeps h k) where
                 absurd (no_report u s n r bsr here (ap (λ b. k.ring_of s b) one.1 ∙ has) t ahead c (ap (λ b. can_report h k c s b r t) one.1 ∙ can))
             | inr other ↦ subst (λ v. Standing (shape_of h x) (k.ring x) v) (sym (leaves.others x other)) (record { here = λ a b moves. moves; nothing = λ none. none })
           ];
-      still = λ x bound.
-          elim (cases_eq x r) [
-            | inl same ↦ absurd (bound_none_reported u s i r e unfinished_at has (subst (λ n. binds_ring h k n e ≡ true) same bound) t ahead c can)
-            | inr other ↦ subst (λ v. PlacesStay (shape_of h x) (k.ring x) v) (sym (leaves.others x other)) (λ a b placed. placed)
-          ];
+      still = grind (arith, cases_eq, bound_none_reported, PlacesStay);
       moved = still_restored k l e (λ q j its. ap (λ f. f q j) leaves.ring_of) (λ x. (driver.rings x).free);
     }
 
@@ -132,8 +113,7 @@ module _ (h : Header) (is : IsHeader h) (k : Known) (d : DriverKeeps h k) where
       let ring : IsDriverRing h at.ring = transfer_driver h at.ring (d.states.transfer (slot b) (endpoint b) at.ring has) in
       let ahead = named_ahead (shape_of h at.ring) k.memory (k.ring at.ring) (d.rings at.ring ring) (pointer b) at.spot
       (spot_is h k (pointer b) (k.ring_of (slot b) (endpoint b)) at found) in
-      reported_commands (code b) (slot b) (endpoint b) at.ring at.spot has on ahead can (transferred h k (code b) (slot b) (endpoint b) at.ring at.spot) driver
-      (transferred_leaves h k (slot b) (endpoint b) at.ring (code b) at.spot can)
+      search (rules, reported_commands, transferred_leaves)
 
   pub transfer_commands : (b : Block) → is_impossible_transfer h k b ≡ false → is_in_profile b ≡ true → CommandsKeep h (transfer_read h k b)
   unfolding transfer_read is_impossible_transfer

@@ -1,31 +1,12 @@
 -- A write keeps what is kept of unfinished commands, and of the command that it gives holds what was tested
-use Rattle.safety.proofs.Words.{[], ◌≡◌, ◌≢◌, ◌<◌, ◌∙◌, ℕ, not, Bool, true, false, None, Some, arith, refl, sym, ap, subst, inl, inr, eq-eqb, ◌||◌, ◌≤◌, ◌⊎◌, rules, MovesRestored, command_given, list_any, or_parts, or_from, and_from, not_from_false, false≢true, false_from_ne_true, All-contains, Shape, RingView, Writes, changed, declared, floor_number, gives, positions_given, ceiling, is_not_declared, cases_option, gives_is, position_given, gives_one, move-writes, ceiling_held, Command, AddressDevice, is_off, is_at_rest, is_running, Header, Write, IsHeader, shape_of, command_id, is_ring, Known, unfinished, binds_ring, awaits_binding, is_being_bound, moves_ring, is_being_moved, crossings_given, crossing_given, gives_crossing, given_count, given_count_grows, step_more, GivesMore, is_placement, is_open, is_inside, address_inside, IsTransferRing, cases_Bool, or_cases, write_tests, lenient_tests, lenient, IsDriverRing, IsUnfinished, DriverKeeps, CommandsKeep, exclude, is_busy}
-use Rattle.safety.proofs.TestsPassed.{AllFail, tests_fail}
-use Rattle.safety.proofs.RingsOfHeader.{has_ring}
-use Rattle.safety.proofs.Headers.{ring_shape, transfer_driver, transfer_not_command}
-use Rattle.safety.proofs.DriverRings.{driver_test, transfer_ring}
-use Rattle.safety.proofs.Writing.{none_given, none_crossed}
-use Rattle.safety.proofs.NoWait.{ceiling_open}
-use Rattle.safety.proofs.OpenRings.{held_open}
-use Rattle.safety.proofs.BoundRings.{bound_transfer}
-use Rattle.safety.proofs.OtherRingsWritten.{written_elsewhere}
-use Rattle.safety.proofs.RowFrames.{write_leaves}
-use Rattle.safety.proofs.UnfinishedLists.{unfinished_fails}
-use Rattle.safety.proofs.GivenRules.{GivenFacts, given_facts}
-use Rattle.safety.proofs.WrittenKnown.{after_write, written_ring, GivesCommand, unfinished_written}
+use Rattle.safety.proofs.MiddleLaws.{[], ◌≡◌, ◌≢◌, ◌<◌, ◌∙◌, ℕ, Bool, true, false, Some, arith, sym, ap, subst, inl, inr, eq-eqb, ◌≤◌, rules, MovesRestored, command_given, list_any, or_parts, or_from, and_from, not_from_false, false≢true, false_from_ne_true, All-contains, Shape, RingView, Writes, changed, declared, floor_number, gives, ceiling, is_not_declared, cases_option, gives_is, position_given, gives_one, move-writes, ceiling_held, Command, AddressDevice, is_at_rest, is_running, Header, Write, IsHeader, shape_of, command_id, Known, unfinished, binds_ring, awaits_binding, is_being_bound, moves_ring, is_being_moved, crossings_given, crossing_given, gives_crossing, given_count_grows, step_more, GivesMore, is_placement, is_open, is_inside, address_inside, IsTransferRing, cases_Bool, or_cases, write_tests, lenient_tests, lenient, IsDriverRing, IsUnfinished, DriverKeeps, CommandsKeep, exclude, is_busy, AllFail, tests_fail, has_ring, ring_shape, transfer_driver, transfer_not_command, driver_test, transfer_ring, none_given, none_crossed, ceiling_open, held_open, bound_transfer, written_elsewhere, write_leaves, unfinished_fails, GivenFacts, given_facts, after_write, written_ring, GivesCommand, unfinished_written, Beside, Standing, PlacesStay, MovesAhead, OwnKeeps, PairKeeps, RingsBeside, own_keeps, pair_keeps, commands_stay, still_restored, excludes_turned, on_is}
 use Rattle.safety.proofs.WriteBeside.{beside_old, beside_new}
 use Rattle.safety.proofs.CommandsTransfer.{rest_not_running}
-use Rattle.safety.proofs.CommandsBeside.{Beside}
-use Rattle.safety.proofs.CommandsStay.{Standing, PlacesStay, MovesAhead, OwnKeeps, PairKeeps, RingsBeside, own_keeps, pair_keeps, commands_stay, still_restored}
-use Rattle.safety.proofs.Concerned.{excludes_turned}
-use Rattle.safety.proofs.StatesPlaced.{on_is}
 
 -- ---- one ring
 
 ahead_written : (shape : Shape) (v : RingView) (a w m : ℕ) → v.held ≡ Some m → MovesAhead shape v (changed shape v (Writes a w))
-ahead_written shape v a w m at p cycle moves =
-    move-writes shape v p cycle (ceiling shape v) (declared v) (ceiling shape (changed shape v (Writes a w))) (declared v)
-    (omega (arith, ceiling_held shape v m at, ceiling_held shape (changed shape v (Writes a w)) m at)) (omega arith) moves a w
+ahead_written shape v a w m at p cycle moves = grind (arith, move-writes, ceiling_held)
 
 -- where nothing more is given a ring stands still where it did
 placing_written : (shape : Shape) (v : RingView) (a w : ℕ) → ceiling shape (changed shape v (Writes a w)) ≤ ceiling shape v → PlacesStay shape v (changed shape v (Writes a w))
@@ -33,14 +14,7 @@ unfolding is_placement
 placing_written shape v a w less p cycle placed = search (rules, move-writes)
 
 ceiling_written : (shape : Shape) (v : RingView) (a w : ℕ) → GivesMore (changed shape v (Writes a w)) v → ceiling shape (changed shape v (Writes a w)) ≤ ceiling shape v
-ceiling_written shape v a w back = by (cases_option v.held)
-  where
-    count : given_count shape (changed shape v (Writes a w)) ≤ given_count shape v
-    count = given_count_grows shape (changed shape v (Writes a w)) v (omega arith) (step_more shape (changed shape v (Writes a w)) v back)
-
-    by : (v.held ≡ None) ⊎ ((m : ℕ) × (v.held ≡ Some m)) → ceiling shape (changed shape v (Writes a w)) ≤ ceiling shape v
-    by (inl none) = omega (arith, count, ceiling_open shape v none, ceiling_open shape (changed shape v (Writes a w)) none)
-    by (inr held) = omega (arith, ceiling_held shape v held.0 held.1, ceiling_held shape (changed shape v (Writes a w)) held.0 held.1)
+ceiling_written shape v a w back = grind (arith, cases_option, given_count_grows, step_more, ceiling_open, ceiling_held)
 
 held_written : (shape : Shape) (v : RingView) (a w m : ℕ) → v.held ≡ Some m → ceiling shape (changed shape v (Writes a w)) ≤ ceiling shape v
 held_written shape v a w m at = omega (arith, ceiling_held shape v m at, ceiling_held shape (changed shape v (Writes a w)) m at)
@@ -63,13 +37,7 @@ module _ (h : Header) (is : IsHeader h) (k : Known) (d : DriverKeeps h k) (a w :
   -- the rule of a busy ring, of a block that is given
   none_waits : (r : ℕ) → IsDriverRing h r → (p : ℕ) → (k.ring r).given p ≡ false → gives (shape_of h r) (k.ring r).floor p a w ≡ true → (is_being_moved h k r ≡ false) × (awaits_binding h k r ≡ false)
   unfolding lenient_tests write_tests
-  none_waits r ring p fresh now =
-      let fails : AllFail (write_tests h k a w) = tests_fail h k (Write a w) clean in
-      let each = none_given h k a w r (has_ring h r (driver_test h r ring)) (λ r p. is_being_moved h k r || awaits_binding h k r) (or_parts _ _ (or_parts _ _ fails.1.1.1.1.1.1.0).0).1 in
-      let parts =
-      or_parts (is_being_moved h k r) (awaits_binding h k r)
-      (All-contains (λ p. (is_being_moved h k r || awaits_binding h k r) ≡ false) (positions_given (shape_of h r) (k.ring r) a w) p each (position_given (shape_of h r) (k.ring r) a w p fresh now)) in
-      (parts.0, parts.1)
+  none_waits r ring p fresh now = grind (arith, AllFail, tests_fail, none_given, has_ring, driver_test, or_parts, All-contains, position_given, tests_fail h k (Write a w) clean)
 
   -- no block is given on a ring that an unfinished Address Device moves
   none_moved : (u s n r : ℕ) (bsr : Bool) → IsUnfinished h k u (AddressDevice s bsr n) → k.ring_of s 1 ≡ Some r → (p : ℕ) → (k.ring r).given p ≡ false →
@@ -77,8 +45,7 @@ module _ (h : Header) (is : IsHeader h) (k : Known) (d : DriverKeeps h k) (a w :
   unfolding is_being_moved moves_ring
   none_moved u s n r bsr at has p fresh now =
       let none = unfinished_fails h k (moves_ring h k r) u (AddressDevice s bsr n) ((none_waits r (transfer_driver h r (d.states.transfer s 1 r has)) p fresh now).0) at in
-      false≢true (sym none ∙ and_from (not (is_off (k.endpoint_state s 1))) (is_ring r (k.ring_of s 1)) (not_from_false (is_off (k.endpoint_state s 1)) (on_is (k.endpoint_state s 1) (d.states.on s 1 r has)))
-      (ap (λ o. is_ring r o) has ∙ eq-eqb r r refl))
+      search (rules, false≢true, and_from, not_from_false, on_is, eq-eqb)
 
   -- nor a block or a Link on an open ring that an unfinished command binds
   module _ (u r : ℕ) (c : Command) (at : IsUnfinished h k u c) (bound : binds_ring h k r c ≡ true) (opened : is_open (k.ring r) ≡ true) where
@@ -134,11 +101,7 @@ module _ (h : Header) (is : IsHeader h) (k : Known) (d : DriverKeeps h k) (a w :
   none_declared s r has end p fresh now =
       let fails : AllFail (write_tests h k a w) = tests_fail h k (Write a w) clean in
       let driver : IsDriverRing h r = transfer_driver h r (d.states.transfer s 1 r has) in
-      let each = none_given h k a w r (has_ring h r (driver_test h r driver)) (λ r p. is_not_declared (k.ring r) p) fails.1.1.0 in
-      let below = declared_is (k.ring r) p
-      (All-contains (λ p. is_not_declared (k.ring r) p ≡ false) (positions_given (shape_of h r) (k.ring r) a w) p each (position_given (shape_of h r) (k.ring r) a w p fresh now)) in
-      let from = (gives_is (shape_of h r) (k.ring r).floor p a w now).from in
-      omega arith
+      grind (arith, none_given, has_ring, driver_test, declared_is, All-contains, position_given, gives_is)
 
   rings_with : (c : Command) → ((s n r : ℕ) (bsr : Bool) → c ≡ AddressDevice s bsr n → k.ring_of s 1 ≡ Some r → (p : ℕ) → (k.ring r).given p ≡ false →
       gives (shape_of h r) (k.ring r).floor p a w ≡ true → ⊥) → ((r : ℕ) → binds_ring h k r c ≡ true → PlacesStay (shape_of h r) (k.ring r) (l.ring r)) → RingsBeside h k l c
@@ -201,11 +164,7 @@ module _ (h : Header) (is : IsHeader h) (k : Known) (d : DriverKeeps h k) (a w :
       ]
 
   beside : (p : ℕ) (c : Command) → IsUnfinished h l p c → Beside h k l c
-  beside p c u =
-      elim (unfinished_written h k a w is p c u) [
-        | inl old ↦ beside_old h is k d a w clean p c old
-        | inr new ↦ beside_new h is k d a w clean p c new (facts_of p c new).own.good
-      ]
+  beside p c u = grind (arith, unfinished_written, beside_old, beside_new, facts_of, unfinished_written h k a w is p c u)
 
   rings : (p : ℕ) (c : Command) → IsUnfinished h l p c → RingsBeside h k l c
   rings p c u =

@@ -1,10 +1,6 @@
 -- A Command Completion Event that may be read keeps what the rules keep of each ring, so long as it places endpoints where it may
-use Rattle.safety.proofs.Words.{[], ◌≡◌, ◌<◌, ◌≤◌, ◌==◌, ◌||◌, if◌then◌else◌, ◌∷◌, ℕ, not, nat_lt, Bool, false, List, Option, None, Some, arith, refl, sym, subst, ltb-true, eqb-true, true, rules, IsShownTo, RingsKept, changed, cond_both, or_parts, not-false, Block, code, slot, pointer, Spot, address_of, number, after, RingView, Reaches, Holds, floor_number, ceiling, target, is_reached, MayReach, holds_keeps, reaches_keeps, reaches_and_holds_keeps, reached_given, after_reached, number-after, move_reached, ceiling_held, ceiling_within, IsAhead, target_ahead, Command, EndpointState, is_off, Change, Places, Stops, changes, Header, IsHeader, shape_of, command_id, ring_having, Known, command_at, next_command, set_to, bound_to, moved_to, moved, pointed, disabled, in_state, held_at_ceiling, changed_by, changed_by_all, succeeded, stop_ended, finished, completed, may_be_taken, can_finish, is_impossible_completion, RingsKeep, EndpointsKeep, MayPoint, MayChange, MayChangeAll, MayFinish}
+use Rattle.safety.proofs.MiddleLaws.{[], ◌≡◌, ◌<◌, ◌≤◌, ◌==◌, ◌||◌, if◌then◌else◌, ◌∷◌, ℕ, not, nat_lt, Bool, false, List, Option, None, Some, arith, refl, sym, subst, ltb-true, eqb-true, true, rules, IsShownTo, RingsKept, changed, cond_both, or_parts, not-false, Block, code, slot, pointer, Spot, address_of, number, after, RingView, Reaches, Holds, floor_number, ceiling, target, is_reached, MayReach, holds_keeps, reaches_keeps, reaches_and_holds_keeps, reached_given, after_reached, number-after, move_reached, ceiling_held, ceiling_within, IsAhead, target_ahead, Command, is_off, Change, Places, Stops, changes, Header, IsHeader, shape_of, command_id, ring_having, Known, command_at, next_command, set_to, bound_to, moved_to, moved, pointed, disabled, in_state, held_at_ceiling, changed_by, changed_by_all, succeeded, stop_ended, finished, completed, may_be_taken, can_finish, is_impossible_completion, RingsKeep, EndpointsKeep, MayPoint, MayChange, MayChangeAll, MayFinish, shape_allowed, finish_elsewhere, stands, same_keeps, on_ring_keeps, on_ring_twice_keeps, passes_at, passes_held}
 use Rattle.safety.specs.RingsKeep.{IsDriverRing}
-use Rattle.safety.proofs.RingsOfHeader.{shape_allowed}
-use Rattle.safety.proofs.EndpointHistories.{finish_elsewhere}
-use Rattle.safety.proofs.DriverRows.{stands, same_keeps, on_ring_keeps, on_ring_twice_keeps}
-use Rattle.safety.proofs.Passing.{passes_at, passes_held}
 
 module _ (h : Header) (is : IsHeader h) (first : Known) where
   -- the pointer of a ring is set to a spot that it may reach
@@ -42,8 +38,7 @@ module _ (h : Header) (is : IsHeader h) (first : Known) where
   bound_keeps : (k : Known) → RingsKept h first k → (s i : ℕ) (o : Option ℕ) (p : ℕ) (cycle : Bool) → MayGo k o p cycle → RingsKept h first (bound_to h k s i o p cycle)
   unfolding bound_to
   bound_keeps k keeps s i None p cycle may = keeps
-  bound_keeps k keeps s i (Some r) p cycle may =
-      same_keeps h first (moved h k (Some r) p cycle) (bound_to h k s i (Some r) p cycle) refl refl (moved_keeps k keeps (Some r) p cycle may)
+  bound_keeps k keeps s i (Some r) p cycle may = search (rules, moved_keeps)
 
   pointed_keeps : (k : Known) → RingsKept h first k → (s i p : ℕ) (cycle : Bool) → MayPoint h k s i p cycle → RingsKept h first (pointed h k s i p cycle)
   unfolding pointed
@@ -65,10 +60,6 @@ module _ (h : Header) (is : IsHeader h) (first : Known) where
         rules = holds_keeps (shape_of h r) allowed k.memory (k.ring r) kept.rules (ceiling (shape_of h r) (k.ring r)) (record { from = within.0; to = within.1 }) (λ p free below. below);
         passes = passes_at (shape_of h r) (k.ring r) (changed (shape_of h r) (k.ring r) (Holds (ceiling (shape_of h r) (k.ring r)))) (ceiling (shape_of h r) (k.ring r)) refl refl (λ p free below. below);
       })
-
-  state_keeps : (k : Known) → RingsKept h first k → (s i : ℕ) (state : EndpointState) → RingsKept h first (in_state h k s i state)
-  unfolding in_state
-  state_keeps k keeps s i state = same_keeps h first k (in_state h k s i state) refl refl keeps
 
   change_keeps : (c : Command) (k : Known) (change : Change) → RingsKept h first k → MayChange h k change → RingsKept h first (changed_by h c k change)
   unfolding changed_by disabled in_state

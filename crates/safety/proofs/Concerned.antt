@@ -17,16 +17,12 @@ some_concerned (SetTrDequeue t i p cycle) s named = (i, (named, (same_Some t s n
 some_concerned _ s named = (0, (named, tt))
 
 pub not_both : (c d : Command) (s i : ℕ) → exclude c d ≡ false → Concerns c s i → Concerns d s i → ⊥
-not_both c d s i apart here there =
-    search (rules, false≢true, and_from, same_slot, named_slot, not, other_endpoint, named_endpoint, eq-eqb, not_from_true, here.1)
+not_both c d s i apart here there = grind (arith, false≢true, and_from, eq-eqb, not_from_true)
 
 -- ---- neither excludes the other
 
 eqb_turned : (s t : ℕ) → (s == t) ≡ (t == s)
 eqb_turned s t = search (rules, true, eq-eqb, eqb-true, false, false_from_ne_true, false≢true)
 
-endpoints_turned : (a b : Option (ℕ × ℕ)) → other_endpoint a b ≡ other_endpoint b a
-endpoints_turned o x = grind (arith, not, eqb_turned)
-
 pub excludes_turned : (c d : Command) → exclude c d ≡ exclude d c
-excludes_turned c d = search (rules, not, other_endpoint, named_endpoint, eqb_turned, named_slot, same_slot, endpoints_turned)
+excludes_turned c d = search (rules, not, other_endpoint, named_endpoint, eqb_turned, named_slot, same_slot)

@@ -8,9 +8,7 @@ AreIndices (i ∷ rest) = AreIndices rest × (i < 32)
 
 indices_filter : (test : ℕ → Bool) (a n : ℕ) → a + n ≤ 32 → AreIndices (filter test (range_with_len a n))
 indices_filter test a zero high = tt
-indices_filter test a (suc n) high =
-    let rest : AreIndices (filter test (range_with_len (a + 1) n)) = indices_filter test (a + 1) n (omega arith) in
-    cond_both (test a) (a ∷ filter test (range_with_len (a + 1) n)) (filter test (range_with_len (a + 1) n)) AreIndices (λ kept. (rest, (omega arith))) (λ dropped. rest)
+indices_filter test a (suc n) high = grind (arith, cond_both, indices_filter test (a + 1) n (omega arith))
 
 pub added_indices : (memory : ℕ → ℕ) (n : ℕ) → AreIndices (added_endpoints memory n)
 unfolding added_endpoints

@@ -1,6 +1,5 @@
 -- The input context of a command that is given stands in the world as the driver wrote it: its success does what is known
-use Rattle.safety.proofs.Words.{◌≡◌, ◌+◌, ◌*◌, ◌/◌, ◌^◌, ◌<◌, ◌≤◌, ◌&&◌, ◌∷◌, ◌∙◌, ℕ, suc, zero, Bool, false, List, [], map, filter, nat_le, All, arith, refl, sym, ap, inl, inr, range_with_len, cases_eq, All-nil, All-cons, All-head, All-tail, All-filter, AddressDevice, ConfigureEndpoint, Running, SlotGoesOn, Disables, Places, changes, placed_by_context, ContextSize, Bytes32, Bytes64, input_context_bytes, has_flag, input_add_flag, input_endpoint, added_endpoints, is_dropped, Header, IsHeader, event_size, touches_ring, World, Known, Stands, touches_events, rules}
-use Rattle.segments.specs.Places.{touches}
+use Rattle.safety.proofs.Words.{◌≡◌, ◌+◌, ◌*◌, ◌/◌, ◌<◌, ◌≤◌, ◌&&◌, ◌∷◌, ◌∙◌, ℕ, suc, zero, Bool, false, List, [], map, filter, nat_le, All, arith, refl, sym, ap, inl, inr, range_with_len, cases_eq, All-nil, All-cons, All-head, All-tail, All-filter, AddressDevice, ConfigureEndpoint, SlotGoesOn, Disables, changes, placed_by_context, ContextSize, Bytes32, Bytes64, input_context_bytes, has_flag, input_add_flag, input_endpoint, added_endpoints, is_dropped, Header, IsHeader, event_size, touches_ring, World, Known, Stands, touches_events, rules, touches}
 use Rattle.safety.proofs.Headers.{EventRing, event_ring_is, no_events}
 use Rattle.safety.proofs.Areas.{ContextLies, clean_word, part_apart, ring_untouched}
 
@@ -19,12 +18,9 @@ untouched h is from len x none low high =
 abbrev pub SameContext : ContextSize → (ℕ → ℕ) → (ℕ → ℕ) → ℕ → Type 0
 SameContext size f g n = (i : ℕ) → i < input_context_bytes size / 4 → f (n + 4 * i) ≡ g (n + 4 * i)
 
-size_bytes : (size : ContextSize) (i : ℕ) → i < input_context_bytes size / 4 → 4 * i + 4 ≤ input_context_bytes size
-size_bytes o i l = grind arith
-
 pub same_context : (h : Header) → IsHeader h → (k : Known) (w : World) (n : ℕ) → Stands h k w → ContextLies h k n → SameContext h.context_size w.memory k.memory n
 same_context h is k w n s lies i l =
-    search (rules, size_bytes, h.context_size, s.quiet, clean_word, input_context_bytes, lies.clean, untouched, lies.rings)
+    search (rules, h.context_size, s.quiet, clean_word, input_context_bytes, lies.clean, untouched, lies.rings)
 
 -- ---- what the context says
 
@@ -49,16 +45,11 @@ first_words Bytes64 f g n same = (at_word f g n n 0 (omega arith) (same 0 (omega
 
 module _ (size : ContextSize) (f g : ℕ → ℕ) (s n : ℕ) (same : SameContext size f g n) where
   pub place_same : (i : ℕ) → i < 32 → placed_by_context size f s n i ≡ placed_by_context size g s n i
-  place_same i low =
-      let words = pointer_words size f g n i same low in
-      ap (λ x. Places s i ((x + 2 ^ 32 * f (input_endpoint size n i + 8 + 4)) / 16 * 16) (has_flag x 0) Running) words.0
-      ∙ ap (λ x. Places s i ((g (input_endpoint size n i + 8) + 2 ^ 32 * x) / 16 * 16) (has_flag (g (input_endpoint size n i + 8)) 0) Running) words.1
+  place_same i low = grind (arith, pointer_words, pointer_words size f g n i same low)
 
   places_same : (xs : List ℕ) → All (λ i. i < 32) xs → map (placed_by_context size f s n) xs ≡ map (placed_by_context size g s n) xs
   places_same [] low = refl
-  places_same (i ∷ rest) low =
-      ap (λ x. x ∷ map (placed_by_context size f s n) rest) (place_same i (All-head (λ i. i < 32) i rest low))
-      ∙ ap (λ xs. placed_by_context size g s n i ∷ xs) (places_same rest (All-tail (λ i. i < 32) i rest low))
+  places_same (i ∷ rest) low = search (rules, place_same, All-head, places_same rest (All-tail (λ i. i < 32) i rest low))
 
 range_below : (most a n : ℕ) → a + n ≤ most → All (λ i. i < most) (range_with_len a n)
 range_below most a zero high = All-nil (λ i. i < most)

@@ -1,7 +1,7 @@
 -- Behind a step, once it is counted
 use Rattle.safety.proofs.Words.{◌≡◌, List, rules, Block, Header, World, counted, Known, Stands, EventsStand, Matches, Agrees}
-use Rattle.world_state.specs.World as of_world
 use Rattle.safety.proofs.Stored.{Late}
+use Rattle.world_state.specs.World as of_world
 
 module _ (h : Header) where
   -- what holds of the world behind a step holds once the step is counted

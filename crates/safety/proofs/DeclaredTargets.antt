@@ -1,5 +1,5 @@
 -- Where more is declared of rings, the targets to which an unfinished command moves them are the same
-use Rattle.safety.proofs.Words.{[], ◌≡◌, ◌+◌, ◌≤◌, ◌&&◌, ◌∷◌, ◌∙◌, ℕ, zero, suc, Bool, true, List, find, Some, arith, sym, ap, inl, inr, list_any, range_with_len, flat_map, cases_Bool, cases_lt, cond-true, cond-false, false≢true, and_parts, or_cases, none-some, Spot, Data, Link, Shape, IsSpot, number, named_spot, RingView, declared, floor_number, named, is_target, spots_between, target, may_move_to, is_move, rank_least, rank_most, IsNamed, named_spot-Some, named_spot-is, move_more, rules}
+use Rattle.safety.proofs.Words.{[], ◌≡◌, ◌+◌, ◌≤◌, ◌&&◌, ◌∷◌, ◌∙◌, ℕ, zero, suc, Bool, true, List, find, Some, arith, sym, inl, inr, list_any, range_with_len, flat_map, cases_Bool, cases_lt, cond-true, cond-false, false≢true, and_parts, or_cases, none-some, Spot, Data, Link, Shape, IsSpot, number, RingView, declared, floor_number, named, is_target, spots_between, target, may_move_to, is_move, rank_least, rank_most, IsNamed, named_spot-Some, named_spot-is, move_more, rules}
 
 -- ---- one ring, of which more is declared
 
@@ -50,5 +50,4 @@ module _ (shape : Shape) (v w : RingView) (floor : w.floor ≡ v.floor) (more : 
   unfolding named
   named_still address t is found =
       let was : IsNamed shape v.floor (declared v) address t = named_spot-Some shape v.floor (declared v) address t is found in
-      let still : IsNamed shape v.floor (declared w) address t = search (rules, cases_lt, declared, number, rank_most, rank_least) in
-      ap (λ f. named_spot shape f (declared w) address) floor ∙ named_spot-is shape v.floor (declared w) address t is still
+      grind (arith, IsNamed, cases_lt, rank_most, rank_least, named_spot-is)

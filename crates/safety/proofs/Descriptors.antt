@@ -33,7 +33,5 @@ surrounded (n ∷ rest) start t all low high none =
     let more : start < t = elim (cases_eq start t) [ inl same ↦ absurd (parts.0 same) | inr other ↦ omega arith ] in
     elim (cases_lt t (start + n)) [
       | inl here ↦ record { begin = start; from = omega arith; before = more; behind = omega (arith, length_here n rest start) }
-      | inr later ↦
-          let inner : Surrounds rest (start + n) t = surrounded rest (start + n) t others later (omega arith) parts.1 in
-          search (rules, length_later)
+      | inr later ↦ grind (arith, length_later, surrounded rest (start + n) t others later (omega arith) parts.1)
     ]

@@ -1,7 +1,5 @@
 -- Behind an event that is read before it, an Address Device that a write gives takes its device context where it may still
-use Rattle.safety.proofs.Words.{[], ◌≡◌, ◌||◌, ℕ, Bool, false, Some, is_none, rules, MayCome, and_cases, and_right, or_parts, or_from, false≢true, Block, Command, AddressDevice, Header, Dcbaap, Write, Read, IsHeader, Known, command_given, device_named, learned, is_in_range_lease, covers, open_ranges, lenient, DriverKeeps, has_bad_entry, is_bad_device, takes_bad_device}
-use Rattle.safety.proofs.MiddleLaws.{Behind, entry_stays, none_fewer, ranges_fewer, event_behind}
-use Rattle.safety.proofs.CommandsBeside.{leased_device}
+use Rattle.safety.proofs.UpperLaws.{[], ◌≡◌, ◌||◌, ℕ, Bool, false, Some, is_none, rules, MayCome, and_cases, and_right, or_parts, or_from, false≢true, Block, Command, AddressDevice, Header, Dcbaap, Write, Read, IsHeader, Known, command_given, device_named, learned, is_in_range_lease, covers, open_ranges, lenient, DriverKeeps, has_bad_entry, is_bad_device, takes_bad_device, Behind, entry_stays, none_fewer, ranges_fewer, event_behind, leased_device}
 use Rattle.safety.proofs.CommandContext.{area_behind, clean_behind}
 use Rattle.safety.proofs.CommandBeneath.{device_alike, names_same}
 

@@ -1,6 +1,5 @@
 -- A device context that a write takes: an event reads nothing of it
-use Rattle.safety.proofs.Words.{[], ◌≡◌, ◌≢◌, ◌∙◌, ℕ, Option, Some, arith, ap, none-some, same_Some, Block, changes, Header, Read, Config, command_id, register_or_zero, Known, next_command, with_device, lenient}
-use Rattle.safety.proofs.LowerLaws.{at_number, SameDriver, Alike, held_same}
+use Rattle.safety.proofs.MiddleLaws.{[], ◌≡◌, ◌≢◌, ◌∙◌, ℕ, Option, Some, arith, ap, none-some, same_Some, Block, changes, Header, Read, Config, command_id, register_or_zero, Known, next_command, with_device, lenient, at_number, SameDriver, Alike, held_same}
 use Rattle.safety.proofs.AlikeEvents.{EventAlike, ReadAlike, read_alike}
 use Rattle.safety.proofs.HeldFurther.{named_same, command_same, targets_are, counted}
 

@@ -1,8 +1,6 @@
 -- A write keeps what is kept of device contexts under lease, and of the one that it takes holds what was tested
-use Rattle.safety.proofs.Words.{[], ◌≡◌, ◌≢◌, ◌+◌, ◌*◌, ◌^◌, ◌<◌, ◌≤◌, ◌==◌, ◌&&◌, ◌⊎◌, ◌∙◌, ℕ, not, true, false, List, Contains, nat_le, nat_lt, Option, Some, None, is_some, option_and_then, slice_get, unwrap_or, arith, refl, sym, ap, subst, inl, inr, lt-ltb, le-leb, ne_eqb, rules, is_in-parts, cases_lt, and_left, and_from, or_from, or_left, or_right, false≢true, not_from_false, none-some, same_Some, slice_get_within, get_or_from_slice_get, Block, is_in, is_inside, overlap, positions_given, cases_option, address_inside, gives_is, position_given_is, put_elsewhere, Command, command_of, named_slot, device_context_bytes, Header, Dcbaap, Erstba, Write, IsHeader, shape_of, command_id, touches_ring, Known, command_at, device_named, entry_of, command_given, is_soiled, lenient, IsDriverRing, DeviceKeeps, DriverKeeps, DevicesKeep}
-use Rattle.safety.proofs.LowerLaws.{ring_shape, due_has_ring, clean_word, area_parts, not_in_other, overlap_turned, word_elsewhere, is_soiled_from, device_apart, device_free, entry_free, table_free, lease_free, word_free, not_in_device, at_number, command_slot_low, after_write, taken, written_memory, written_device, written_device_none, written_soiled, written_soiled_none, not_the_controllers, entry_same}
+use Rattle.safety.proofs.MiddleLaws.{[], ◌≡◌, ◌≢◌, ◌+◌, ◌*◌, ◌^◌, ◌<◌, ◌≤◌, ◌==◌, ◌&&◌, ◌⊎◌, ◌∙◌, ℕ, not, true, false, List, Contains, nat_le, nat_lt, Option, Some, is_some, option_and_then, slice_get, unwrap_or, arith, sym, ap, subst, inl, inr, lt-ltb, le-leb, ne_eqb, rules, is_in-parts, cases_lt, and_left, and_from, or_from, or_left, or_right, false≢true, not_from_false, none-some, same_Some, slice_get_within, get_or_from_slice_get, Block, is_in, is_inside, overlap, positions_given, cases_option, address_inside, gives_is, position_given_is, put_elsewhere, Command, command_of, named_slot, device_context_bytes, Header, Dcbaap, Erstba, Write, IsHeader, shape_of, command_id, touches_ring, Known, command_at, device_named, entry_of, command_given, is_soiled, lenient, IsDriverRing, DeviceKeeps, DriverKeeps, DevicesKeep, ring_shape, due_has_ring, clean_word, area_parts, not_in_other, overlap_turned, word_elsewhere, is_soiled_from, device_apart, device_free, entry_free, table_free, lease_free, word_free, not_in_device, at_number, command_slot_low, after_write, taken, written_memory, written_device, written_device_none, written_soiled, written_soiled_none, not_the_controllers, entry_same, write_leaves}
 use Rattle.safety.proofs.KeptClean.{taking, not_in_area}
-use Rattle.safety.proofs.RowFrames.{write_leaves}
 use Rattle.safety.proofs.WriteBeside.{rules_of, word_stays}
 
 named_from : (k l : Known) (s : ℕ) → l.register Dcbaap ≡ k.register Dcbaap → ((x : ℕ) → entry_of k s ≤ x → x < entry_of k s + 8 → l.memory x ≡ k.memory x) → device_named l s ≡ device_named k s
@@ -16,8 +14,7 @@ pub contains_first : (xs : List ℕ) (p : ℕ) → slice_get xs 0 ≡ Some p →
 contains_first xs p at = (0, slice_get_within xs 0 p at, get_or_from_slice_get xs 0 p p at)
 
 pub and_then_parts : {X Y : Type 0} (f : X → Option Y) (o : Option X) (y : Y) → option_and_then f o ≡ Some y → (x : X) × (o ≡ Some x) × (f x ≡ Some y)
-and_then_parts f None y at = absurd (none-some y at)
-and_then_parts f (Some x) y at = (x, refl, at)
+and_then_parts f o y at = grind (arith, none-some)
 
 module _ (h : Header) (is : IsHeader h) (k : Known) (d : DriverKeeps h k) (a w : ℕ) (clean : lenient h k (Write a w) ≡ []) where
   abbrev l : Known
@@ -117,12 +114,7 @@ module _ (h : Header) (is : IsHeader h) (k : Known) (d : DriverKeeps h k) (a w :
       let contained = contains_first (positions_given (shape_of h (command_id h)) (k.ring (command_id h)) a w) first.0 first.1 in
       let writes = gives_is (shape_of h (command_id h)) (k.ring (command_id h)).floor first.0 a w (position_given_is (shape_of h (command_id h)) (k.ring (command_id h)) a w first.0 contained).1 in
       let ring = due_has_ring h is (k.ring (command_id h)).floor first.0 writes.due in
-      record {
-        block = block.0;
-        says = block.2;
-        ring = ring;
-        inside = ap (λ y. is_inside (shape_of h (command_id h)) y) writes.at ∙ address_inside (shape_of h (command_id h)) (ring_shape h is (command_id h) ring).is first.0 12 (omega arith);
-      }
+      search (rules, ap (λ y. is_inside (shape_of h (command_id h)) y) writes.at ∙ address_inside (shape_of h (command_id h)) (ring_shape h is (command_id h) ring).is first.0 12 (omega arith))
 
   new_device : (e : ℕ × ℕ) → taken h k a w ≡ Some e → DeviceKeeps h l e.0 e.1
   new_device e at =
@@ -143,8 +135,7 @@ module _ (h : Header) (is : IsHeader h) (k : Known) (d : DriverKeeps h k) (a w :
         soiled = λ x inside. written_soiled h k a w e at x ∙ or_left (is_in x e.1 (device_context_bytes h.context_size)) (k.soiled x && not (x == a)) inside;
         written = ap is_some dcbaap ∙ rules.written;
         entry = named_from k l e.0 dcbaap (λ x low high. ap (λ f. f x) (written_memory h k a w) ∙ put_elsewhere k.memory a w x (word x low high)) ∙ t.takes.named;
-        entry_clean = ap (λ y. is_soiled l y 8) (entry_is e.0)
-            ∙ clean_after (entry_of k e.0) 8 rules.entry_clean (λ f some. ap (λ (x : ℕ × ℕ). overlap x.1 (device_context_bytes h.context_size) (entry_of k e.0) 8) (same_Some f e (sym some ∙ at)) ∙ rules.entry_apart);
+        entry_clean = grind (arith, entry_is, clean_after, same_Some);
         entry_rings = ap (λ y. touches_ring h y 8) (entry_is e.0) ∙ entry.rings;
         others = λ s c there other.
             elim (device_before s c there) [

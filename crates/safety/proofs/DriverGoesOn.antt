@@ -1,7 +1,6 @@
 -- A declaration, a write and the opening of a ring leave its pointer where it is
-use Rattle.safety.proofs.Words.{◌≡◌, ◌≤◌, ℕ, List, length, arith, refl, rules, or_left, Block, Shape, IsShape, RingView, Declares, Writes, Opens, changed, ceiling, given_count, is_step_given, is_way_given, RingKeeps, given_count_same, given_count-declares, given_count-writes, ceiling_within, is_border-push}
-use Rattle.safety.proofs.NoWait.{ceiling_open, ceiling_held}
-use Rattle.safety.proofs.RingGoesOn.{RingGoesOn}
+use Rattle.safety.proofs.LowerLaws.{◌≡◌, ◌≤◌, ℕ, List, length, arith, refl, rules, or_left, Block, Shape, IsShape, RingView, Declares, Writes, Opens, changed, ceiling, given_count, is_step_given, is_way_given, RingKeeps, given_count_same, given_count-declares, given_count-writes, ceiling_within, is_border-push, ceiling_open, RingGoesOn}
+use Rattle.safety.proofs.NoWait.{ceiling_held}
 
 pub goes_same : (shape : Shape) (v : RingView) → RingGoesOn shape v v
 goes_same shape v = record { floor = refl; ceiling = omega arith; more = record { given = λ p g. g; crossed = λ q c. c }; borders = λ q b. b; held = λ none. none }

@@ -1,16 +1,5 @@
 -- A clean history keeps what a driver keeps
-use Rattle.safety.proofs.Words.{[], ◌≡◌, ◌∷◌, ◌∙◌, false, List, ap, Block, kind, Header, Row, IsHeader, Read, World, Known, learned, known, IsLenient, DriverKeeps, KeptByRestoring, command_id, lenient, ArePossible, Runs, all_read, ◌&&◌, not, true, subst, sym, not-false, BlockKind, TransferEvent, CommandCompletion, is_transfer_event, Sub, Write, Reg, Bell, event_read, is_in_profile, is_impossible_by_kind, CommandsKeep, ℕ, refl, rules, Command, Register, IsUnfinished, Option, Some, option_and_then, none-some, command_of, on_ring, command_at, transfer_read, succeeded, finished, completed, Declares, written, register_written, rung, is_command_completion, StatesKeep, KeptByRows, arith}
-use Rattle.safety.proofs.LowerLaws.{event_same, SameGiven, clean_tests, learned_read, EventFacts, event_facts, with_reads, SameStates, ring_stays, same_stay, AreNumbered, IsNumbered, command_numbered, changes_numbered, same_numbered, all_numbered, endpoints_of, endpoints_part, slots_part, seen_part, from_parts, endpoints_same, slots_same, seen_same}
-use Rattle.safety.proofs.MiddleLaws.{kept_crcr, kept_crcr_written, kept_sized, kept_erstsz_written, kept_dequeued, kept_read_room, kept_unstarted, kept_clean, kept_rings, CompletionFacts, completion_facts, kept_command_ring, free_same, may_come, nothing_kept, rung_commands, register_leaves, states_rung, PartsStand, transfer_stands, completion_stands}
-use Rattle.safety.proofs.KeptDevices.{kept_devices}
-use Rattle.safety.proofs.CommandsDeclared.{declared_commands}
-use Rattle.safety.proofs.CommandsWritten.{written_commands}
-use Rattle.safety.proofs.CommandsTransfer.{transfer_commands}
-use Rattle.safety.proofs.CommandsCompleted.{completion_commands}
-use Rattle.safety.proofs.MovesSame.{unfinished_view}
-use Rattle.safety.proofs.SameRings.{written_same, register_same, rung_same, transfer_same, stop_same}
-use Rattle.safety.proofs.EndpointHistories.{row_keeps}
-use Rattle.safety.proofs.StatesDriver.{view_same, stops_on, states_declared, states_written, states_registered}
+use Rattle.safety.proofs.UpperLaws.{[], ◌≡◌, ◌∷◌, ◌∙◌, false, List, ap, Block, kind, Header, Row, IsHeader, Read, World, Known, learned, known, IsLenient, DriverKeeps, KeptByRestoring, command_id, lenient, ArePossible, Runs, all_read, ◌&&◌, not, true, subst, sym, not-false, BlockKind, TransferEvent, CommandCompletion, is_transfer_event, Sub, Write, Reg, Bell, event_read, is_in_profile, is_impossible_by_kind, CommandsKeep, ℕ, refl, rules, Command, Register, IsUnfinished, none-some, on_ring, command_at, succeeded, finished, completed, is_command_completion, StatesKeep, KeptByRows, arith, event_same, SameGiven, clean_tests, EventFacts, event_facts, with_reads, SameStates, ring_stays, same_stay, AreNumbered, command_numbered, changes_numbered, same_numbered, all_numbered, endpoints_of, endpoints_part, slots_part, seen_part, from_parts, endpoints_same, slots_same, seen_same, kept_crcr, kept_crcr_written, kept_sized, kept_erstsz_written, kept_dequeued, kept_read_room, kept_unstarted, kept_clean, kept_rings, CompletionFacts, completion_facts, kept_command_ring, free_same, may_come, nothing_kept, rung_commands, register_leaves, states_rung, PartsStand, transfer_stands, completion_stands, kept_devices, declared_commands, written_commands, transfer_commands, completion_commands, unfinished_view, written_same, register_same, rung_same, transfer_same, stop_same, row_keeps, view_same, stops_on, states_declared, states_written, states_registered}
 
 -- Each row keeps what is known of states
 module _ (h : Header) where
@@ -42,28 +31,15 @@ module _ (h : Header) where
 
 -- In any history the endpoints that have rings have numbers of slots and endpoints
 module _ (h : Header) where
-  declared_command : (o : Option Block) (c : Command) → option_and_then command_of o ≡ Some c → IsNumbered c
-  declared_command o c at = grind (arith, none-some, command_numbered)
-
-  finished_numbered : (k : Known) (b : Block) (o : Option Command) → ((c : Command) → o ≡ Some c → IsNumbered c) → AreNumbered k → AreNumbered (finished h k b o)
-  unfolding finished succeeded
-  finished_numbered k b o fits all = grind (arith, same_numbered, stop_same, all_numbered, changes_numbered)
-
   -- ---- histories
 
   event_numbered : (k : Known) (b : Block) (n : BlockKind) → AreNumbered k → AreNumbered (event_read h k n b)
-  unfolding event_read completed on_ring command_at
-  event_numbered k b TransferEvent all = same_numbered h k (transfer_read h k b) (transfer_same h k b) all
-  event_numbered k b CommandCompletion all = search (rules, same_numbered, finished_numbered, declared_command)
-  event_numbered k b _ all = all
+  unfolding event_read completed on_ring command_at finished succeeded
+  event_numbered k b n all = search (rules, same_numbered, transfer_same, stop_same, all_numbered, changes_numbered, none-some, command_numbered)
 
   pub row_numbered : (k : Known) (row : Row) → AreNumbered k → AreNumbered (learned h k row)
   unfolding learned on_ring
-  row_numbered k (Sub r blocks) all = same_numbered h k (on_ring h k r (Declares blocks)) refl all
-  row_numbered k (Write a w) all = same_numbered h k (written h k a w) (written_same h k a w) all
-  row_numbered k (Reg r x) all = same_numbered h k (register_written h k r x) (register_same h k r x) all
-  row_numbered k (Bell s t) all = same_numbered h k (rung h k s t) (rung_same h k s t) all
-  row_numbered k (Read b) all = same_numbered h (event_read h k (kind b) b) (learned h k (Read b)) refl (event_numbered k b (kind b) all)
+  row_numbered k row all = grind (arith, same_numbered, written_same, register_same, rung_same, event_numbered)
 
 -- A register write keeps what is kept of unfinished commands
 
@@ -92,10 +68,7 @@ module _ (h : Header) (k l : Known) (same : SameForCommands k l) where
   same_commands keeps = same_stay h k l states keeps same_before (λ p c u. ring_stays h k l c same.endpoint_state same.ring_of (λ s i r at. ap (λ f. f r) same.ring) (λ r bound. ap (λ f. f r) same.ring) (λ r. ap (λ f. (f r).free) same.ring))
 
 pub register_commands : (h : Header) (k : Known) (r : Register) (x : ℕ) → CommandsKeep h k → CommandsKeep h (learned h k (Reg r x))
-register_commands h k r x keeps =
-    let leaves = register_leaves h k r x in
-    same_commands h k (learned h k (Reg r x))
-    (search rules) keeps
+register_commands h k r x keeps = search (rules, same_commands, register_leaves h k r x)
 
 -- one event more was read
 pub reads_commands : (h : Header) (k : Known) (n : ℕ) → CommandsKeep h k → CommandsKeep h (with_reads k n)
@@ -118,8 +91,7 @@ module _ (h : Header) where
   kept_unfinished is k (Bell s t) d may on = rung_commands h is k d s t may.0
   kept_unfinished is k (Read b) d may on =
       let facts : EventFacts h k b = event_facts h k b may.0 in
-      subst (CommandsKeep h) (sym (learned_read h k b))
-      (reads_commands h (event_read h k (kind b) b) _ (event_commands is k b (kind b) d facts.started facts.possible facts.inside))
+      search (rules, reads_commands, event_commands)
 
 module _ (h : Header) where
   pub kept_driver : KeptByRestoring h (DriverKeeps h)
@@ -149,8 +121,7 @@ module _ (h : Header) where
   pub driver_keeps : IsHeader h → (past : List Row) → IsLenient h past → (known h past).stopped ≡ false → DriverKeeps h (known h past)
   unfolding known
   driver_keeps is [] clean on = nothing_kept h is
-  driver_keeps is (row ∷ past) clean on =
-      kept_history is past row (driver_keeps is past clean.0 ((clean_tests h (known h past) row clean.1).0)) clean.1 on
+  driver_keeps is (row ∷ past) clean on = search (rules, kept_history, driver_keeps is past clean.0 ((clean_tests h (known h past) row clean.1).0))
 
   -- ---- in a run, of what is known when the unread events are read too
 

@@ -1,8 +1,8 @@
 -- The rings and endpoints of what a driver keeps, as the laws of rings take them
 use Rattle.safety.proofs.Words.{◌≡◌, ◌∙◌, ℕ, true, Option, Some, None, refl, ap, false≢true, Header, Ring, ring_with, is_transfer_kind, Known, is_driver_ring, DriverKeeps, IsDriverRing, IsTransferRing, StatesKeep}
+use Rattle.safety.proofs.RingsOfHeader.{driver_is}
 use Rattle.safety.specs.RingsKeep as rings
 use Rattle.safety.specs.EndpointsKeep as endpoints
-use Rattle.safety.proofs.RingsOfHeader.{driver_is}
 
 transfer_found : (o : Option Ring) → endpoints.is_transfer_ring o ≡ true → (r : Ring) × (o ≡ Some r) × (is_transfer_kind r.shape.kind ≡ true)
 transfer_found None h = absurd (false≢true h)

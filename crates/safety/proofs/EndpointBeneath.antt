@@ -1,6 +1,5 @@
 -- The doorbell of an endpoint whose ring is held wakes it; a Transfer Event that was possible before is so behind it, and leaves it woken
-use Rattle.safety.proofs.Words.{◌≡◌, ◌≢◌, ◌==◌, ◌&&◌, ◌||◌, ◌∙◌, ℕ, true, false, Some, nat_lt, slice_get, option_and_then, sym, ap, eqb-true, rules, false≢true, and_parts, cond-false, or_cases, put_pair, Running, is_running, is_stopped, Header, Known, on_ring, endpoint_rung, DriverKeeps, floor_number, ceiling, is_open, ceiling_within, Block, command_of, is_stop_of, IsHeader, shape_of, command_id, command_at, next_command, transfer_read, is_in_profile, may_be_taken, is_stopping_now, is_impossible_transfer}
-use Rattle.safety.proofs.LowerLaws.{ring_here, ring_elsewhere, ring_shape, transfer_driver, transfer_not_command, at_pair, SameDriver, on_ring_same, Woken}
+use Rattle.safety.proofs.MiddleLaws.{◌≡◌, ◌≢◌, ◌==◌, ◌&&◌, ◌||◌, ◌∙◌, ℕ, true, false, Some, nat_lt, slice_get, option_and_then, sym, ap, eqb-true, rules, false≢true, and_parts, cond-false, or_cases, put_pair, is_running, is_stopped, Header, Known, on_ring, endpoint_rung, DriverKeeps, floor_number, ceiling, is_open, ceiling_within, Block, command_of, is_stop_of, IsHeader, shape_of, command_id, command_at, next_command, transfer_read, is_in_profile, may_be_taken, is_stopping_now, is_impossible_transfer, ring_here, ring_elsewhere, ring_shape, transfer_driver, transfer_not_command, at_pair, SameDriver, on_ring_same, Woken}
 use Rattle.safety.proofs.WokenTransfers.{transfer_woken}
 use Rattle.safety.proofs.StatesRung.{running_is}
 use Rattle.safety.proofs.WokenChanges.{one_of}
@@ -9,13 +8,9 @@ module _ (h : Header) (k : Known) (s t r : ℕ) (has : k.ring_of s t ≡ Some r)
   abbrev woken : Known
   woken = endpoint_rung h k s t (Some r)
 
-  rung_awake : (u j : ℕ) → one_of s t u j ≡ true → woken.endpoint_state u j ≡ Running
-  unfolding endpoint_rung
-  rung_awake u j same = search (rules, and_parts, eqb-true, woken, at_pair, or_cases, running_is, false≢true)
-
   pub rung_woken : Woken h r (one_of s t) k woken
   unfolding endpoint_rung on_ring
-  rung_woken = search (rules, ring_here, ring_elsewhere, rung_awake, is_stopped, k.endpoint_state, put_pair, cond-false)
+  rung_woken = search (rules, ring_here, ring_elsewhere, and_parts, eqb-true, woken, at_pair, or_cases, running_is, false≢true, is_stopped, k.endpoint_state, put_pair, cond-false)
 
   pub rung_driver : SameDriver k woken
   unfolding endpoint_rung

@@ -1,7 +1,5 @@
 -- Any history keeps endpoints on transfer rings, and the command ring is none of them
-use Rattle.safety.proofs.Words.{[], ◌≡◌, ◌==◌, if◌then◌else◌, ◌∷◌, ◌∙◌, ℕ, List, Option, None, Some, refl, cond_both, none-some, Block, BlockKind, TransferEvent, CommandCompletion, kind, code, slot, Declares, Command, changes, Header, Row, Sub, Write, Reg, Bell, Read, IsHeader, command_id, Known, nothing, on_ring, command_at, next_command, written, register_written, rung, transfer_read, succeeded, stop_ended, finished, completed, event_read, learned, known, EndpointsKeep, arith}
-use Rattle.safety.proofs.RingIds.{command_not_transfer}
-use Rattle.safety.proofs.SameRings.{written_same, register_same, rung_same, transfer_same, stop_same}
+use Rattle.safety.proofs.LowerLaws.{rules, [], ◌≡◌, ◌==◌, if◌then◌else◌, ◌∷◌, List, Option, None, Some, refl, cond_both, none-some, Block, kind, code, slot, Declares, Command, changes, Header, Row, Sub, Write, Reg, Bell, Read, IsHeader, command_id, Known, nothing, on_ring, command_at, next_command, written, register_written, rung, transfer_read, succeeded, stop_ended, finished, completed, event_read, learned, known, EndpointsKeep, arith, command_not_transfer, written_same, register_same, rung_same, transfer_same, stop_same}
 use Rattle.safety.proofs.Endpoints.{same_keeps, changes_keep, changes_elsewhere}
 
 module _ (h : Header) (is : IsHeader h) where
@@ -16,11 +14,7 @@ module _ (h : Header) (is : IsHeader h) where
   -- what a command's success does leaves the command ring as it is
   pub finish_elsewhere : (k : Known) (b : Block) (o : Option Command) → EndpointsKeep h k → (finished h k b o).ring (command_id h) ≡ k.ring (command_id h)
   unfolding finished succeeded stop_ended
-  finish_elsewhere k b None keeps = refl
-  finish_elsewhere k b (Some c) keeps =
-      grind arith
-      ∙ cond_both (code b == 1) (succeeded h k (slot b) c) k (λ l. l.ring (command_id h) ≡ k.ring (command_id h))
-      (λ _. changes_elsewhere h is (command_id h) (command_not_transfer h is) c k (changes h.context_size k.memory (slot b) c) keeps) (λ _. refl)
+  finish_elsewhere k b o keeps = search (rules, cond_both, changes_elsewhere, command_not_transfer)
 
   completion_keeps : (k : Known) (b : Block) → EndpointsKeep h k → EndpointsKeep h (completed h k b)
   unfolding completed on_ring
@@ -29,17 +23,13 @@ module _ (h : Header) (is : IsHeader h) where
 
   -- ---- histories
 
-  event_keeps : (k : Known) (b : Block) (n : BlockKind) → EndpointsKeep h k → EndpointsKeep h (event_read h k n b)
-  unfolding event_read
-  event_keeps k b o keeps = grind (arith, same_keeps, transfer_read, transfer_same, completion_keeps)
-
   pub row_keeps : (k : Known) (row : Row) → EndpointsKeep h k → EndpointsKeep h (learned h k row)
-  unfolding learned on_ring
+  unfolding learned on_ring event_read
   row_keeps k (Sub r blocks) keeps = same_keeps h k (on_ring h k r (Declares blocks)) refl keeps
   row_keeps k (Write a w) keeps = same_keeps h k (written h k a w) (written_same h k a w) keeps
   row_keeps k (Reg r x) keeps = same_keeps h k (register_written h k r x) (register_same h k r x) keeps
   row_keeps k (Bell s t) keeps = same_keeps h k (rung h k s t) (rung_same h k s t) keeps
-  row_keeps k (Read b) keeps = same_keeps h (event_read h k (kind b) b) (learned h k (Read b)) refl (event_keeps k b (kind b) keeps)
+  row_keeps k (Read b) keeps = same_keeps h (event_read h k (kind b) b) (learned h k (Read b)) refl (grind (arith, same_keeps, transfer_read, transfer_same, completion_keeps))
 
   pub keeps_endpoints : (past : List Row) → EndpointsKeep h (known h past)
   unfolding known nothing

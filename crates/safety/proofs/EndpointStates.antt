@@ -1,7 +1,6 @@
 -- States of endpoints that change alike in what is known and in the world
-use Rattle.safety.proofs.Words.{◌≡◌, ℕ, Bool, List, refl, EndpointState, Header, Block, World, Known, Stands, EventsStand, Matches}
+use Rattle.safety.proofs.LowerLaws.{◌≡◌, ℕ, Bool, List, refl, EndpointState, Header, Block, World, Known, Stands, EventsStand, Matches, under_way_same, unfinished_same}
 use Rattle.world_state.specs.World as of_world
-use Rattle.safety.proofs.Learns.{under_way_same, unfinished_same}
 
 -- with these states of endpoints, and these endpoints whose ring must be moved
 abbrev pub known_states : Known → (ℕ → ℕ → EndpointState) → (ℕ → ℕ → Bool) → Known

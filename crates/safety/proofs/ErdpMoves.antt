@@ -6,12 +6,8 @@ found_from : (test : ℕ → Bool) (a n q : ℕ) → find test (range_with_len a
 found_from test a zero q at = absurd (none-some q at)
 found_from test a (suc n) q at =
     elim (cases_Bool (test a)) [
-      | inl here ↦
-          let same : a ≡ q = same_Some a q (sym (cond-true (test a) (Some a) (find test (range_with_len (a + 1) n)) here) ∙ at) in
-          (omega arith, omega arith)
-      | inr later ↦
-          let on = found_from test (a + 1) n q (sym (cond-false (test a) (Some a) (find test (range_with_len (a + 1) n)) later) ∙ at) in
-          (omega (arith, on.0), omega (arith, on.1))
+      | inl here ↦ grind (arith, same_Some, cond-true)
+      | inr later ↦ grind (arith, cond-false, found_from test (a + 1) n q (sym (cond-false (test a) (Some a) (find test (range_with_len (a + 1) n)) later) ∙ at))
     ]
 
 -- and below m where some number below m passes
@@ -72,8 +68,4 @@ reached_is_good h k v reached = search rules
 -- the pointer goes no further back than it was, nor further on than what may be passed
 pub erdp_within : (h : Header) (k : Known) (v : ℕ) → is_bad_erdp h k Erdp v ≡ false →
     (k.dequeue ≤ position_from (event_shape h) k.dequeue (erdp_address v)) × (position_from (event_shape h) k.dequeue (erdp_address v) ≤ k.dequeue + may_pass k)
-erdp_within h k v good =
-    elim (erdp_says h k v good) [
-      | inl reached ↦ position_within (event_shape h) k.dequeue (may_pass k) (erdp_address v) reached
-      | inr none ↦ let stays = no_place_stays (event_shape h) k.dequeue (erdp_address v) none.1 in (omega (arith, stays), omega (arith, stays))
-    ]
+erdp_within h k v good = grind (arith, erdp_says, position_within, no_place_stays, erdp_says h k v good)

@@ -1,16 +1,12 @@
 -- What stands behind an event that may be read: rings whose floors moved on, and no device context more
-use Rattle.safety.proofs.Words.{[], ◌≡◌, ◌∷◌, ◌∙◌, ℕ, List, Option, None, Some, refl, sym, ap, subst, inl, inr, flips_passed, RingView, cond_both, none-some, Block, BlockKind, TransferEvent, CommandCompletion, kind, code, slot, is_command_completion, RingKeeps, Command, Change, DeviceLeft, Places, Stops, Resets, changes, Header, Read, IsHeader, shape_of, command_id, Known, on_ring, command_at, next_command, disabled, changed_by, changed_by_all, succeeded, stop_ended, finished, completed, event_read, learned, lenient, KeepsPassed, RingsKeep, RingsKept, EndpointsKeep, DriverKeeps, MayRead, ◌≤◌, ◌⊎◌, Bool, arith, eqb-true, rules, pointer, endpoint, Spot, number, after, RingChange, Reaches, Holds, changed, floor_number, ceiling, target, IsAhead, named_ahead, target_ahead, number-after, Stopped, is_off, SlotGoesOn, Disables, ring_having, RingSpot, event_at, passed, broken_off, stopped_at, transferred, transferred_at, transfer_read, set_to, bound_to, moved_to, moved, pointed, in_state, held_at_ceiling, MayChange, MayChangeAll, MayFinish}
+use Rattle.safety.proofs.MiddleLaws.{[], ◌≡◌, ◌∷◌, ◌∙◌, ℕ, List, Option, None, Some, refl, sym, ap, subst, inl, inr, flips_passed, RingView, cond_both, none-some, Block, BlockKind, TransferEvent, CommandCompletion, kind, code, slot, is_command_completion, RingKeeps, Command, Change, DeviceLeft, Places, Stops, Resets, changes, Header, Read, IsHeader, shape_of, command_id, Known, on_ring, command_at, next_command, disabled, changed_by, changed_by_all, succeeded, stop_ended, finished, completed, event_read, learned, lenient, KeepsPassed, RingsKeep, RingsKept, EndpointsKeep, DriverKeeps, MayRead, ◌≤◌, ◌⊎◌, Bool, arith, eqb-true, rules, pointer, endpoint, Spot, number, after, RingChange, Reaches, Holds, changed, floor_number, ceiling, target, IsAhead, named_ahead, target_ahead, number-after, Stopped, is_off, SlotGoesOn, Disables, ring_having, RingSpot, event_at, passed, broken_off, stopped_at, transferred, transferred_at, transfer_read, set_to, bound_to, moved_to, moved, pointed, in_state, held_at_ceiling, MayChange, MayChangeAll, MayFinish, still_reads, shape_allowed, driver_test, rings_of, endpoints_of, transfer_ring, command_is_ring, event_facts, transfer_slots, event_ring_of, at_number, placed_leaves, stops_slot, resets_slot, ring_here, ring_elsewhere, having_transfer, transfer_driver, change_keeps, spot_is, passes_shown, finish_elsewhere}
 use Rattle.safety.specs.RingsKeep.{IsDriverRing}
 use Rattle.safety.proofs.Histories.{row_kept}
-use Rattle.safety.proofs.StillPlacing.{still_reads}
-use Rattle.safety.proofs.LowerLaws.{shape_allowed, driver_test, rings_of, endpoints_of, transfer_ring, command_is_ring, event_facts, transfer_slots, event_ring_of, at_number, placed_leaves, stops_slot, resets_slot, ring_here, ring_elsewhere, having_transfer, transfer_driver, change_keeps, spot_is}
 use Rattle.safety.proofs.KeptRings.{still_of}
 use Rattle.safety.proofs.HeldFurther.{read_same}
-use Rattle.safety.proofs.Passing.{passes_shown}
 use Rattle.safety.proofs.LeasesBehind.{RingsBehind, Behind}
 use Rattle.safety.proofs.PassedBehind.{no_flips_behind}
 use Rattle.safety.specs.EndpointsKeep.{IsTransferRing}
-use Rattle.safety.proofs.EndpointHistories.{finish_elsewhere}
 
 -- An event moves no floor back, and concerns no ring but those of the driver
 module _ (h : Header) where
@@ -87,20 +83,16 @@ module _ (h : Header) where
     moved_on k endpoints s i p cycle (Some r) at =
         target_on k r (target (shape_of h r) (k.ring r) p cycle) (transfer_is_driver r (endpoints.transfer s i r at)) (λ t named. (target_ahead (shape_of h r) (k.ring r) p cycle t named).from)
 
-    pointed_on : (k : Known) → EndpointsKeep h k → (s i p : ℕ) (cycle : Bool) → FloorsOn k (pointed h k s i p cycle)
-    unfolding pointed
-    pointed_on k endpoints s i p cycle = search (rules, cond_both, is_off, bound_to, ring_having, moved, bound_on, moved_on)
-
     ceiling_on : (k : Known) → EndpointsKeep h k → (s i : ℕ) (o : Option ℕ) → k.ring_of s i ≡ o → FloorsOn k (held_at_ceiling h k o)
     unfolding held_at_ceiling
     ceiling_on k endpoints s i o at = grind (arith, floors_same, floors_held, ceiling, shape_of, k.ring, transfer_is_driver, endpoints.transfer)
 
     change_on : (c : Command) (k : Known) (change : Change) → EndpointsKeep h k → MayChange h k change → FloorsOn k (changed_by h c k change)
-    unfolding changed_by disabled in_state
+    unfolding changed_by disabled in_state pointed
     change_on c k (SlotGoesOn s) endpoints may = floors_same k (changed_by h c k (SlotGoesOn s)) refl
     change_on c k (DeviceLeft s) endpoints may = floors_same k (changed_by h c k (DeviceLeft s)) refl
     change_on c k (Disables s which) endpoints may = floors_same k (changed_by h c k (Disables s which)) refl
-    change_on c k (Places s i p cycle state) endpoints may = pointed_on k endpoints s i p cycle
+    change_on c k (Places s i p cycle state) endpoints may = (search (rules, cond_both, is_off, bound_to, ring_having, moved, bound_on, moved_on))
     change_on c k (Stops s i) endpoints may =
         ceiling_on (in_state h k s i Stopped) (record { transfer = endpoints.transfer }) s i (k.ring_of s i) refl
     change_on c k (Resets s i) endpoints may = floors_same k (changed_by h c k (Resets s i)) refl
@@ -116,15 +108,9 @@ module _ (h : Header) where
     unfolding stop_ended
     ended_on k m o on = grind arith
 
-    finish_on : (k : Known) (b : Block) (o : Option Command) → EndpointsKeep h k → ((c : Command) → o ≡ Some c → code b ≡ 1 → MayChangeAll h c k (changes h.context_size k.memory (slot b) c)) →
-        FloorsOn k (finished h k b o)
-    unfolding finished succeeded
-    finish_on k b None endpoints may = search (rules, floors_same)
-    finish_on k b (Some c) endpoints may = search (rules, floors_same, ended_on, changes_on, eqb-true)
-
     pub completion_on : (k : Known) (b : Block) → EndpointsKeep h k → IsDriverRing h (command_id h) → MayFinish h k b → FloorsOn k (completed h k b)
-    unfolding completed next_command
-    completion_on k b endpoints driver may = search (rules, finish_elsewhere, floors_both, finish_on, floors_reached, number-after)
+    unfolding completed next_command finished succeeded
+    completion_on k b endpoints driver may = search (rules, finish_elsewhere, floors_both, floors_same, ended_on, changes_on, eqb-true, floors_reached, number-after)
 
 module _ (h : Header) where
   -- ---- device contexts are let go, and none is taken
@@ -145,13 +131,9 @@ module _ (h : Header) where
   changes_fewer c k [] t d at = at
   changes_fewer c k (change ∷ rest) t d at = change_fewer c k change t d (changes_fewer c (changed_by h c k change) rest t d at)
 
-  ended_fewer : (k m : Known) (c : Command) → FewerDevices k m → FewerDevices k (stop_ended h m c)
-  unfolding stop_ended
-  ended_fewer k m o fewer = grind arith
-
   finish_fewer : (k : Known) (b : Block) (o : Option Command) → FewerDevices k (finished h k b o)
-  unfolding finished succeeded
-  finish_fewer k b o t d at = grind (arith, ended_fewer, code, succeeded, slot, changes_fewer, changes)
+  unfolding finished succeeded stop_ended
+  finish_fewer k b o t d at = grind (arith, code, succeeded, slot, changes_fewer, changes)
 
   kind_fewer : (k : Known) (b : Block) (n : BlockKind) → FewerDevices k (event_read h k n b)
   unfolding event_read completed on_ring

@@ -1,24 +1,13 @@
 -- When a posted event is possible where it will be read, and what reading it adds
-use Rattle.safety.proofs.Words.{[], ◌≡◌, ◌+◌, ◌-◌, ◌≤◌, ◌==◌, ◌&&◌, ◌∷◌, ◌++◌, ◌∙◌, true, false, not, List, All, arith, refl, ap, le-ltb, ltb-false, eq-eqb, cond-false, or_from, not_from_true, Block, All-append, All-cons, All-nil, IsBlock, cycle, kind, is_event, is_transfer_event, cycle_of, Header, Read, event_shape, event_size, World, Known, event_read, learned, broken_of, lenient, is_in_profile, is_impossible_by_kind, is_past_room, is_impossible, Stands, ArePossible, all_read, lenient_tests, event_tests, rules}
-use Rattle.safety.proofs.TestsPassed.{clean_tests}
-use Rattle.safety.proofs.CleanRows.{EventFacts, event_facts}
-use Rattle.safety.proofs.Posting.{CanPost}
-use Rattle.safety.proofs.WithReads.{with_reads}
+use Rattle.safety.proofs.LowerLaws.{[], ◌≡◌, ◌+◌, ◌-◌, ◌≤◌, ◌==◌, ◌&&◌, ◌∷◌, ◌++◌, ◌∙◌, true, false, not, List, All, arith, refl, ap, le-ltb, ltb-false, eq-eqb, cond-false, or_from, not_from_true, Block, All-append, All-cons, All-nil, IsBlock, cycle, kind, is_event, is_transfer_event, cycle_of, Header, Read, event_shape, event_size, World, Known, event_read, learned, lenient, is_in_profile, is_impossible_by_kind, is_past_room, is_impossible, Stands, ArePossible, all_read, lenient_tests, event_tests, rules, clean_tests, EventFacts, event_facts, CanPost, with_reads}
 
 pub learned_read : (h : Header) (k : Known) (b : Block) → learned h k (Read b) ≡ with_reads (event_read h k (kind b) b) (k.reads + 1)
 unfolding learned
 learned_read h k b = refl
 
-not_impossible : (h : Header) (k : Known) (b : Block) → k.started ≡ true → k.reads + 2 ≤ k.dequeue + event_size h → cycle b ≡ cycle_of (event_shape h) k.reads →
-    is_event (kind b) ≡ true → is_impossible_by_kind h k (kind b) b ≡ false → is_impossible h k b ≡ false
-unfolding is_impossible is_past_room
-not_impossible h k b on room same event possible =
-    search (rules, or_from, not_from_true, k.started, le-ltb, event_size, cycle, cycle_of, event_shape, eq-eqb, is_event, kind)
-
 pub event_broken : (h : Header) (k : Known) (b : Block) → k.stopped ≡ false → is_impossible h k b ≡ false → (is_transfer_event (kind b) && not (is_in_profile b)) ≡ false → lenient h k (Read b) ≡ []
 unfolding lenient lenient_tests event_tests
-event_broken h k b on possible in_profile =
-    search (rules, cond-false, k.stopped, broken_of, is_impossible, is_transfer_event, kind, not, is_in_profile)
+event_broken h k b on possible in_profile = grind (arith, cond-false)
 
 -- an event of a possible kind that breaks no rule breaks none where what it reads is the same and the dequeue pointer has gone on
 pub event_still : (h : Header) (k l : Known) (b : Block) → l.started ≡ k.started → l.stopped ≡ k.stopped → l.reads ≡ k.reads → k.dequeue ≤ l.dequeue → lenient h k (Read b) ≡ [] →
@@ -34,7 +23,8 @@ event_still h k l b on off same more clean possible =
 -- a posted event of a possible kind breaks no rule where it will be read
 pub event_clean : (h : Header) (k : Known) (w : World) (b : Block) → Stands h k w → w.posted ≡ k.reads → w.stopped ≡ false → CanPost h w b → w.posted + 2 ≤ w.dequeue + event_size h →
     is_event (kind b) ≡ true → is_impossible_by_kind h k (kind b) b ≡ false → (is_transfer_event (kind b) && not (is_in_profile b)) ≡ false → lenient h k (Read b) ≡ []
-event_clean h k w b s read on can room event possible in_profile = search (rules, event_broken, not_impossible, cycle_of, event_shape)
+unfolding is_impossible is_past_room
+event_clean h k w b s read on can room event possible in_profile = search (rules, event_broken, or_from, not_from_true, le-ltb, eq-eqb, cycle_of, event_shape)
 
 -- with it at the end, the unread events are possible and lead on
 pub possible_more : (h : Header) (unread : List Block) (k : Known) (b : Block) → ArePossible h k unread → lenient h (all_read h k unread) (Read b) ≡ [] → ArePossible h k (unread ++ b ∷ [])

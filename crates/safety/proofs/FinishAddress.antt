@@ -1,12 +1,10 @@
 -- The controller finishes an Address Device with success: the run goes on
-use Rattle.safety.proofs.Words.{[], ◌≡◌, ◌<◌, ◌≤◌, ◌∷◌, ◌∙◌, ℕ, Bool, true, false, Some, arith, refl, sym, ap, subst, inl, inr, rules, cases_Bool, cases_lt, false≢true, Shape, IsShape, RingView, floor_number, given_count, RingKeeps, cases_option, given_below, step_is, floor_given, given_count_declared, ceiling_within, Command, AddressDevice, Running, SlotGoesOn, Places, changes, is_off, context_pointer, context_cycle, Header, IsHeader, shape_of, World, Known, next_command, DriverKeeps, CommandKeeps, Stays, Stands, changed_by, changed_by_all, succeeded}
-use Rattle.controller_model.specs.Bindings as bindings
-use Rattle.safety.proofs.LowerLaws.{ring_shape, transfer_driver, bad_context_parts, bad_command_context, slot_above, off_none, rings_of, address_ready, slot_keeps, StatesMatch, ChangeKeeps}
-use Rattle.safety.proofs.ContextWords.{same_context, address_same}
+use Rattle.safety.proofs.MiddleLaws.{[], ◌≡◌, ◌<◌, ◌≤◌, ◌∷◌, ◌∙◌, ℕ, Bool, true, false, Some, arith, refl, sym, ap, subst, inl, inr, rules, cases_Bool, cases_lt, false≢true, Shape, IsShape, RingView, floor_number, given_count, RingKeeps, cases_option, given_below, step_is, floor_given, given_count_declared, ceiling_within, Command, AddressDevice, Running, SlotGoesOn, Places, changes, is_off, context_pointer, context_cycle, Header, IsHeader, shape_of, World, Known, next_command, DriverKeeps, CommandKeeps, Stays, Stands, changed_by, changed_by_all, succeeded, ring_shape, transfer_driver, bad_context_parts, bad_command_context, slot_above, off_none, rings_of, address_ready, slot_keeps, StatesMatch, ChangeKeeps, same_context, address_same}
 use Rattle.safety.proofs.KeptRings.{command_holds}
 use Rattle.safety.proofs.PlaceKeeps.{MayBind, MayMove, bind_keeps, move_keeps}
 use Rattle.safety.proofs.FinishSuccess.{EffectKeeps}
 use Rattle.safety.proofs.FinishGiven.{ListKeeps, nothing_keeps, change_then}
+use Rattle.controller_model.specs.Bindings as bindings
 
 -- ---- a ring on which nothing from the floor on is given
 
@@ -53,11 +51,7 @@ module _ (h : Header) (is : IsHeader h) (k : Known) (d : DriverKeeps h k) (s n :
       }
 
   pub second_moves : is_off (k.endpoint_state s 1) ≡ false → MayMove h k s 1 p cycle
-  second_moves on =
-      elim (cases_option (k.ring_of s 1)) [
-        | inl none ↦ absurd (false≢true (sym on ∙ ap is_off (d.states.off s 1 none)))
-        | inr some ↦ moves_at on some.0 some.1
-      ]
+  second_moves on = grind (arith, cases_option, false≢true, moves_at, cases_option (k.ring_of s 1))
 
   -- ---- behind the change of the slot's state
 

@@ -1,13 +1,10 @@
 -- The controller finishes a Configure Endpoint with success: the run goes on
-use Rattle.safety.proofs.Words.{◌≡◌, ◌<◌, ◌≤◌, ◌||◌, ◌∷◌, ◌∙◌, ℕ, true, false, List, map, All, None, arith, refl, sym, ap, subst, get_or, eq-eqb, leb-true, rules, and_from, and_right, cond-true, cond-false, false≢true, Command, ConfigureEndpoint, Change, SlotGoesOn, Disables, changes, placed_by_context, is_off, added_endpoints, is_dropped, Header, IsHeader, World, Known, next_command, binding_in, binds, ring_bound, has_repeats, DriverKeeps, CommandKeeps, Stands, changed_by, changed_by_all, disabled, succeeded}
-use Rattle.controller_model.specs.Bindings as bindings
-use Rattle.safety.proofs.LowerLaws.{bad_context_parts, bad_command_context, added_above, ReadyAt, map_map, dropped, all_ready, slot_above, off_none, slot_keeps, rings_of, StatesMatch, ChangeKeeps}
-use Rattle.safety.proofs.ContextWords.{same_context, added_below, configure_same}
-use Rattle.safety.proofs.DisableChange.{disable_keeps}
+use Rattle.safety.proofs.MiddleLaws.{◌≡◌, ◌<◌, ◌≤◌, ◌||◌, ◌∷◌, ◌∙◌, ℕ, true, false, List, map, All, None, arith, refl, sym, ap, subst, get_or, eq-eqb, leb-true, rules, and_from, and_right, cond-true, cond-false, false≢true, Command, ConfigureEndpoint, Change, SlotGoesOn, Disables, changes, placed_by_context, is_off, added_endpoints, is_dropped, Header, IsHeader, World, Known, next_command, binding_in, binds, ring_bound, has_repeats, DriverKeeps, CommandKeeps, Stands, changed_by, changed_by_all, disabled, succeeded, bad_context_parts, bad_command_context, added_above, ReadyAt, map_map, dropped, all_ready, slot_above, off_none, slot_keeps, rings_of, StatesMatch, ChangeKeeps, same_context, added_below, configure_same, disable_keeps}
 use Rattle.safety.proofs.KeptRings.{command_holds}
 use Rattle.safety.proofs.PlaceEach.{each_keeps}
 use Rattle.safety.proofs.FinishSuccess.{EffectKeeps}
 use Rattle.safety.proofs.FinishGiven.{ListKeeps, change_then}
+use Rattle.controller_model.specs.Bindings as bindings
 
 module _ (h : Header) (is : IsHeader h) (k : Known) (d : DriverKeeps h k) (s a : ℕ) (given : CommandKeeps h k (next_command h k) (ConfigureEndpoint s false a)) where
   abbrev pub c : Command

@@ -1,14 +1,11 @@
 -- The controller finishes a Set TR Dequeue with success: the run goes on
-use Rattle.safety.proofs.Words.{[], ◌≡◌, ℕ, not, Bool, true, false, Option, Some, None, arith, refl, sym, or_parts, not-false, false≢true, ceiling, is_move, ceiling_within, Command, SetTrDequeue, EndpointState, Off, Stopped, Places, changes, is_off, is_at_rest, Header, IsHeader, shape_of, World, Known, next_command, is_bad_dequeue, is_bad_move, DriverKeeps, CommandKeeps, rules, all_read, effect, changed_by, succeeded, declared}
-use Rattle.safety.proofs.Headers.{ring_shape, transfer_driver}
+use Rattle.safety.proofs.MiddleLaws.{[], ◌≡◌, ℕ, not, Bool, true, false, Option, Some, None, arith, sym, or_parts, not-false, false≢true, ceiling_within, Command, SetTrDequeue, EndpointState, Stopped, Places, changes, is_off, is_at_rest, Header, IsHeader, shape_of, World, Known, next_command, is_bad_dequeue, is_bad_move, DriverKeeps, CommandKeeps, rules, effect, changed_by, succeeded, ring_shape, transfer_driver, StatesMatch}
 use Rattle.safety.proofs.PlaceKeeps.{MayMove, move_keeps}
-use Rattle.safety.proofs.FinishChanges.{StatesMatch}
 use Rattle.safety.proofs.FinishSuccess.{EffectKeeps}
 use Rattle.safety.proofs.FinishGiven.{nothing_keeps, change_then}
 
 rest_on : (state : EndpointState) → is_at_rest state ≡ true → is_off state ≡ false
-rest_on Off rest = absurd (false≢true rest)
-rest_on _ rest = refl
+rest_on state rest = grind (arith, false≢true)
 
 module _ (h : Header) (is : IsHeader h) (k : Known) (d : DriverKeeps h k) (s i p : ℕ) (cycle : Bool) where
   moves_of : (o : Option ℕ) → k.ring_of s i ≡ o → is_bad_dequeue h k o p cycle ≡ false → is_off (k.endpoint_state s i) ≡ false → MayMove h k s i p cycle
@@ -18,19 +15,7 @@ module _ (h : Header) (is : IsHeader h) (k : Known) (d : DriverKeeps h k) (s i p
       let transfer = d.states.transfer s i r had in
       let driver = transfer_driver h r transfer in
       let within = ceiling_within (shape_of h r) (ring_shape h is r driver).is k.memory (k.ring r) (d.rings r driver) in
-      record {
-        on = on;
-        ring = r;
-        had = had;
-        transfer = transfer;
-        keeps = d.rings r driver;
-        least = ceiling (shape_of h r) (k.ring r);
-        most = declared (k.ring r);
-        low = omega arith;
-        floor = within.0;
-        high = omega arith;
-        moves = not-false (is_move (shape_of h r) (k.ring r) p cycle (ceiling (shape_of h r) (k.ring r)) (declared (k.ring r))) good;
-      }
+      grind (arith, not-false)
 
   pub may_move : is_bad_move h k (SetTrDequeue s i p cycle) ≡ false → MayMove h k s i p cycle
   unfolding is_bad_move

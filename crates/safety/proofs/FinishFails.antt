@@ -1,17 +1,6 @@
 -- The controller finishes the command under way with another code than success: the run goes on
-use Rattle.safety.proofs.Words.{[], ◌≡◌, ◌+◌, ◌<◌, ◌==◌, ◌∷◌, ◌++◌, ◌∙◌, ℕ, Bool, true, false, not, List, Option, Some, None, is_some, arith, refl, sym, ap, subst, lt-ltb, eq-eqb, false≢true, and_from, and_left, or_from, or_left, or_right, cond-true, cond-false, not_from_true, not_from_false, Block, BlockKind, IsBlock, code, kind, pointer, slot, is_transfer_event, is_command_completion, address_of, ceiling, cycle_of_bit, Command, command_of, may_answer_slot, can_succeed, Header, Config, IsHeader, shape_of, command_id, register_or_zero, World, posted, counted, Known, event_read, command_at, next_command, is_in_profile, is_impossible_by_kind, is_impossible_completion, may_be_taken, can_finish, was_stop_seen, DriverKeeps, CommandMatches, UnderWayMatches, Agrees, Runs, all_read, stored, stored_block}
+use Rattle.safety.proofs.MiddleLaws.{rules, [], ◌≡◌, ◌+◌, ◌<◌, ◌==◌, ◌∷◌, ◌++◌, ◌∙◌, ℕ, Bool, true, false, not, List, Option, Some, None, is_some, arith, refl, sym, ap, subst, lt-ltb, eq-eqb, false≢true, and_from, and_left, or_from, or_left, or_right, cond-true, cond-false, not_from_true, not_from_false, Block, BlockKind, IsBlock, code, kind, pointer, slot, is_transfer_event, is_command_completion, address_of, ceiling, cycle_of_bit, Command, command_of, may_answer_slot, can_succeed, Header, Config, IsHeader, shape_of, command_id, register_or_zero, World, posted, counted, Known, event_read, command_at, next_command, is_in_profile, is_impossible_by_kind, is_impossible_completion, may_be_taken, can_finish, was_stop_seen, DriverKeeps, CommandMatches, UnderWayMatches, Agrees, Runs, all_read, stored, stored_block, ring_shape, command_of-with_cycle, ceiling_given, AtFloor, at_floor, command_is_ring, command_at_is, agrees_counted, with_reads, PostKeeps, post_keeps, learned_read, event_clean, runs_more, ReportKeeps, IsFinish, finish_is, failure_is, completion_kind, let_go, seen_after, next_known, failed_read, none_waits, none_after, stands_next, events_next, matches_next}
 use Rattle.controller_model.specs.Finishes as finishes
-use Rattle.safety.proofs.Headers.{ring_shape}
-use Rattle.safety.proofs.SameCommand.{command_of-with_cycle}
-use Rattle.safety.proofs.NoWait.{ceiling_given}
-use Rattle.safety.proofs.SafeContext.{AtFloor, at_floor, command_is_ring, command_at_is}
-use Rattle.safety.proofs.Counted.{agrees_counted}
-use Rattle.safety.proofs.WithReads.{with_reads}
-use Rattle.safety.proofs.Posted.{PostKeeps, post_keeps}
-use Rattle.safety.proofs.EventRead.{learned_read, event_clean}
-use Rattle.safety.proofs.ReportSuccess.{runs_more, ReportKeeps}
-use Rattle.safety.proofs.FinishKinds.{IsFinish, finish_is, failure_is, completion_kind, let_go, seen_after, next_known, failed_read, none_waits, none_after}
-use Rattle.safety.proofs.FinishNext.{stands_next, events_next, matches_next}
 
 pub posted_under_way : (h : Header) (w : World) (b : Block) → (posted h w b).under_way ≡ w.under_way
 unfolding posted stored_block stored
@@ -37,11 +26,7 @@ can_end k b e answers one can = and_from _ _ answers (cond-true (code b == 1) _ 
 pub completion_possible : (h : Header) (k : Known) (b : Block) → is_command_completion (kind b) ≡ true → may_be_taken h k ≡ true → pointer b ≡ address_of (shape_of h (command_id h)) (next_command h k) →
     (code b == 0) ≡ false → can_finish k b (command_at h k (next_command h k)) ≡ true → is_impossible_by_kind h k (kind b) b ≡ false
 unfolding is_impossible_by_kind is_impossible_completion
-completion_possible h k b completion taken at some_code may =
-    ap (λ n. is_impossible_by_kind h k n b) (completion_kind (kind b) completion)
-    ∙ or_from _ _ (or_from _ _ (or_from _ _ (not_from_true (may_be_taken h k) taken)
-    (not_from_true (pointer b == address_of (shape_of h (command_id h)) (next_command h k)) (eq-eqb (pointer b) (address_of (shape_of h (command_id h)) (next_command h k)) at))) some_code)
-    (not_from_true (can_finish k b (command_at h k (next_command h k))) may)
+completion_possible h k b completion taken at some_code may = grind (arith, completion_kind, or_from, not_from_true, eq-eqb)
 
 pub no_transfer : (t : BlockKind) → is_command_completion t ≡ true → is_transfer_event t ≡ false
 no_transfer t h = ap is_transfer_event (completion_kind t h)
@@ -111,10 +96,7 @@ module _ (h : Header) (is : IsHeader h) (k : Known) (unread : List Block) (w v :
 
   -- another code than success
   fails_at : (code b == 1) ≡ false → (e : Command) → command_of floor.block ≡ Some e → ReportKeeps h k unread w v b
-  fails_at fails e is_e =
-      let ends = failure_is h w v b f.taken fails f.ends in
-      let fresh : was_stop_seen k e ≡ false = sym (stopped_is e is_e) ∙ ends.0 in
-      idle_at e is_e fresh (can_fail k b e (answers_is e is_e) fails fresh) (failed_read h k b e (k.reads + 1) f.completion (here_is e is_e) fails) ends.1
+  fails_at fails e is_e = search (rules, idle_at, can_fail, answers_is, failed_read, here_is, failure_is h w v b f.taken fails f.ends, sym (stopped_is e is_e) ∙ (failure_is h w v b f.taken fails f.ends).0)
 
   failure_keeps : (code b == 1) ≡ false → ReportKeeps h k unread w v b
   failure_keeps fails = fails_at fails a_command.0 a_command.1

@@ -1,9 +1,7 @@
 -- What a finish is, and what is known behind the completion of a command that had no effect
-use Rattle.safety.proofs.Words.{◌≡◌, ◌==◌, ◌∙◌, ℕ, Bool, true, false, Option, Some, None, refl, sym, ap, eqb-true, rules, false≢true, and_parts, cond-false, not-true, false_from_ne_true, none-some, same_Some, put, put_pair, Block, BlockKind, code, kind, pointer, slot, is_command_completion, after, Reaches, Command, StopEndpoint, command_of, is_stop_of, may_answer_slot, Header, shape_of, command_id, World, UnderWay, can_post, posted, Known, event_read, command_at, next_command, on_ring, is_stopping_now, may_be_taken, was_stop_seen, DriverKeeps, CommandCompletion, completed, finished, stop_ended, arith}
-use Rattle.controller_model.specs.Finishes as finishes
-use Rattle.safety.proofs.WithReads.{with_reads}
-use Rattle.safety.proofs.LookKinds.{cond_is}
+use Rattle.safety.proofs.LowerLaws.{◌≡◌, ◌==◌, ◌∙◌, ℕ, Bool, true, false, Option, Some, None, refl, sym, ap, eqb-true, rules, false≢true, and_parts, cond-false, not-true, false_from_ne_true, none-some, same_Some, put, put_pair, Block, BlockKind, code, kind, pointer, slot, is_command_completion, after, Reaches, Command, StopEndpoint, command_of, is_stop_of, may_answer_slot, Header, shape_of, command_id, World, UnderWay, can_post, posted, Known, event_read, command_at, next_command, on_ring, is_stopping_now, may_be_taken, was_stop_seen, DriverKeeps, CommandCompletion, completed, finished, stop_ended, arith, with_reads, cond_is}
 use Rattle.safety.proofs.FloorMoves.{floor_behind}
+use Rattle.controller_model.specs.Finishes as finishes
 
 -- ---- what a finish is
 

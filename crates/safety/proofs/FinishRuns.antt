@@ -1,16 +1,13 @@
 -- However the controller finishes the command under way, the run goes on
-use Rattle.std.proofs.Common.{◌≡◌, ◌==◌, ◌∙◌, true, false, Option, None, Some, option_map, refl, sym, rules}
-use Rattle.safety.proofs.Words.{cond-true, none-some, Block, IsBlock, code, slot, Command, AddressDevice, ConfigureEndpoint, SetTrDequeue, command_of, Header, IsHeader, World, UnderWay, counted, DriverKeeps, CommandKeeps, IsUnfinished, next_command, Runs, all_read, Known}
-use Rattle.controller_model.specs.Finishes as finishes
-use Rattle.safety.proofs.FinishKinds.{IsFinish, finish_is}
-use Rattle.safety.proofs.LowerLaws.{StatesMatch, states_match, command_numbered}
-use Rattle.safety.proofs.ReportSuccess.{runs_more}
+use Rattle.safety.proofs.MiddleLaws.{◌≡◌, ◌==◌, ◌∙◌, true, false, Option, None, Some, refl, sym, rules, cond-true, none-some, Block, IsBlock, code, slot, Command, AddressDevice, ConfigureEndpoint, SetTrDequeue, command_of, Header, IsHeader, World, UnderWay, counted, DriverKeeps, CommandKeeps, IsUnfinished, next_command, Runs, all_read, Known, IsFinish, finish_is, StatesMatch, states_match, command_numbered, runs_more}
+use Rattle.std.proofs.Common.{option_map}
 use Rattle.safety.proofs.FinishSuccess.{EffectKeeps, success_keeps}
 use Rattle.safety.proofs.FinishFails.{finish_failure_runs, floor, of_block, here_is}
 use Rattle.safety.proofs.FinishSlots.{effect_keeps}
 use Rattle.safety.proofs.FinishDequeue.{dequeue_keeps}
 use Rattle.safety.proofs.FinishAddress.{address_keeps}
 use Rattle.safety.proofs.FinishConfigure.{configure_keeps}
+use Rattle.controller_model.specs.Finishes as finishes
 
 -- a block that is no command of the profile never succeeds
 no_success : (h : Header) (w v : World) (b : Block) (u : UnderWay) → command_of u.block ≡ None → (code b == 1) ≡ true → finishes.ended_with h w b u ≡ Some v → ⊥

@@ -1,11 +1,7 @@
 -- The controller finishes with success a command that places no endpoint on a ring: the run goes on
-use Rattle.safety.proofs.Words.{[], ◌≡◌, ◌∷◌, ◌∙◌, ℕ, true, false, List, Option, Some, option_and_then, ap, subst, none-some, same_Some, Command, AddressDevice, ConfigureEndpoint, SetTrDequeue, Change, SlotGoesOn, DeviceLeft, Disables, Places, Stops, Resets, changes, ContextSize, Header, World, Known, changed_by, changed_by_all, succeeded, arith}
-use Rattle.controller_model.specs.Bindings as bindings
-use Rattle.safety.proofs.FinishChanges.{StatesMatch, ChangeKeeps, none_keeps, both_keep}
+use Rattle.safety.proofs.MiddleLaws.{[], ◌≡◌, ◌∷◌, ◌∙◌, ℕ, true, false, List, Option, Some, option_and_then, ap, subst, none-some, same_Some, Command, AddressDevice, ConfigureEndpoint, SetTrDequeue, Change, SlotGoesOn, DeviceLeft, Disables, Places, Stops, Resets, changes, Header, World, Known, changed_by, changed_by_all, succeeded, arith, StatesMatch, ChangeKeeps, none_keeps, both_keep, slot_keeps, device_keeps, reset_keeps, stop_keeps, disable_keeps}
 use Rattle.safety.proofs.FinishSuccess.{EffectKeeps}
-use Rattle.safety.proofs.SlotChanges.{slot_keeps, device_keeps, reset_keeps}
-use Rattle.safety.proofs.StopChange.{stop_keeps}
-use Rattle.safety.proofs.DisableChange.{disable_keeps}
+use Rattle.controller_model.specs.Bindings as bindings
 
 -- ---- changes that place nothing
 
@@ -46,18 +42,9 @@ PlacesNone (ConfigureEndpoint s false n) = ⊥
 PlacesNone (SetTrDequeue s i p cycle) = ⊥
 PlacesNone _ = Unit {0}
 
-no_placings : (size : ContextSize) (memory : ℕ → ℕ) (n : ℕ) (e : Command) → PlacesNone e → AreNoPlacings (changes size memory n e)
-unfolding changes
-no_placings size memory n o none = grind (arith, true)
-
--- it reads no memory
-same_changes : (size : ContextSize) (f g : ℕ → ℕ) (n : ℕ) (e : Command) → PlacesNone e → changes size f n e ≡ changes size g n e
-unfolding changes
-same_changes size f g n o none = grind (arith, true)
-
 -- it keeps that states agree: No Op, Enable Slot, Disable Slot, Evaluate Context, Reset Endpoint, Stop Endpoint, Reset Device, and a Configure Endpoint that deconfigures
 pub effect_keeps : (h : Header) (k : Known) (w : World) (n : ℕ) (e : Command) → PlacesNone e → StatesMatch h k w → EffectKeeps h k w n e
-unfolding bindings.effect succeeded
+unfolding bindings.effect succeeded changes
 effect_keeps h k w n e none m x at =
-    changes_keep h e (changes h.context_size k.memory n e) (no_placings h.context_size k.memory n e none) k w x m
-    (ap (λ l. bindings.changed_by_all h e w l) (same_changes h.context_size k.memory w.memory n e none) ∙ at)
+    changes_keep h e (changes h.context_size k.memory n e) (grind (arith, true)) k w x m
+    (ap (λ l. bindings.changed_by_all h e w l) (grind (arith, true)) ∙ at)

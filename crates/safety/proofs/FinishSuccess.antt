@@ -1,21 +1,10 @@
 -- The controller finishes the command under way with success: where its changes keep that states agree, the run goes on
-use Rattle.std.proofs.Common.{[], ◌≡◌, ◌+◌, ◌⊎◌, ◌==◌, ◌&&◌, ◌∷◌, ◌++◌, ◌∙◌, ℕ, Bool, true, false, not, List, Option, Some, is_some, option_map, unwrap_or, arith, refl, sym, ap, subst, inl, inr}
-use Rattle.safety.proofs.Words.{cases_Bool, and_left, or_left, or_right, or_parts, cond-true, not-false, none-some, Block, IsBlock, code, kind, slot, is_transfer_event, is_command_completion, Reaches, floor_number, after, Command, StopEndpoint, EndpointState, command_of, is_stop_of, named_slot, named_endpoint, named_context, can_succeed, slot_success, endpoint_success, slot_meant, endpoint_meant, is_slot_enabled, Header, Read, Config, IsHeader, shape_of, command_id, register_or_zero, World, UnderWay, posted, counted, Known, event_read, learned, command_at, next_command, on_ring, is_in_profile, can_finish, was_stop_seen, DriverKeeps, state_of, UnderWayMatches, Agrees, stored, stored_block, completed, finished, stop_ended, succeeded, ◌≢◌, option_and_then, slice_get, rules, false≢true, Stands, EventsStand, RingMatches, EndpointRing, Matches}
+use Rattle.safety.proofs.MiddleLaws.{[], ◌≡◌, ◌+◌, ◌⊎◌, ◌==◌, ◌&&◌, ◌∷◌, ◌++◌, ◌∙◌, ℕ, Bool, true, false, not, List, Option, Some, is_some, unwrap_or, arith, refl, sym, ap, subst, inl, inr, cases_Bool, and_left, or_left, or_right, or_parts, cond-true, not-false, none-some, Block, IsBlock, code, kind, slot, is_transfer_event, is_command_completion, Reaches, floor_number, after, Command, StopEndpoint, EndpointState, command_of, is_stop_of, named_slot, named_endpoint, named_context, can_succeed, slot_success, endpoint_success, slot_meant, endpoint_meant, is_slot_enabled, Header, Read, Config, IsHeader, shape_of, command_id, register_or_zero, World, UnderWay, posted, counted, Known, event_read, learned, command_at, next_command, on_ring, is_in_profile, can_finish, was_stop_seen, DriverKeeps, state_of, UnderWayMatches, Agrees, stored, stored_block, completed, finished, stop_ended, succeeded, ◌≢◌, option_and_then, rules, false≢true, Stands, EventsStand, Matches, next_is, agrees_counted, with_reads, post_keeps, learned_read, event_clean, ReportKeeps, mapped, cond_is, put_at, put_off, IsFinish, completion_kind, let_go, seen_after, next_known, stop_ended_is, reached_is, stopping_of, put_false, none_waits, none_after, stands_next, events_next, matches_next, known_changed, world_changed, LeavesRest, ChangeKeeps, floor_behind}
+use Rattle.std.proofs.Common.{option_map}
+use Rattle.safety.proofs.FinishFails.{no_transfer, posted_under_way, taken_now, can_end, completion_possible, floor, here_is, taken_is, answers_is}
 use Rattle.controller_model.specs.Bindings as bindings
 use Rattle.controller_model.specs.Finishes as finishes
-use Rattle.safety.proofs.SafeContext.{next_is}
-use Rattle.safety.proofs.Counted.{agrees_counted}
-use Rattle.safety.proofs.WithReads.{with_reads}
-use Rattle.safety.proofs.Posted.{post_keeps}
-use Rattle.safety.proofs.EventRead.{learned_read, event_clean}
-use Rattle.safety.proofs.ReportSuccess.{ReportKeeps, mapped}
-use Rattle.safety.proofs.LookKinds.{cond_is, put_at, put_off}
-use Rattle.safety.proofs.FinishKinds.{IsFinish, completion_kind, let_go, seen_after, next_known, stop_ended_is, reached_is, stopping_of, put_false, none_waits, none_after}
-use Rattle.safety.proofs.FinishNext.{stands_next, events_next, matches_next}
-use Rattle.safety.proofs.FinishFails.{no_transfer, posted_under_way, taken_now, can_end, completion_possible, floor, here_is, taken_is, answers_is}
-use Rattle.safety.proofs.FinishChanges.{known_changed, world_changed, LeavesRest, ChangeKeeps}
 use Rattle.world_state.specs.World as of_world
-use Rattle.safety.proofs.FloorMoves.{floor_behind}
 
 -- Behind the success of a command: its changes are made, the event is posted, and the command ring's floor moves on
 
@@ -40,27 +29,9 @@ module _ (h : Header) (k m : Known) (w v : World) (c : ChangeKeeps h k m w v) (s
   unfolding of_world.event_at
   events_changed u unread e = record { order = e.order; count = e.count; places = e.places; started = e.started; ring = e.ring }
 
-  endpoint_ring : (u : World) (q : ℕ) → q ≢ command_id h → EndpointRing h m v q → EndpointRing h later (let_go (world_changed u v)) q
-  endpoint_ring u q other o = grind (arith, shape_of, m.ring_of, state_of, ring_same)
-
   pub matches_changed : (u : World) → k.started ≡ true → state_of u (command_id h) ≡ state_of w (command_id h) → Matches h before (let_go u) → Matches h later (let_go (world_changed u v))
   unfolding command_at
-  matches_changed u on same y = record {
-    slots = c.states.slots;
-    endpoints = c.states.endpoints;
-    ring_of = c.states.ring_of;
-    rings = λ q other. endpoint_ring u q other (c.states.rings q other);
-    before = λ off. absurd (false≢true (sym off ∙ on));
-    command = λ started. let x = y.command on in record {
-      spot = x.spot;
-      ring = subst (λ s. RingMatches (shape_of h (command_id h)) (later.ring (command_id h)) s x.spot) (same ∙ sym c.rest.command_world)
-          (subst (λ r. RingMatches (shape_of h (command_id h)) r (state_of u (command_id h)) x.spot) (sym command_ring) x.ring);
-      under_way = (x.under_way.0 ∙ next_is h before ∙ ap (λ r. floor_number r) (sym command_ring) ∙ sym (next_is h later), x.under_way.1);
-    };
-    scribbles = c.states.scribbles;
-    contexts = λ p e f. y.contexts p e (search (rules, later, before, command_ring, option_and_then, command_of, slice_get));
-    inside = y.inside;
-  }
+  matches_changed u on same y = grind (arith, ring_same, false≢true, next_is, option_and_then)
 
 -- ---- in the world
 
@@ -82,9 +53,6 @@ posted_ring h w b r = refl
 
 -- ---- in what is known
 
-same_seen : (k m : Known) (e : Command) → seen_after (known_changed k m) e ≡ seen_after k e
-same_seen k m o = grind arith
-
 success_read : (h : Header) (k : Known) (w x : World) (b : Block) (e : Command) (n : ℕ) → is_command_completion (kind b) ≡ true → command_at h k (next_command h k) ≡ Some e → (code b == 1) ≡ true →
     LeavesRest h k (succeeded h k (slot b) e) w x →
     with_reads (event_read h k (kind b) b) n ≡ next_known h (known_changed k (succeeded h k (slot b) e)) (seen_after k e) n
@@ -99,7 +67,7 @@ success_read h k w x b e n completion at one rest =
     ∙ ap (λ p. with_reads (on_ring h (record m { stop_seen = seen_after m e }) (command_id h) (Reaches (after (shape_of h (command_id h)) p))) n) same
     ∙ reached_is h m (seen_after m e) n
     ∙ ap (λ y. next_known h y (seen_after y e) n) rest.known
-    ∙ ap (λ seen. next_known h (known_changed k m) seen n) (same_seen k m e)
+    ∙ ap (λ seen. next_known h (known_changed k m) seen n) (grind arith)
 
 unseen : (k : Known) (e : Command) → (was_stop_seen k e ≡ false) ⊎ ((t : ℕ) × (j : ℕ) × (e ≡ StopEndpoint t j))
 unfolding was_stop_seen
@@ -114,11 +82,7 @@ none_left_of_stop h k d t j at s i =
 
 -- behind it no Stopped event waits
 none_left : (h : Header) (k : Known) (d : DriverKeeps h k) (e : Command) → command_at h k (next_command h k) ≡ Some e → (s i : ℕ) → seen_after k e s i ≡ false
-none_left h k d e at =
-    elim (unseen k e) [
-      | inl fresh ↦ none_after k e (none_waits h k d e at fresh)
-      | inr stop ↦ subst (λ c. (s i : ℕ) → seen_after k c s i ≡ false) (sym stop.2) (none_left_of_stop h k d stop.0 stop.1 (at ∙ ap (λ c. Some c) stop.2))
-    ]
+none_left h k d e at = grind (arith, unseen, none_after, none_waits, seen_after, none_left_of_stop, unseen k e)
 
 -- ---- what it succeeds in is known
 
@@ -161,11 +125,4 @@ module _ (h : Header) (is : IsHeader h) (k : Known) (unread : List Block) (w v :
       let learned_is : learned h k (Read b) ≡ l = learned_read h k b ∙ success_read h k w s.made b e n f.completion here one c.rest in
       let ends : y ≡ v = ap let_go (sym (ap (λ z. posted h z b) c.rest.world ∙ refl)) ∙ s.ends in
       let may = sym (same_success k w (slot b) (register_or_zero w.register Config) (register_or_zero k.register Config) e g.matches.slots g.matches.endpoints (ap (λ o. unwrap_or o 0) (g.stands.registers Config))) ∙ s.can in
-      record {
-        clean = event_clean h k w b g.stands g.read running p.can p.room
-            (or_left _ _ (or_right _ _ f.completion))
-            (completion_possible h k b f.completion (taken_now h k (omega (arith, under.0, now.ring.below))) (f.named ∙ under.1.address) f.some_code
-            (ap (λ o. can_finish k b o) here ∙ can_end k b e (answers_is h is k unread w v b block running d g f e is_e) one may))
-            (and_left (is_transfer_event (kind b)) (not (is_in_profile b)) (no_transfer (kind b) f.completion));
-        agrees = subst (λ z. Agrees h z (unread ++ b ∷ []) (counted h v)) (sym learned_is) (subst (λ z. Agrees h l (unread ++ b ∷ []) (counted h z)) ends after_post);
-      }
+      search (rules, event_clean, or_left, or_right, completion_possible, taken_now, can_finish, can_end, answers_is, and_left, is_transfer_event, kind, is_in_profile, no_transfer, counted, ends)

@@ -1,8 +1,6 @@
 -- A floor that moves on behind a block that the controller has passed: the ring's pointer stands as it did
-use Rattle.safety.proofs.Words.{◌<◌, ◌≤◌, ℕ, rules, Spot, Shape, number, after, RingView, floor_number, ceiling, is_way_given, is_step_given, cases_option, rank_least, next_least, given_count_grows, RingState, RingMatches}
-use Rattle.safety.proofs.NoWait.{ceiling_open, ceiling_held}
-use Rattle.safety.proofs.RingGoesOn.{newest_still}
-use Rattle.safety.proofs.LookedRing.{number_after}
+use Rattle.safety.proofs.LowerLaws.{◌<◌, ◌≤◌, ℕ, rules, Spot, Shape, number, after, RingView, floor_number, ceiling, is_way_given, is_step_given, cases_option, rank_least, next_least, given_count_grows, RingState, RingMatches, ceiling_open, newest_still, number_after}
+use Rattle.safety.proofs.NoWait.{ceiling_held}
 
 abbrev pub floor_behind : Shape → RingView → ℕ → RingView
 floor_behind shape v p = record v { floor = after shape p }

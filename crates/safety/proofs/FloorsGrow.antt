@@ -1,7 +1,5 @@
 -- An event that may be read moves no floor back
-use Rattle.safety.proofs.Words.{[], ◌≡◌, ◌≤◌, ◌∷◌, ℕ, Bool, true, List, Option, None, Some, arith, refl, ap, eqb-true, rules, cond_both, none-some, same_Some, Block, BlockKind, TransferEvent, CommandCompletion, kind, code, slot, endpoint, pointer, is_command_completion, Spot, number, after, Reaches, Holds, floor_number, ceiling, named, stopped_number, target, number-after, named_ahead, target_ahead, Command, Stopped, is_off, Change, Places, Stops, changes, Header, Read, IsHeader, shape_of, ring_having, Known, RingSpot, on_ring, spot_on, event_at, command_at, next_command, passed, broken_off, stopped_at, transferred, transferred_at, transfer_read, set_to, bound_to, moved_to, moved, pointed, disabled, in_state, held_at_ceiling, changed_by, changed_by_all, succeeded, stop_ended, finished, completed, event_read, learned, lenient, DriverKeeps, EndpointsKeep, MayChange, MayChangeAll}
-use Rattle.safety.proofs.LowerLaws.{transfer_driver, rings_of, endpoints_of, view_after, still_places, EventFacts, event_facts}
-use Rattle.safety.proofs.EndpointHistories.{finish_elsewhere}
+use Rattle.safety.proofs.MiddleLaws.{[], ◌≡◌, ◌≤◌, ◌∷◌, ℕ, Bool, true, List, Option, None, Some, arith, refl, ap, eqb-true, rules, cond_both, none-some, same_Some, Block, BlockKind, TransferEvent, CommandCompletion, kind, code, slot, endpoint, pointer, is_command_completion, Spot, number, after, Reaches, Holds, floor_number, ceiling, named, stopped_number, target, number-after, named_ahead, target_ahead, Command, Stopped, is_off, Change, Places, Stops, changes, Header, Read, IsHeader, shape_of, ring_having, Known, RingSpot, on_ring, spot_on, event_at, command_at, next_command, passed, broken_off, stopped_at, transferred, transferred_at, transfer_read, set_to, bound_to, moved_to, moved, pointed, disabled, in_state, held_at_ceiling, changed_by, changed_by_all, succeeded, stop_ended, finished, completed, event_read, learned, lenient, DriverKeeps, EndpointsKeep, MayChange, MayChangeAll, transfer_driver, rings_of, endpoints_of, view_after, still_places, EventFacts, event_facts, finish_elsewhere}
 use Rattle.safety.proofs.KeptRings.{completion_facts, next_unfinished, command_holds}
 
 abbrev pub FloorsGrow : Known → Known → Type 0
@@ -84,14 +82,10 @@ module _ (h : Header) where
       cond_both (is_off (k.endpoint_state s i)) (bound_to h k s i (ring_having h p) p cycle) (moved h k (k.ring_of s i) p cycle) (FloorsGrow k)
       (λ off. bound_grows k s i (ring_having h p) p cycle) (λ on. moved_grows k (k.ring_of s i) p cycle)
 
-  held_grows : (k : Known) (o : Option ℕ) → FloorsGrow k (held_at_ceiling h k o)
-  unfolding held_at_ceiling
-  held_grows k o = grind (arith, grow_none, hold_grows, ceiling, shape_of, k.ring)
-
   change_grows : (c : Command) (k : Known) (change : Change) → MayChange h k change → FloorsGrow k (changed_by h c k change)
-  unfolding changed_by disabled in_state
+  unfolding changed_by disabled in_state held_at_ceiling
   change_grows c k (Places s i p cycle state) may = pointed_grows k s i p cycle
-  change_grows c k (Stops s i) may = held_grows (in_state h k s i Stopped) (k.ring_of s i)
+  change_grows c k (Stops s i) may = (grind (arith, grow_none, hold_grows, ceiling, shape_of, (in_state h k s i Stopped).ring))
   change_grows c k _ may = λ r. omega arith
 
   changes_grow : (c : Command) (k : Known) (all : List Change) → MayChangeAll h c k all → FloorsGrow k (changed_by_all h c k all)
@@ -100,15 +94,11 @@ module _ (h : Header) where
   changes_grow c k (change ∷ rest) may =
       let l : Known = changed_by h c k change in grow_twice k l (changed_by_all h c l rest) (change_grows c k change may.0) (changes_grow c l rest may.1)
 
-  stop_grows : (k : Known) (c : Command) → FloorsGrow k (stop_ended h k c)
-  unfolding stop_ended
-  stop_grows k o = grind (arith, grow_none)
-
   finish_grows : (k : Known) (b : Block) (o : Option Command) →
       ((c : Command) → o ≡ Some c → code b ≡ 1 → MayChangeAll h c k (changes h.context_size k.memory (slot b) c)) → FloorsGrow k (finished h k b o)
-  unfolding finished succeeded
+  unfolding finished succeeded stop_ended
   finish_grows k b None may = search (rules, grow_none)
-  finish_grows k b (Some c) may = search (rules, grow_none, grow_twice, changes_grow, eqb-true, stop_grows)
+  finish_grows k b (Some c) may = search (rules, grow_none, grow_twice, changes_grow, eqb-true)
 
   completion_grows : (k : Known) (b : Block) → EndpointsKeep h k → IsHeader h →
       ((c : Command) → command_at h k (next_command h k) ≡ Some c → code b ≡ 1 → MayChangeAll h c k (changes h.context_size k.memory (slot b) c)) → FloorsGrow k (completed h k b)

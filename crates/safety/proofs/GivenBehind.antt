@@ -1,9 +1,5 @@
 -- What is kept of a command that a write gives holds behind an event that is read before the write, but for its device context
-use Rattle.safety.proofs.Words.{[], ◌≡◌, ◌∙◌, ℕ, true, length, Some, slice_get, arith, refl, sym, ap, MayCome, MovesRestored, false≢true, false_from_ne_true, Block, number, declared, floor_number, positions_given, ceiling, is_border, is_placement, GivesMore, move_more, gives_is, position_given_is, Command, named_context, is_disabled, is_off, is_at_rest, Header, Write, Read, IsHeader, shape_of, command_id, Known, command_at, command_given, learned, lenient, IsTransferRing, CommandKeeps, DriverKeeps, has_bad_context}
-use Rattle.safety.proofs.LowerLaws.{transfer_driver, transfer_not_command, due_has_ring, AgreeIn, GivesCommand, taken, transfer_ring, bound_transfer, Beside, context_good, context_same, OwnKeeps, PlacesStay, RingsBeside, own_keeps, own_beside, still_restored, Alike, ceiling_more}
-use Rattle.safety.proofs.MiddleLaws.{contains_first, and_then_parts, beside_new, read_same, event_behind, Untaken}
-use Rattle.safety.proofs.GivenRules.{GivenFacts, given_facts}
-use Rattle.safety.proofs.OtherRingsWritten.{written_elsewhere}
+use Rattle.safety.proofs.UpperLaws.{[], ◌≡◌, ◌∙◌, ℕ, true, length, Some, slice_get, arith, refl, sym, ap, MayCome, MovesRestored, false≢true, false_from_ne_true, Block, number, declared, floor_number, positions_given, ceiling, is_border, is_placement, GivesMore, move_more, gives_is, position_given_is, Command, named_context, is_disabled, is_off, is_at_rest, Header, Write, Read, IsHeader, shape_of, command_id, Known, command_at, command_given, learned, lenient, IsTransferRing, CommandKeeps, DriverKeeps, has_bad_context, transfer_driver, transfer_not_command, due_has_ring, AgreeIn, GivesCommand, taken, transfer_ring, bound_transfer, Beside, context_good, context_same, OwnKeeps, PlacesStay, RingsBeside, own_keeps, own_beside, still_restored, Alike, ceiling_more, contains_first, and_then_parts, beside_new, read_same, event_behind, Untaken, GivenFacts, given_facts, written_elsewhere}
 use Rattle.safety.proofs.CommandBeneath.{beneath_keeps, alike_there, rings_there, GivenThere, given_there, given_keeps}
 
 -- the position of a command that is given

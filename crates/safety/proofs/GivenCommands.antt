@@ -1,7 +1,5 @@
 -- What the rules test of a command that a write gives: its bindings and its moves may be made
-use Rattle.safety.proofs.Words.{◌≡◌, ◌≤◌, ◌||◌, ◌+◌, ◌∙◌, ℕ, Bool, true, false, map, nat_le, All, Option, Some, suc, zero, arith, sym, ap, subst, get_or, eqb-true, le-leb, rules, range_with_len, or_parts, and_from, or_cases, or_left, or_right, not-false, All-nil, All-cons, All-filter, All-get_or, Any-from_list_any, floor_number, is_move, input_add_flag, added_endpoints, is_dropped, Command, named_slot, named_endpoint, named_context, is_off, Header, shape_of, is_ring, Known, Binding, binds, ring_bound, binds_ring, is_placed, is_taken, is_kept, is_being_bound, is_bad_place, has_repeats, is_bad_binding, is_bad_stay, holds_of, AreFree, has_bad_content, has_bad_context, is_bad_added, is_bad_command, names_disabled_endpoint, names_disabled_slot}
-use Rattle.safety.proofs.TestsPassed.{each_fails}
-use Rattle.safety.proofs.BoundRings.{ring_is}
+use Rattle.safety.proofs.LowerLaws.{◌≡◌, ◌≤◌, ◌||◌, ◌+◌, ◌∙◌, ℕ, Bool, true, false, map, nat_le, All, Option, Some, suc, zero, arith, sym, ap, subst, get_or, eqb-true, le-leb, rules, range_with_len, or_parts, and_from, or_cases, or_left, or_right, not-false, All-nil, All-cons, All-filter, All-get_or, Any-from_list_any, floor_number, is_move, input_add_flag, added_endpoints, Command, named_slot, named_endpoint, named_context, Header, shape_of, is_ring, Known, Binding, binds, ring_bound, binds_ring, is_placed, is_taken, is_kept, is_being_bound, is_bad_place, has_repeats, is_bad_binding, is_bad_stay, holds_of, AreFree, has_bad_content, has_bad_context, is_bad_added, is_bad_command, names_disabled_endpoint, names_disabled_slot, each_fails, ring_is}
 
 range_above : (least a n : ℕ) → least ≤ a → All (λ i. nat_le least i ≡ true) (range_with_len a n)
 range_above least a zero low = All-nil (λ i. nat_le least i ≡ true)
@@ -34,11 +32,6 @@ module _ (h : Header) (k : Known) where
       let parts = or_parts (is_kept h k c r) (is_being_bound h k r) (ap (λ o. is_taken h k c o) (sym (ring_is r (ring_bound h b) any.4)) ∙ free) in
       (parts.0, parts.1)
 
-  -- what Configure Endpoint adds
-  free_by : (s n i : ℕ) → is_bad_added h k s n i ≡ false → nat_le 2 i ≡ true → (is_off (k.endpoint_state s i) || is_dropped k.memory n i) ≡ true
-  unfolding is_bad_added
-  free_by s n i good above = search (rules, nat_le, not-false, or_parts, or_cases, or_left, or_right, and_from)
-
   pub content_good : (c : Command) → is_bad_command h k c ≡ false → has_bad_content h k c ≡ false
   unfolding is_bad_command
   content_good c good =
@@ -46,8 +39,8 @@ module _ (h : Header) (k : Known) where
       (has_bad_content h k c) good).1
 
   pub are_free : (c : Command) → has_bad_content h k c ≡ false → AreFree h k c
-  unfolding has_bad_content
-  are_free o good = grind (arith, false, each_fails, is_bad_added, added_endpoints, k.memory, free_by, get_or, added_above)
+  unfolding has_bad_content is_bad_added
+  are_free o good = grind (arith, false, each_fails, is_bad_added, added_endpoints, k.memory, nat_le, not-false, or_parts, or_cases, or_left, or_right, and_from, get_or, added_above)
 
   -- where the pointer stands
   pub stays : (b : Binding) (o : Option ℕ) (r : ℕ) → is_bad_stay h k o b ≡ false → o ≡ Some r →

@@ -1,11 +1,8 @@
 -- What the rules say of a command that a write gives
-use Rattle.safety.proofs.Words.{[], ◌≡◌, ◌==◌, ◌||◌, ◌∙◌, ℕ, not, Bool, true, false, Some, arith, refl, sym, ap, inl, inr, eqb-true, ◌≢◌, ◌<◌, and_cases, or_parts, not-false, false_from_ne_true, declared, floor_number, is_move, Command, AddressDevice, is_off, Header, Write, IsHeader, shape_of, Known, command_given, binding_in, binds_ring, drops, is_being_bound, is_bad_binding, is_bad_stay, is_bad_move, some_command, write_tests, lenient_tests, lenient, StaysIf, MovesIf, DriverKeeps, none-some, adds_streams, has_bad_content, is_bad_command, is_busy, rules}
-use Rattle.safety.proofs.TestsPassed.{AllFail, tests_fail}
-use Rattle.safety.proofs.Headers.{transfer_driver}
+use Rattle.safety.proofs.LowerLaws.{[], ◌≡◌, ◌==◌, ◌||◌, ◌∙◌, ℕ, not, Bool, true, false, Some, arith, refl, sym, ap, inl, inr, eqb-true, ◌≢◌, ◌<◌, and_cases, or_parts, not-false, false_from_ne_true, declared, floor_number, is_move, Command, AddressDevice, is_off, Header, Write, IsHeader, shape_of, Known, command_given, binding_in, binds_ring, drops, is_being_bound, is_bad_binding, is_bad_stay, is_bad_move, some_command, write_tests, lenient_tests, lenient, StaysIf, MovesIf, DriverKeeps, none-some, adds_streams, has_bad_content, is_bad_command, is_busy, rules, AllFail, tests_fail, transfer_driver, off_is}
 use Rattle.safety.proofs.GivenCommands.{GoodBindings, good_bindings, bound_free, content_good, stays, fails_of}
 use Rattle.safety.proofs.RingsKept.{kept_drops}
 use Rattle.safety.proofs.CommandsStay.{OwnKeeps}
-use Rattle.safety.proofs.EndpointsOff.{off_is}
 
 module _ (h : Header) (k : Known) where
   pub record GivenFacts (c : Command) : Type 0 where

@@ -1,7 +1,6 @@
 -- What a write gives of a ring it gives also behind an event: what is due only there is a lap behind what is leased, and what was
 -- due only before is passed, hence given
-use Rattle.safety.proofs.Words.{◌≡◌, ◌+◌, ◌-◌, ◌<◌, ◌≤◌, ◌⊎◌, ◌||◌, ◌∙◌, ℕ, Bool, true, false, arith, refl, sym, ap, inl, inr, ◌%◌, rules, cycle_of_flips, IsShownTo, cases_lt, cases_eq, false≢true, Shape, IsShape, place_count, address_of, is_crossing, link_address, RingView, floor_number, gives, gives_crossing, RingKeeps, address_of-lap, is_crossing-lap, link_address-lap, rank_least, crossed_due, IsCrossingDue, due_from, gives_is, gives_from, crossing_due_from, gives_crossing_is, gives_crossing_from, both_ways, cycle_of}
-use Rattle.safety.proofs.KeptWords.{KeepsCycles}
+use Rattle.safety.proofs.LowerLaws.{◌≡◌, ◌+◌, ◌-◌, ◌<◌, ◌≤◌, ◌⊎◌, ◌||◌, ◌∙◌, ℕ, Bool, true, false, arith, refl, sym, ap, inl, inr, ◌%◌, rules, cycle_of_flips, IsShownTo, cases_lt, cases_eq, false≢true, Shape, IsShape, place_count, address_of, is_crossing, link_address, RingView, floor_number, gives, gives_crossing, RingKeeps, address_of-lap, is_crossing-lap, link_address-lap, rank_least, crossed_due, IsCrossingDue, due_from, gives_is, gives_from, crossing_due_from, gives_crossing_is, gives_crossing_from, both_ways, cycle_of, KeepsCycles}
 use Rattle.safety.proofs.SameDriver.{SameGiven}
 
 -- u is the ring behind the event, v before it

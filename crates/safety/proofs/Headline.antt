@@ -1,9 +1,7 @@
 -- The headline: a clean trace is harmless beside every run of the controller model
-use Rattle.safety.proofs.Words.{Header, Headline}
+use Rattle.safety.proofs.UpperLaws.{Header, Headline, more_law, lenient_history}
 use Rattle.safety.proofs.DriverHistories.{kept_driver}
 use Rattle.safety.proofs.HeadlineFrom.{headline_from}
-use Rattle.safety.proofs.HeldFurther.{more_law}
-use Rattle.safety.proofs.Lenient.{lenient_history}
 use Rattle.safety.proofs.RowRuns.{row_runs}
 use Rattle.safety.proofs.Squares.{square_law}
 use Rattle.safety.proofs.StillRings.{still_rings}

@@ -1,14 +1,11 @@
 -- The headline, from a law for the driver's rows: each world of a run beside clean rows is safe
-use Rattle.safety.proofs.Words.{[], ◌≡◌, ◌∷◌, ◌++◌, ◌∙◌, false, List, Option, Some, All, reverse, refl, sym, ap, subst, inl, inr, append_assoc, append-nil, rules, cases_Bool, cond-false, cond-true, false≢true, reverse-append, All-head, All-tail, none-some, same_Some, Block, Header, Row, Sub, Write, Reg, Bell, Read, Step, NextRow, Look, Report, Finish, Other, Scribble, IsHeader, IsRow, IsStep, World, opening, IsSafe, Known, learned, known, MayCome, IsLenient, IsHarmless, DriverKeeps, IsDriverRow, Runs, all_read, ◌||◌, if◌then◌else◌, ℕ, Bool, true, not, kind, Register, Usbcmd, run_bit, reset_bit, counted, Ended, harm_of, harms, has_changed_context, is_changed_since, is_context_changed, waits, register_written, run_or_stop, valued, arith}
+use Rattle.safety.proofs.UpperLaws.{[], ◌≡◌, ◌∷◌, ◌++◌, ◌∙◌, false, List, Option, Some, All, reverse, refl, sym, ap, subst, inl, inr, append_assoc, append-nil, rules, cases_Bool, cond-false, cond-true, false≢true, reverse-append, All-head, All-tail, none-some, same_Some, Block, Header, Row, Sub, Write, Reg, Bell, Read, Step, NextRow, Look, Report, Finish, Other, Scribble, IsHeader, IsRow, IsStep, World, opening, IsSafe, Known, learned, known, MayCome, IsLenient, IsHarmless, DriverKeeps, IsDriverRow, Runs, all_read, ◌||◌, if◌then◌else◌, ℕ, Bool, true, not, kind, Usbcmd, run_bit, reset_bit, counted, Ended, harm_of, harms, has_changed_context, is_changed_since, is_context_changed, waits, register_written, run_or_stop, valued, arith, may_come, finish_runs, look_runs, other_runs, report_runs, mapped, some_then, declaration_leaves, write_leaves, bell_leaves, opens, safe, scribble_runs, clean_tests, learned_read, event_same, read_runs, looked_left, other_left, reported_left, finished_left, scribbled_left, row_left}
+use Rattle.safety.specs.Invariant.{Holds}
+use Rattle.safety.proofs.DriverHistories.{driver_keeps, run_keeps}
+use Rattle.safety.proofs.ReadRow.{read_on}
 use Rattle.world_state.specs.World as of_world
 use Rattle.controller_model.specs.DriverRows as driver
 use Rattle.controller_model.specs.Steps as steps
-use Rattle.safety.specs.Invariant.{Holds}
-use Rattle.safety.proofs.DriverHistories.{driver_keeps, run_keeps}
-use Rattle.safety.proofs.MiddleLaws.{may_come, finish_runs, look_runs, other_runs, report_runs, mapped, some_then, declaration_leaves, write_leaves, bell_leaves}
-use Rattle.safety.proofs.LowerLaws.{opens, safe, scribble_runs, clean_tests, learned_read, event_same}
-use Rattle.safety.proofs.ReadRow.{read_runs, read_on}
-use Rattle.safety.proofs.RowsLeft.{looked_left, other_left, reported_left, finished_left, scribbled_left, row_left}
 
 -- The driver stops the controller: the run has ended, and its world is safe
 
@@ -27,21 +24,13 @@ module _ (h : Header) where
   stopped_world : World → ℕ → World
   stopped_world w x = record (driver.valued w Usbcmd x) { stopped = true }
 
-  world_stops : (w v : World) (x : ℕ) → w.started ≡ true → is_stop x ≡ true → driver.row_done h w (Reg Usbcmd x) ≡ Some v → stopped_world w x ≡ v
-  unfolding driver.row_done driver.register_row driver.run_or_stop driver.valued stopped_world
-  world_stops w v x on stop at = search rules
-
   neither : (b : Bool) (p q : Known) → p.stopped ≡ false → q.stopped ≡ false → (if b then p else q).stopped ≡ false
   neither true p q one two = one
   neither false p q one two = two
 
-  register_stop : (k : Known) (r : Register) (x : ℕ) → k.stopped ≡ false → (register_written h k r x).stopped ≡ true → IsStopRow k (Reg r x)
-  unfolding register_written valued run_or_stop
-  register_stop k o x on stopped = grind (arith, cond-false, cond-true, neither, false≢true)
-
   stop_row : (k : Known) (row : Row) → k.stopped ≡ false → (learned h k row).stopped ≡ true → IsStopRow k row
-  unfolding learned
-  stop_row k o on stopped = grind (arith, false≢true, declaration_leaves, write_leaves, bell_leaves, read_on, register_stop)
+  unfolding learned register_written valued run_or_stop
+  stop_row k o on stopped = grind (arith, false≢true, declaration_leaves, write_leaves, bell_leaves, read_on, cond-false, cond-true, neither)
 
   -- reading events starts nothing
   read_started : (unread : List Block) (k : Known) → (all_read h k unread).started ≡ k.started
@@ -58,16 +47,12 @@ module _ (h : Header) where
   -- the run has ended behind the row that stops the controller
   pub stop_ends : IsHeader h → (now : Known) (row : Row) (w v : World) → (run : Runs h now w) → DriverKeeps h (all_read h now run.unread) → (learned h now row).stopped ≡ true →
       driver.row_done h w row ≡ Some v → Ended h (learned h now row) (counted h v)
-  unfolding counted harm_of harms waits has_changed_context is_context_changed is_changed_since driver.valued stopped_world
+  unfolding counted harm_of harms waits has_changed_context is_context_changed is_changed_since driver.valued stopped_world driver.row_done driver.register_row driver.run_or_stop
   stop_ends is now row w v run d stopped at =
       let s = stop_row now row run.on stopped in
       let on : w.started ≡ true = run.agrees.stands.started ∙ read_started run.unread now ∙ s.started in
-      let world : stopped_world w s.value ≡ v = world_stops w v s.value on s.stop (ap (λ x. driver.row_done h w x) (sym s.row_is) ∙ at) in
-      record {
-        stopped = stopped;
-        also = sym (ap (λ x. x.stopped) world) ∙ stops w s.value;
-        safe = subst (λ x. IsSafe h (counted h x)) world ((safe h is now w run d));
-      }
+      let world : stopped_world w s.value ≡ v = (search rules) in
+      search (rules, sym (ap (λ x. x.stopped) world) ∙ stops w s.value, subst (λ x. IsSafe h (counted h x)) world ((safe h is now w run d)))
 
 -- ---- what is owed
 
@@ -189,14 +174,10 @@ module _ (h : Header) where
 
     -- ---- whole runs
 
-    first : (rows : List Row) → All IsRow rows → IsLenient h (reverse rows) → CameTo [] (opening rows)
-    unfolding opening known
-    first rows are clean = search (rules, reverse, append-nil, opens)
-
     came : (rows : List Row) → All IsRow rows → IsLenient h (reverse rows) → (made : List Step) (w : World) → All IsStep made → steps.reached h rows made ≡ Some w →
         (past : List Row) × CameTo past w
-    unfolding steps.reached steps.stepped
-    came rows are clean [] w all at = ([], subst (λ v. CameTo [] v) (same_Some (opening rows) w at) (first rows are clean))
+    unfolding steps.reached steps.stepped opening known
+    came rows are clean [] w all at = ([], subst (λ v. CameTo [] v) (same_Some (opening rows) w at) (search (rules, reverse, append-nil, opens)))
     came rows are clean (s ∷ older) w all at =
         let before = some_then (λ v. steps.stepped h v s) (steps.reached h rows older) w at in
         let came_before = came rows are clean older before.0 (All-tail IsStep s older all) before.1 in
@@ -204,8 +185,5 @@ module _ (h : Header) where
         let after = step_made came_before.0 before.0 step.0 s (All-head IsStep s older all) came_before.1 step.1 in
         (after.0, subst (λ v. CameTo after.0 v) step.2 after.1)
 
-    safe_there : (past : List Row) (w : World) → CameTo past w → IsSafe h w
-    safe_there past w c = search (rules, safe, later_keeps)
-
     pub headline_from : (rows : List Row) → All IsRow rows → IsLenient h (reverse rows) → IsHarmless h rows
-    headline_from rows are clean made w all at = let c = came rows are clean made w all at in safe_there c.0 w c.1
+    headline_from rows are clean made w all at = let c = came rows are clean made w all at in search (rules, safe, later_keeps)

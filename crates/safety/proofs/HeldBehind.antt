@@ -1,39 +1,20 @@
 -- An event leaves an endpoint whose ring is held, where no unfinished command touches it: its doorbell stays one that may be rung
-use Rattle.safety.proofs.Words.{[], ◌≡◌, ◌==◌, ◌&&◌, ◌∙◌, ℕ, not, nat_lt, true, false, is_none, Option, None, Some, refl, sym, ap, subst, inl, inr, eqb-true, eq-eqb, rules, cases_Bool, cond-true, and_parts, and_from, or_parts, or_from, not-false, false≢true, same_Some, Block, BlockKind, TransferEvent, CommandCompletion, kind, code, slot, endpoint, is_transfer_event, is_command_completion, is_success, Spot, is_open, Header, Read, IsHeader, Known, RingSpot, event_at, transferred, transferred_at, transfer_read, event_read, learned, is_touched, is_bad_bell, is_in_profile, is_working, can_report, can_report_at, is_impossible_by_kind, lenient, DriverKeeps}
-use Rattle.safety.proofs.LowerLaws.{EventFacts, event_facts, event_ring_of}
-use Rattle.safety.proofs.MiddleLaws.{completion_facts, reported, transferred_leaves, EndpointHolds, same_holds, works_there}
+use Rattle.safety.proofs.UpperLaws.{[], ◌≡◌, ◌==◌, ◌&&◌, ◌∙◌, ℕ, not, nat_lt, true, false, is_none, Option, None, Some, refl, sym, ap, subst, eqb-true, eq-eqb, rules, cases_Bool, cond-true, and_parts, and_from, or_parts, or_from, not-false, false≢true, same_Some, Block, BlockKind, TransferEvent, CommandCompletion, kind, code, slot, endpoint, is_transfer_event, is_command_completion, is_success, Spot, is_open, Header, Read, IsHeader, Known, RingSpot, event_at, transferred, transferred_at, transfer_read, event_read, learned, is_touched, is_bad_bell, is_in_profile, is_working, can_report, can_report_at, is_impossible_by_kind, lenient, DriverKeeps, EventFacts, event_facts, event_ring_of, completion_facts, transferred_leaves, EndpointHolds, same_holds, works_there}
+use Rattle.safety.proofs.StatesTransfer.{reported}
 use Rattle.safety.proofs.StillRings.{passed_holds, other_holds, untouched_behind}
 use Rattle.safety.proofs.UntouchedCompletion.{completion_holds}
 
 module _ (h : Header) (k : Known) (s i r : ℕ) (held : is_open (k.ring r) ≡ false) where
-  -- only blocks that were finished before are reported of a ring that is held
-  held_success : (c : ℕ) (t : Spot) → can_report h k c s i r t ≡ true → is_success c ≡ true
-  unfolding can_report is_working
-  held_success c t can = search (rules, works_there, false≢true, and_parts)
-
   own_holds : (c : ℕ) (t : Spot) → can_report h k c s i r t ≡ true → EndpointHolds k (transferred h k c s i r t) s i
-  unfolding transferred
-  own_holds c t can = subst (λ l. EndpointHolds k l s i) (sym (cond-true (is_success c) _ _ (held_success c t can))) (passed_holds h k s i r t)
+  unfolding transferred can_report is_working
+  own_holds c t can = subst (λ l. EndpointHolds k l s i) (sym (cond-true (is_success c) _ _ (search (rules, works_there, false≢true, and_parts)))) (passed_holds h k s i r t)
 
 module _ (h : Header) (is : IsHeader h) (k : Known) (d : DriverKeeps h k) (s i r : ℕ) (has : k.ring_of s i ≡ Some r) (held : is_open (k.ring r) ≡ false)
     (untouched : is_touched h k s i ≡ false) where
   -- a Transfer Event, for the endpoint of slot t at index j and its ring q
   transferred_holds : (c t j q : ℕ) (spot : Spot) → k.ring_of t j ≡ Some q → can_report h k c t j q spot ≡ true → EndpointHolds k (transferred h k c t j q spot) s i
   transferred_holds c t j q spot bound can =
-      elim (cases_Bool (s == t && i == j)) [
-        | inl same ↦
-            let parts = and_parts (s == t) (i == j) same in
-            let slots : s ≡ t = eqb-true s t parts.0 in
-            let indices : i ≡ j = eqb-true i j parts.1 in
-            let ring : r ≡ q = same_Some r q (sym has ∙ ap (λ n. k.ring_of n i) slots ∙ ap (λ n. k.ring_of t n) indices ∙ bound) in
-            let there : can_report h k c s i q spot ≡ true = ap (λ n. can_report h k c n i q spot) slots ∙ ap (λ n. can_report h k c t n q spot) indices ∙ can in
-            subst (λ n. EndpointHolds k (transferred h k c n j q spot) s i) slots
-            (subst (λ n. EndpointHolds k (transferred h k c s n q spot) s i) indices
-            (own_holds h k s i q (ap (λ n. is_open (k.ring n)) (sym ring) ∙ held) c spot there))
-        | inr other ↦
-            other_holds h is k d s i t j q (transferred h k c t j q spot) (λ a b. false≢true (sym other ∙ and_from (s == t) (i == j) (eq-eqb s t a) (eq-eqb i j b))) bound
-            (transferred_leaves h k t j q c spot can)
-      ]
+      search (rules, and_parts, eqb-true, same_Some, can_report, transferred, own_holds, is_open, other_holds, and_from, eq-eqb, transferred_leaves, cases_Bool (s == t && i == j))
 
   at_holds : (b : Block) (o : Option RingSpot) → event_at h k b ≡ o → can_report_at h k b o ≡ true → EndpointHolds k (transferred_at h k b o) s i
   unfolding transferred_at can_report_at

@@ -1,6 +1,5 @@
 -- Where rings are held at greater numbers, the same events are possible, and what they lead to is the same but for these numbers
-use Rattle.safety.proofs.Words.{[], ◌≡◌, ◌+◌, ◌∷◌, ◌∙◌, ℕ, List, length, Bool, find, option_and_then, slice_get, arith, sym, ap, rules, Block, number, named_spot, RingView, floor_number, named, is_target, spots_between, target, Command, command_of, Change, changes, Header, Read, Config, shape_of, command_id, register_or_zero, Known, command_at, next_command, learned, changed_by, IsHeldMore, HeldMore, MoreLaw}
-use Rattle.safety.proofs.LowerLaws.{SameDriver, both_drivers, change_same, event_same, Alike}
+use Rattle.safety.proofs.MiddleLaws.{[], ◌≡◌, ◌+◌, ◌∷◌, ◌∙◌, ℕ, List, length, find, option_and_then, slice_get, arith, sym, ap, rules, Block, number, named_spot, RingView, floor_number, named, is_target, spots_between, target, Command, command_of, Change, changes, Header, Read, Config, shape_of, command_id, register_or_zero, Known, command_at, next_command, learned, changed_by, IsHeldMore, HeldMore, MoreLaw, SameDriver, both_drivers, change_same, event_same, Alike}
 use Rattle.safety.proofs.AlikeChanges.{TargetIs, TargetsAre, change_alike}
 use Rattle.safety.proofs.AlikeEvents.{EventAlike, ReadAlike, read_alike}
 
@@ -49,16 +48,13 @@ module _ (h : Header) where
   named_same r p v w floor queue = search (rules, named_spot, shape_of, length, v.floor)
 
   module _ (P : ℕ → Type 0) where
-    target_is : (k l : Known) → Alike P k l → ((r : ℕ) → (l.ring r).queue ≡ (k.ring r).queue) → (change : Change) → TargetIs h k l change
-    unfolding target
-    target_is k l a queues o = grind (arith, find, is_target, shape_of, spots_between, number, length, floor_number)
-
     pub targets_are : (c : Command) (k l : Known) → Alike P k l → ((r : ℕ) → (l.ring r).queue ≡ (k.ring r).queue) → (all : List Change) → TargetsAre h c k l all
+    unfolding target
     targets_are c k l a queues [] = tt
     targets_are c k l a queues (change ∷ rest) =
         let m : Known = changed_by h c k change in
         let n : Known = changed_by h c l change in
-        let here : TargetIs h k l change = target_is k l a queues change in
+        let here : TargetIs h k l change = (grind (arith, find, is_target, shape_of, spots_between, number, length, floor_number)) in
         (here, targets_are c m n (change_alike h P c k l a change here) (λ r. ((change_same h c l change).rings r).queue ∙ queues r ∙ sym ((change_same h c k change).rings r).queue) rest)
 
   pub command_same : (k l : Known) (p : ℕ) → (l.ring (command_id h)).queue ≡ (k.ring (command_id h)).queue → command_at h l p ≡ command_at h k p

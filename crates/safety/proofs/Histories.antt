@@ -1,10 +1,7 @@
 -- A clean history keeps what the rules keep of each ring
-use Rattle.safety.proofs.Words.{[], ◌≡◌, ◌&&◌, ◌∷◌, not, true, false, List, refl, not-false, Block, BlockKind, TransferEvent, CommandCompletion, kind, is_transfer_event, is_command_completion, Header, Row, Sub, Write, Reg, Bell, Read, IsHeader, Known, event_read, learned, known, is_in_profile, is_impossible_by_kind, IsLenient, command_id, IsRestored, MayCome, RingsKeep, RingsKept, EndpointsKeep, MayFinish, MayRead, MayReadAll}
-use Rattle.safety.proofs.CleanRows.{event_facts}
+use Rattle.safety.proofs.MiddleLaws.{[], ◌≡◌, ◌&&◌, ◌∷◌, not, true, false, List, refl, not-false, Block, BlockKind, TransferEvent, CommandCompletion, kind, is_transfer_event, is_command_completion, Header, Row, Sub, Write, Reg, Bell, Read, IsHeader, Known, event_read, learned, known, is_in_profile, is_impossible_by_kind, IsLenient, command_id, IsRestored, MayCome, RingsKeep, RingsKept, EndpointsKeep, MayFinish, MayRead, MayReadAll, event_facts, stands, same_keeps, declared_keeps, written_keeps, register_keeps, rung_keeps, transfer_keeps, keeps_endpoints}
 use Rattle.safety.proofs.NothingFree.{nothing_free, may_come}
-use Rattle.safety.proofs.DriverRows.{stands, same_keeps, nothing_keeps, declared_keeps, written_keeps, register_keeps, rung_keeps}
-use Rattle.safety.proofs.Transfers.{transfer_keeps}
-use Rattle.safety.proofs.EndpointHistories.{keeps_endpoints}
+use Rattle.safety.proofs.DriverRows.{nothing_keeps}
 use Rattle.safety.proofs.Completions.{completion_keeps}
 
 module _ (h : Header) (is : IsHeader h) where

@@ -1,11 +1,5 @@
 -- No word of a ring is soiled, behind each row
-use Rattle.safety.proofs.Words.{[], ◌≡◌, ◌+◌, ◌%◌, ◌==◌, ◌∙◌, ℕ, not, Bool, true, false, Option, None, Some, is_none, option_and_then, sym, ap, leb-true, ltb-true, rules, and_parts, and_left, or_from, or_parts, and_cases, false_from_ne_true, false≢true, none-some, same_Some, Block, kind, is_in, is_inside, Command, AddressDevice, device_context_bytes, Header, Sub, Write, Reg, Bell, Read, shape_of, touches_ring, Known, device_named, no_device, taken_device, command_given, with_device, with_word, written, learned, is_bad_area, some_command, write_tests, lenient_tests, lenient, IsDriverRing, KeptByRows, has_bad_content, is_bad_command, is_bad_device, takes_bad_device, arith}
-use Rattle.safety.proofs.Headers.{found_in, shape_is}
-use Rattle.safety.proofs.TestsPassed.{tests_fail}
-use Rattle.safety.proofs.GivenCommands.{content_good, fails_of}
-use Rattle.safety.proofs.Areas.{byte_apart, ring_untouched}
-use Rattle.safety.proofs.SameDriver.{event_same}
-use Rattle.safety.proofs.RowFrames.{declaration_leaves, register_leaves, bell_leaves}
+use Rattle.safety.proofs.MiddleLaws.{[], ◌≡◌, ◌+◌, ◌%◌, ◌==◌, ◌∙◌, ℕ, not, Bool, true, false, Option, None, Some, is_none, option_and_then, sym, ap, leb-true, ltb-true, rules, and_parts, and_left, or_from, or_parts, and_cases, false_from_ne_true, false≢true, none-some, same_Some, Block, kind, is_in, is_inside, Command, AddressDevice, device_context_bytes, Header, Sub, Write, Reg, Bell, Read, shape_of, touches_ring, Known, device_named, no_device, taken_device, command_given, with_device, with_word, written, learned, is_bad_area, some_command, write_tests, lenient_tests, lenient, IsDriverRing, KeptByRows, has_bad_content, is_bad_command, is_bad_device, takes_bad_device, arith, found_in, shape_is, tests_fail, content_good, fails_of, byte_apart, ring_untouched, event_same, declaration_leaves, register_leaves, bell_leaves}
 
 -- the slot and the address of a device context that comes under lease
 pub record TakesDevice (k : Known) (s d : ℕ) (c : Command) : Type 0 where

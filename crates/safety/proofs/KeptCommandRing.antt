@@ -1,11 +1,6 @@
 -- What CRCR and ERSTSZ say is kept by each row
-use Rattle.safety.proofs.Words.{◌≡◌, ◌<◌, ◌==◌, ◌||◌, ◌∙◌, ℕ, not, true, false, Option, Some, is_some, is_none, arith, refl, sym, ap, inl, inr, eqb-true, or_parts, not-false, false≢true, same_Some, Block, kind, address_of, Header, Ring, Register, Crcr, Erstsz, Sub, Write, Reg, Bell, Read, IsHeader, is_command_kind, ring_with, shape_of, command_ring, command_id, event_ring, event_size, with_register, base_address, ring_cycle_state, command_stop, command_abort, Known, learned, is_no_first_block, is_bad_crcr, is_bad_register, IsDriverRing, CommandRingNamed, KeptByRows, lenient, Row, []}
-use Rattle.safety.proofs.Headers.{shape_is, command_found, command_named, event_ring_size}
-use Rattle.safety.proofs.RingIds.{found_again, together}
-use Rattle.safety.proofs.SameDriver.{event_same}
-use Rattle.safety.proofs.RowFrames.{declaration_leaves, write_leaves, bell_leaves}
-use Rattle.safety.proofs.CleanRows.{register_facts}
-use Rattle.safety.proofs.KeptRegisters.{Starts, command_drives, written_stays, registered, register_starts, starts_written}
+use Rattle.safety.proofs.MiddleLaws.{◌≡◌, ◌<◌, ◌==◌, ◌||◌, ◌∙◌, ℕ, not, true, false, Option, Some, is_some, is_none, arith, refl, sym, ap, inl, inr, eqb-true, or_parts, not-false, false≢true, same_Some, Block, kind, address_of, Header, Ring, Register, Crcr, Erstsz, Sub, Write, Reg, Bell, Read, IsHeader, is_command_kind, ring_with, shape_of, command_ring, command_id, event_ring, event_size, with_register, base_address, ring_cycle_state, command_stop, command_abort, Known, learned, is_no_first_block, is_bad_crcr, is_bad_register, IsDriverRing, CommandRingNamed, KeptByRows, lenient, Row, [], shape_is, command_found, command_named, event_ring_size, found_again, event_same, declaration_leaves, write_leaves, bell_leaves, register_facts, Starts, command_drives, written_stays, registered, register_starts, starts_written}
+use Rattle.safety.proofs.RingIds.{together}
 
 module _ (h : Header) where
   read_leaves : (k : Known) (b : Block) → ((learned h k (Read b)).register ≡ k.register) × ((learned h k (Read b)).started ≡ k.started)

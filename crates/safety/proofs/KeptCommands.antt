@@ -1,27 +1,13 @@
 -- The command ring holds commands, each alone in its descriptor, and is open from its first doorbell on: kept by each row
-use Rattle.safety.proofs.Words.{[], ◌≡◌, ◌-◌, ◌<◌, ◌⊎◌, ◌==◌, ◌&&◌, ◌++◌, ◌∙◌, ℕ, nat_lt, true, false, List, length, All, Option, None, Some, is_some, slice_get, arith, refl, sym, ap, subst, inl, inr, get_or, length-append, eqb-true, ltb-true, rules, list_all, cases_lt, cond-false, and_cases, and_parts, or_parts, not-false, false≢true, slice_get_within, get_or_from_slice_get, get_or-append_right, All-push, All-get_or, Block, BlockKind, RingKind, Cmd, kind, is_command, is_command_completion, is_no_command, is_command_left_out, is_bad_descriptor, is_left_out, Data, Shape, is_shape, RingView, Declares, Reaches, changed, after, ceiling, cases_option, slice_get-append, ceiling_held, command_of, command_by_kind, Header, Sub, Write, Reg, Bell, Read, IsHeader, may_stand_together, is_command_kind, ring_with, shape_of, command_ring, command_id, Known, on_ring, command_at, next_command, endpoint_rung, rung, finished, completed, event_read, learned, is_driver_ring, declaration_tests, lenient_tests, lenient, CommandRingKeeps, KeptByRows, EndpointsKeep}
+use Rattle.safety.proofs.MiddleLaws.{[], ◌≡◌, ◌-◌, ◌<◌, ◌⊎◌, ◌==◌, ◌&&◌, ◌++◌, ◌∙◌, ℕ, nat_lt, true, false, List, length, All, None, Some, is_some, slice_get, arith, refl, sym, ap, subst, inl, inr, get_or, length-append, eqb-true, ltb-true, rules, list_all, cases_lt, cond-false, and_cases, and_parts, or_parts, not-false, false≢true, slice_get_within, get_or_from_slice_get, get_or-append_right, All-push, All-get_or, Block, BlockKind, RingKind, Cmd, kind, is_command_completion, is_no_command, is_command_left_out, is_bad_descriptor, is_left_out, Data, Shape, is_shape, RingView, Declares, Reaches, changed, after, ceiling, cases_option, slice_get-append, ceiling_held, command_of, Header, Sub, Write, Reg, Bell, Read, IsHeader, may_stand_together, is_command_kind, ring_with, shape_of, command_ring, command_id, Known, on_ring, command_at, next_command, endpoint_rung, rung, finished, completed, event_read, learned, is_driver_ring, declaration_tests, lenient_tests, lenient, CommandRingKeeps, KeptByRows, EndpointsKeep, AllFail, tests_fail, each_fails, HasRing, has_ring, found_allowed, command_found, command_named, shape_is, command_not_transfer, ring_here, ring_elsewhere, finish_elsewhere, endpoints_of, view_after, register_leaves, written_view, transfer_command, event_facts}
 use Rattle.safety.specs.RingsKeep.{IsDriverRing}
-use Rattle.safety.proofs.TestsPassed.{AllFail, tests_fail, each_fails}
-use Rattle.safety.proofs.RingsOfHeader.{HasRing, has_ring, found_allowed}
-use Rattle.safety.proofs.Headers.{command_found, command_named, shape_is}
-use Rattle.safety.proofs.RingIds.{command_not_transfer}
-use Rattle.safety.proofs.DriverRows.{ring_here, ring_elsewhere}
-use Rattle.safety.proofs.EndpointHistories.{finish_elsewhere}
 use Rattle.safety.proofs.KeptCommandRing.{command_with}
 use Rattle.safety.proofs.KeptRings.{completion_facts}
-use Rattle.safety.proofs.DriverRings.{endpoints_of}
-use Rattle.safety.proofs.SameDriver.{view_after}
-use Rattle.safety.proofs.RowFrames.{register_leaves, written_view}
-use Rattle.safety.proofs.TransferFrames.{transfer_command}
-use Rattle.safety.proofs.CleanRows.{event_facts}
 
 -- ---- the blocks of a declaration
 
-read_by_kind : (t : BlockKind) (b : Block) → is_command t ≡ true → is_some (command_by_kind t b) ≡ true
-read_by_kind o b h = grind (arith, false≢true)
-
 is_read : (b : Block) → is_no_command b ≡ false → is_command_left_out b ≡ false → is_some (command_of b) ≡ true
-is_read b good inside = search (rules, is_some, or_parts, and_cases, not-false, false≢true, cond-false, read_by_kind)
+is_read b good inside = search (rules, is_some, or_parts, and_cases, not-false, false≢true, cond-false)
 
 command_blocks : (t : RingKind) (blocks : List Block) → t ≡ Cmd → is_bad_descriptor t blocks ≡ false → is_left_out t blocks ≡ false →
     (length blocks ≡ 1) × All (λ b. is_some (command_of b) ≡ true) blocks
@@ -95,13 +81,9 @@ module _ (h : Header) where
 
   -- ---- a doorbell
 
-  endpoint_view : IsHeader h → (k : Known) → EndpointsKeep h k → (s t : ℕ) (o : Option ℕ) → k.ring_of s t ≡ o → (endpoint_rung h k s t o).ring (command_id h) ≡ k.ring (command_id h)
-  unfolding endpoint_rung
-  endpoint_view is k keeps s t o at = grind (arith, ring_elsewhere, command_id, command_not_transfer)
-
   rung_view : IsHeader h → (k : Known) → EndpointsKeep h k → (s t : ℕ) → ViewOfCommands (k.ring (command_id h)) → ViewOfCommands ((learned h k (Bell s t)).ring (command_id h))
-  unfolding learned rung
-  rung_view is k keeps s t view = search (rules, on_ring, command_id, endpoint_rung, k.ring_of, ring_here, endpoint_view)
+  unfolding learned rung endpoint_rung
+  rung_view is k keeps s t view = search (rules, on_ring, command_id, endpoint_rung, k.ring_of, ring_here, ring_elsewhere, command_not_transfer)
 
   -- ---- an event
 

@@ -1,10 +1,5 @@
 -- How many events were read and where ERDP stands, behind each row
-use Rattle.safety.proofs.Words.{◌≡◌, ◌+◌, ◌-◌, ◌<◌, ◌≤◌, ◌∙◌, ℕ, false, arith, refl, sym, ap, ltb-false, rules, cond_both, cond-false, false≢true, Block, kind, shape_facts, place_count, Header, Register, Sub, Write, Reg, Bell, Read, event_shape, event_size, Known, run_or_stop, valued, register_written, learned, may_pass, is_bad_erdp, is_past_room, Unstarted, KeptByRows}
-use Rattle.safety.proofs.Headers.{event_ring_is}
-use Rattle.safety.proofs.ErdpMoves.{erdp_within}
-use Rattle.safety.proofs.SameDriver.{event_same}
-use Rattle.safety.proofs.RowFrames.{SameSlots, SamePointer, declaration_leaves, write_leaves, register_leaves, bell_leaves}
-use Rattle.safety.proofs.CleanRows.{register_facts, bell_facts, event_facts}
+use Rattle.safety.proofs.MiddleLaws.{◌≡◌, ◌+◌, ◌-◌, ◌<◌, ◌≤◌, ◌∙◌, ℕ, false, arith, refl, sym, ap, ltb-false, rules, cond_both, cond-false, false≢true, Block, kind, shape_facts, place_count, Header, Register, Sub, Write, Reg, Bell, Read, event_shape, event_size, Known, run_or_stop, valued, register_written, learned, may_pass, is_bad_erdp, is_past_room, Unstarted, KeptByRows, event_ring_is, erdp_within, event_same, SameSlots, SamePointer, declaration_leaves, write_leaves, register_leaves, bell_leaves, register_facts, bell_facts, event_facts}
 
 module _ (h : Header) where
   -- ---- a register write
@@ -15,13 +10,9 @@ module _ (h : Header) where
     pub to : l.dequeue ≤ k.dequeue + may_pass k
     pub before : l.started ≡ false → k.started ≡ false
 
-  dequeues_by : (k : Known) (r : Register) (x : ℕ) → is_bad_erdp h k r x ≡ false → Dequeues k (register_written h k r x)
-  unfolding register_written valued run_or_stop
-  dequeues_by k r x good = grind (arith, false≢true, erdp_within)
-
   pub dequeues : (k : Known) (r : Register) (x : ℕ) → is_bad_erdp h k r x ≡ false → Dequeues k (learned h k (Reg r x))
-  unfolding learned
-  dequeues k r x good = dequeues_by k r x good
+  unfolding learned register_written valued run_or_stop
+  dequeues k r x good = grind (arith, false≢true, erdp_within)
 
   pub passable : (k : Known) → k.dequeue ≤ k.reads → k.dequeue + may_pass k ≤ k.reads
   unfolding may_pass

@@ -22,13 +22,9 @@ module _ (h : Header) where
     pub register : r ≡ Usbcmd
     pub runs : (run_bit v && not (reset_bit v)) ≡ true
 
-  starts_by : (k : Known) (r : Register) (v : ℕ) → (register_written h k r v).started ≡ true → (k.started ≡ true) ⊎ Starts k r v
-  unfolding register_written valued run_or_stop
-  starts_by k r v on = grind (arith, cond-true, not_from_false, cond-false, valued)
-
   pub register_starts : (k : Known) (r : Register) (v : ℕ) → (learned h k (Reg r v)).started ≡ true → (k.started ≡ true) ⊎ Starts k r v
-  unfolding learned
-  register_starts k r v on = starts_by k r v on
+  unfolding learned register_written valued run_or_stop
+  register_starts k r v on = grind (arith, cond-true, not_from_false, cond-false, valued)
 
   -- the start isn't early
   all_written : (k : Known) (v : ℕ) → is_bad_register h k Usbcmd v ≡ false → k.started ≡ false → (run_bit v && not (reset_bit v)) ≡ true →

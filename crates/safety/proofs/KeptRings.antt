@@ -1,14 +1,6 @@
 -- What the rules keep of each ring is kept by each row: of a command that succeeds holds still what was tested when it was given
-use Rattle.safety.proofs.Words.{[], ◌≡◌, ◌<◌, ◌∙◌, ℕ, true, false, Some, arith, sym, ap, ltb-true, rules, or_parts, not-false, Block, kind, is_command_completion, ceiling, RingKeeps, Command, Header, Row, Read, IsHeader, shape_of, command_id, Known, command_at, next_command, may_be_taken, can_finish, is_impossible_completion, is_impossible_by_kind, lenient, IsDriverRing, IsUnfinished, CommandKeeps, MovesIf, StaysIf, DriverKeeps, KeptByRestoring, StillReads, MovesOn, StillHolds, RingsKeep}
-use Rattle.safety.proofs.Headers.{ring_shape}
-use Rattle.safety.proofs.GivenCommands.{content_good, are_free}
-use Rattle.safety.proofs.NoWait.{ceiling_given}
-use Rattle.safety.proofs.SafeContext.{AtFloor, at_floor, command_is_ring}
-use Rattle.safety.proofs.FinishKinds.{completion_kind}
-use Rattle.safety.proofs.StillPlacing.{still_reads}
+use Rattle.safety.proofs.MiddleLaws.{[], ◌≡◌, ◌<◌, ◌∙◌, ℕ, true, false, Some, arith, sym, ap, ltb-true, rules, or_parts, not-false, Block, kind, is_command_completion, ceiling, RingKeeps, Command, Header, Row, Read, IsHeader, shape_of, command_id, Known, command_at, next_command, may_be_taken, can_finish, is_impossible_completion, is_impossible_by_kind, lenient, IsDriverRing, IsUnfinished, CommandKeeps, MovesIf, StaysIf, DriverKeeps, KeptByRestoring, StillReads, MovesOn, StillHolds, RingsKeep, ring_shape, content_good, are_free, ceiling_given, AtFloor, at_floor, command_is_ring, completion_kind, still_reads, driver_test, rings_of, endpoints_of, EventFacts, event_facts}
 use Rattle.safety.proofs.Histories.{row_keeps}
-use Rattle.safety.proofs.DriverRings.{driver_test, rings_of, endpoints_of}
-use Rattle.safety.proofs.CleanRows.{EventFacts, event_facts}
 
 -- what an event that finishes a command says
 pub record CompletionFacts (h : Header) (k : Known) (b : Block) : Type 0 where

@@ -18,4 +18,3 @@ pub mod GivenCounted
 pub mod EventGoals
 pub mod StepsCounted
 pub mod WholeRuns
-pub mod Words

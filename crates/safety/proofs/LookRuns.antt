@@ -1,7 +1,6 @@
 -- Behind a look the run goes on
-use Rattle.safety.proofs.Words.{◌≡◌, ◌≢◌, ◌∙◌, ℕ, List, Some, sym, ap, inl, inr, cases_Bool, cases_eq, false≢true, Block, Header, IsHeader, command_id, World, looked, counted, Known, DriverKeeps, Agrees, Runs, all_read, ◌==◌, ◌&&◌, ◌||◌, ◌⊎◌, Bool, true, false, not, Option, None, is_some, slice_get, arith, refl, subst, eq-eqb, eqb-true, rules, cond-true, and_cases, or_cases, same_Some, Spot, Data, Link, is_inside, cycle_of_bit, Command, AddressDevice, command_of, shape_of, UnderWay, seen_by_look, crossed, taken, taken_on, command_begun, may_scribble, next_command, was_stop_seen, IsDriverRing, IsUnfinished, RingState, state_of, RingMatches, CommandMatches, UnderWayMatches, TakenCommand, add-zero, ne_eqb, cond-false, or_from, not_from_true, after, spot_address, DeclaredBlock, declared_at, next_take, Unreported, BoundRing, Matches}
-use Rattle.safety.proofs.LowerLaws.{looked_is, seen, LookEnds, only_seen, only_crossed, only_taken, only_begun, behind_link, behind_block, command_of-with_cycle, AtFloor, at_floor, command_is_ring, command_at_is, OnlyRing, matches_command, stands_only, events_only, late_only, read_only, matches_transfer, transfer_driver, ring_shape, spot_lies, agrees_counted}
-use Rattle.safety.proofs.LookedRing.{number_after, crossed_unreported, taken_unreported}
+use Rattle.safety.proofs.LowerLaws.{◌≡◌, ◌≢◌, ◌∙◌, ℕ, List, Some, sym, ap, inl, inr, cases_Bool, cases_eq, false≢true, Block, Header, IsHeader, command_id, World, looked, counted, Known, DriverKeeps, Agrees, Runs, all_read, ◌==◌, ◌&&◌, ◌||◌, ◌⊎◌, Bool, true, false, not, Option, None, is_some, slice_get, arith, refl, subst, eq-eqb, eqb-true, rules, cond-true, and_cases, or_cases, same_Some, Spot, Data, Link, is_inside, cycle_of_bit, Command, AddressDevice, command_of, shape_of, UnderWay, seen_by_look, crossed, taken_on, command_begun, may_scribble, next_command, was_stop_seen, IsDriverRing, IsUnfinished, RingState, state_of, RingMatches, CommandMatches, UnderWayMatches, TakenCommand, add-zero, ne_eqb, cond-false, or_from, not_from_true, after, spot_address, DeclaredBlock, declared_at, next_take, Unreported, BoundRing, Matches, looked_is, seen, LookEnds, only_seen, only_crossed, only_taken, only_begun, behind_link, behind_block, command_of-with_cycle, AtFloor, at_floor, command_is_ring, command_at_is, OnlyRing, matches_command, stands_only, events_only, late_only, read_only, matches_transfer, transfer_driver, ring_shape, spot_lies, agrees_counted, number_after, crossed_unreported, taken_unreported}
+use Rattle.controller_model.specs.Looks.{taken}
 use Rattle.safety.proofs.LookSpots.{CrossDone, cross_done, TakeDone, take_done}
 
 -- The controller looks at the block at a ring's pointer, and waits, follows a Link or takes it: the run goes on

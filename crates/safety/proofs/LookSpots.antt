@@ -1,12 +1,6 @@
 -- A look at a ring of a rule-keeping driver: what it finds, and where the pointer stands behind it
-use Rattle.safety.proofs.Words.{◌≡◌, ◌+◌, ◌-◌, ◌%◌, ◌^◌, ◌≤◌, if◌then◌else◌, ◌∷◌, ◌∙◌, ℕ, true, false, arith, refl, sym, ap, subst, inl, inr, cases_Bool, false≢true, mod-eq_of_lt, is_set, aligned, block_at, cycle, kind, pointer, word, is_link, kind-with_cycle, Spot, Data, Link, address_of, cycle_of, link_address, after, spot_address, declared_at, ceiling, cycle_of_bit, next_is_spot, spot_address-after, Header, IsHeader, shape_of, World, Took, next_take, Known, IsDriverRing, DriverKeeps, Stands, RingMatches, state_of, rules}
-use Rattle.safety.proofs.Headers.{ring_shape}
-use Rattle.safety.proofs.AtSpots.{Takeable, Crossable, takeable, crossable, waits_at_block, waits_at_link}
-use Rattle.safety.proofs.NoWait.{ceiling_open, step_inside}
-use Rattle.safety.proofs.RingMemory.{spot_lies}
+use Rattle.safety.proofs.LowerLaws.{◌≡◌, ◌+◌, ◌-◌, ◌%◌, ◌^◌, ◌≤◌, if◌then◌else◌, ◌∷◌, ◌∙◌, ℕ, true, false, arith, refl, sym, ap, subst, inl, inr, cases_Bool, false≢true, mod-eq_of_lt, is_set, aligned, block_at, cycle, kind, pointer, word, is_link, kind-with_cycle, Spot, Data, Link, address_of, cycle_of, link_address, after, spot_address, declared_at, ceiling, cycle_of_bit, next_is_spot, spot_address-after, Header, IsHeader, shape_of, World, Took, next_take, Known, IsDriverRing, DriverKeeps, Stands, RingMatches, state_of, rules, ring_shape, Takeable, Crossable, takeable, crossable, waits_at_block, waits_at_link, ceiling_open, step_inside, spot_lies, leads_on, crossed_matches, taken_matches, seen, behind_link, behind_block}
 use Rattle.safety.proofs.Safe.{stands_at, block_found}
-use Rattle.safety.proofs.LookedRing.{leads_on, crossed_matches, taken_matches}
-use Rattle.safety.proofs.LookKinds.{seen, behind_link, behind_block}
 
 module _ (h : Header) (is : IsHeader h) (k : Known) (w : World) (d : DriverKeeps h k) (s : Stands h k w) (r : ℕ) (ring : IsDriverRing h r) where
   -- with its own cycle a block is given
@@ -28,10 +22,7 @@ module _ (h : Header) (is : IsHeader h) (k : Known) (w : World) (d : DriverKeeps
       let keeps = d.rings r ring in
       let at = stands_at h is k w d s r (Link q) ring m in
       let found = block_found h is k w d s r (Link q) ring m in
-      elim (cases_Bool ((k.ring r).crossed q)) [
-        | inl given ↦ crossable (shape_of h r) allowed k.memory (k.ring r) keeps q at given
-        | inr missing ↦ absurd (waits_at_link (shape_of h r) allowed k.memory (k.ring r) keeps q at missing (sym (ap (λ b. cycle b) found) ∙ same ∙ m.cycle))
-      ]
+      search (rules, crossable, shape_of, waits_at_link, cycle)
 
   pub block_no_link : (q : ℕ) → RingMatches (shape_of h r) (k.ring r) (state_of w r) (Data q) → Takeable (shape_of h r) k.memory (k.ring r) q → is_link (kind (seen w r)) ≡ false
   block_no_link q m t =

@@ -1,6 +1,5 @@
 -- Where more is known of rings whose pointers stay, and the controller did nothing, what it did is still what is known of it
-use Rattle.safety.proofs.Words.{◌≡◌, ◌≢◌, ◌∙◌, ℕ, None, Some, refl, sym, ap, subst, arith, address_of, number, Command, named_context, Header, shape_of, command_id, World, UnderWay, Known, IsUnfinished, state_of, RingMatches, EndpointRing, UnderWayMatches, CommandMatches, IsUnchanged, Matches, ◌+◌, Option, option_and_then, slice_get, rules, Spot, command_of, command_at, next_command, was_stop_seen, TakenCommand}
-use Rattle.safety.proofs.RingGoesOn.{RingGoesOn, bound_on, matches_on}
+use Rattle.safety.proofs.LowerLaws.{◌≡◌, ◌≢◌, ◌∙◌, ℕ, None, Some, refl, sym, ap, subst, arith, address_of, number, Command, named_context, Header, shape_of, command_id, World, UnderWay, Known, IsUnfinished, state_of, RingMatches, UnderWayMatches, CommandMatches, IsUnchanged, Matches, ◌+◌, Option, option_and_then, slice_get, rules, Spot, command_of, command_at, next_command, was_stop_seen, TakenCommand, RingGoesOn, bound_on, matches_on}
 
 -- Where the command ring's pointer stays and its next command is the same, so is what is said of the command under way
 module _ (h : Header) (k m : Known) (floor : (m.ring (command_id h)).floor ≡ (k.ring (command_id h)).floor) (stop_seen : m.stop_seen ≡ k.stop_seen) where
@@ -49,9 +48,6 @@ pub same_controller : (w : World) → SameController w w
 same_controller w = record { slot_state = refl; endpoint_state = refl; ring_of = refl; scribbles = refl; under_way = refl; inside = refl; states = λ r. refl }
 
 module _ (h : Header) (k m : Known) (w v : World) (g : KnownGoesOn h k m) (c : SameController w v) where
-  endpoint_ring : (r : ℕ) → EndpointRing h k w r → EndpointRing h m v r
-  endpoint_ring r o = grind (arith, shape_of, state_of, bound_on, number)
-
   command_matches : ((u : UnderWay) → w.under_way ≡ Some u → NextStays h k m (g.rings (command_id h)).floor g.stop_seen) → CommandMatches h k w → CommandMatches h m v
   command_matches next y = record {
     spot = y.spot;
@@ -67,7 +63,7 @@ module _ (h : Header) (k m : Known) (w v : World) (g : KnownGoesOn h k m) (c : S
     slots = λ s. ap (λ f. f s) c.slot_state ∙ y.slots s ∙ ap (λ f. f s) (sym g.slot_state);
     endpoints = λ s i. ap (λ f. f s i) c.endpoint_state ∙ y.endpoints s i ∙ ap (λ f. f s i) (sym g.endpoint_state);
     ring_of = λ s i. ap (λ f. f s i) c.ring_of ∙ y.ring_of s i ∙ ap (λ f. f s i) (sym g.ring_of);
-    rings = λ r other. endpoint_ring r (y.rings r other);
+    rings = λ r other. grind (arith, shape_of, state_of, bound_on, number);
     before = λ off. let b = y.before (sym g.started ∙ off) in record {
       inactive = ap (λ s. s.active) (c.states (command_id h)) ∙ b.inactive;
       no_events = ap (λ s. s.events) (c.states (command_id h)) ∙ b.no_events;

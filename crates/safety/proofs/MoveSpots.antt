@@ -1,6 +1,6 @@
 -- The spot to which a ring may be moved is the one that its pointer and cycle state name
-use Rattle.safety.proofs.Words.{[], ◌≡◌, ◌+◌, ◌-◌, ◌<◌, ◌≤◌, ◌&&◌, if◌then◌else◌, ◌∷◌, ◌∙◌, ℕ, suc, zero, Bool, true, false, List, Some, find, arith, sym, ap, subst, inl, inr, eqb-true, rules, way_without, range_with_len, flat_map, cases_Bool, cases_lt, cases_eq, and_parts, cond-true, cond-false, false≢true, All-get_or, Any-from_list_any, Spot, Data, Link, Shape, IsSpot, is_spot, rank, number, spot_address, spot_cycle, IsShape, RingView, declared, floor_number, is_way_given, is_border, is_target, spots_between, target, is_reached, may_move_to, is_move, RingKeeps, rank_least, rank_most, same_spot, found_is, between, move_reached}
-use Rattle.safety.proofs.LookedRing.{way_crossed}
+use Rattle.safety.proofs.LowerLaws.{[], ◌≡◌, ◌+◌, ◌-◌, ◌<◌, ◌≤◌, ◌&&◌, if◌then◌else◌, ◌∷◌, ◌∙◌, ℕ, suc, zero, Bool, true, false, List, Some, find, arith, sym, ap, subst, inl, inr, eqb-true, rules, way_without, range_with_len, flat_map, cases_Bool, cases_lt, cases_eq, and_parts, cond-true, cond-false, false≢true, All-get_or, Any-from_list_any, Spot, Data, Link, Shape, IsSpot, is_spot, rank, number, spot_address, spot_cycle, IsShape, RingView, declared, floor_number, is_way_given, is_border, is_target, spots_between, target, is_reached, may_move_to, is_move, RingKeeps, rank_least, rank_most, same_spot, found_is, move_reached, way_crossed}
+use Rattle.segments.proofs.MoveTargets.{between}
 
 -- among the spots of a range of numbers one that passes is found, if there is one
 found_between : (test : Spot → Bool) (a n : ℕ) (u : Spot) → a ≤ number u → number u < a + n → test u ≡ true →

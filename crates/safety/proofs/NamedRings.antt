@@ -1,5 +1,5 @@
 -- The ring that a pointer names: one that has it inside is the only one
-use Rattle.safety.proofs.Words.{◌≡◌, ◌+◌, ◌==◌, ◌&&◌, ◌∙◌, ℕ, true, Option, None, Some, find, arith, refl, sym, ap, inl, inr, eqb-true, and_parts, none-some, same_Some, Spot, Data, Link, Shape, address_of, is_inside, link_address, IsSpot, spot_address, IsShape, address_inside, link_address_inside, Header, Ring, IsHeader, shape_of, id_of, is_transfer_kind, ring_having, IsTransferRing}
+use Rattle.safety.proofs.Words.{◌≡◌, ◌+◌, ◌==◌, ◌&&◌, ◌∙◌, ℕ, true, Option, None, Some, find, arith, refl, sym, ap, eqb-true, and_parts, none-some, same_Some, Spot, Data, Link, Shape, address_of, is_inside, link_address, IsSpot, spot_address, IsShape, address_inside, link_address_inside, Header, Ring, IsHeader, shape_of, id_of, is_transfer_kind, ring_having, IsTransferRing, rules}
 use Rattle.safety.proofs.Headers.{found_in, together, clash_apart, header_parts, shape_is, ring_shape, transfer_driver}
 
 -- the address of a spot is inside its ring
@@ -27,13 +27,7 @@ module _ (h : Header) (is : IsHeader h) where
       let has : is_inside found.0.shape p ≡ true = (and_parts (is_transfer_kind found.0.shape.kind) (is_inside found.0.shape p) there.1).1 in
       let mine = found_in (λ x. x.id == r) h.rings transfer.ring transfer.found in
       let own : is_inside transfer.ring.shape p ≡ true = ap (λ s. is_inside s p) (sym (shape_is h r transfer.ring transfer.found)) ∙ inside in
-      elim (together h.rings found.0 transfer.ring (header_parts h is).1 there.0 mine.0) [
-        | inl same ↦ sym found.2 ∙ ap (λ (x : Ring). x.id) same ∙ (eqb-true transfer.ring.id r mine.1)
-        | inr apart ↦ absurd (elim apart [
-          | inl one ↦ clash_apart found.0 transfer.ring p one has own
-          | inr other ↦ clash_apart transfer.ring found.0 p other own has
-        ])
-      ]
+      search (rules, together, header_parts, eqb-true, clash_apart)
 
   pub moved_having : (p r q : ℕ) (t : Spot) → IsTransferRing h r → IsSpot (shape_of h r) t → spot_address (shape_of h r) t ≡ p → ring_having h p ≡ Some q → q ≡ r
   moved_having p r q t transfer spot at found =

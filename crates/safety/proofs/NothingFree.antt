@@ -1,8 +1,6 @@
 -- No row of a trace makes anything free: so nothing is free behind any history of rows, and each row restores what it has to
-use Rattle.safety.proofs.Words.{[], ◌≡◌, ◌∷◌, ◌∙◌, ℕ, List, Option, option_and_then, refl, sym, ap, rules, no_flips, Block, Declares, Opens, IsRestored, Header, Register, Row, IsHeader, shape_of, command_id, Known, nothing, on_ring, with_device, with_word, written, command_given, taken_device, run_or_stop, valued, register_written, endpoint_rung, rung, learned, known, lenient, MayCome, AreRestored, IsRestoring, EndpointsKeep, kind, arith}
+use Rattle.safety.proofs.MiddleLaws.{[], ◌≡◌, ◌∷◌, ◌∙◌, ℕ, List, refl, sym, ap, no_flips, Block, Declares, Opens, IsRestored, Header, Row, IsHeader, shape_of, command_id, Known, nothing, on_ring, with_device, with_word, written, run_or_stop, valued, register_written, endpoint_rung, rung, learned, known, lenient, MayCome, AreRestored, IsRestoring, EndpointsKeep, kind, arith, keeps_endpoints, view_after, on_ring_same, event_same}
 use Rattle.safety.proofs.RingIds.{transfer_driver}
-use Rattle.safety.proofs.EndpointHistories.{keeps_endpoints}
-use Rattle.safety.proofs.SameDriver.{view_after, on_ring_same, event_same}
 
 abbrev pub SameFree : Known → Known → Type 0
 SameFree k l = (r : ℕ) → (l.ring r).free ≡ (k.ring r).free
@@ -18,18 +16,10 @@ module _ (h : Header) where
   unfolding written with_word with_device
   written_free k a w r = (grind arith) ∙ refl
 
-  register_free : (k : Known) (q : Register) (x : ℕ) → SameFree k (register_written h k q x)
-  unfolding register_written valued run_or_stop
-  register_free k o x r = grind (arith, valued)
-
-  rung_free : (k : Known) (s t : ℕ) → SameFree k (rung h k s t)
-  unfolding rung endpoint_rung
-  rung_free k s t = search (rules, on_ring, command_id, endpoint_rung, k.ring_of, opened_free)
-
   -- what is free stays so, and nothing more is
   pub free_same : (k : Known) (row : Row) → SameFree k (learned h k row)
-  unfolding learned
-  free_same k o = grind (arith, declared_free, written_free, register_free, rung_free, event_same, kind)
+  unfolding learned register_written valued run_or_stop rung endpoint_rung
+  free_same k o = grind (arith, declared_free, written_free, valued, on_ring, command_id, endpoint_rung, opened_free, event_same, kind)
 
   pub nothing_free : (past : List Row) (r : ℕ) → IsRestored ((known h past).ring r)
   unfolding known nothing

@@ -1,7 +1,6 @@
 -- Before the first row a driver keeps everything
-use Rattle.safety.proofs.Words.{rules, false≢true, none-some, slice_get_past, Header, IsHeader, nothing, known, Unstarted, DriverKeeps}
-use Rattle.safety.proofs.LowerLaws.{nothing_keeps, driver_test, from_parts}
-use Rattle.safety.proofs.EndpointHistories.{keeps_endpoints}
+use Rattle.safety.proofs.MiddleLaws.{rules, false≢true, none-some, slice_get_past, Header, IsHeader, nothing, known, Unstarted, DriverKeeps, driver_test, from_parts, keeps_endpoints}
+use Rattle.safety.proofs.DriverRows.{nothing_keeps}
 
 module _ (h : Header) where
   -- nothing is known

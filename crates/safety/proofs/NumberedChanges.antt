@@ -1,8 +1,6 @@
 -- The endpoints that a command names have numbers of slots and endpoints, and so has each endpoint that a success gives a ring
-use Rattle.safety.proofs.Words.{[], ◌≡◌, ◌+◌, ◌<◌, ◌≤◌, if◌then◌else◌, ◌∷◌, ◌∙◌, ℕ, suc, zero, Bool, true, false, List, map, filter, Option, Some, arith, sym, ap, eqb-true, range_with_len, and_parts, none-some, same_Some, Block, BlockKind, kind, is_command_left_out, Command, NoOp, DisableSlot, AddressDevice, ConfigureEndpoint, EvaluateContext, SetTrDequeue, ResetDevice, is_off, command_by_kind, command_of, Change, Places, changes, placed_by_context, ContextSize, input_add_flag, added_endpoints, Header, ring_having, Known, bound_to, moved, pointed, disabled, in_state, held_at_ceiling, changed_by, changed_by_all, rules}
-use Rattle.safety.proofs.LookKinds.{cond_is}
+use Rattle.safety.proofs.LowerLaws.{[], ◌≡◌, ◌+◌, ◌<◌, ◌≤◌, if◌then◌else◌, ◌∷◌, ◌∙◌, ℕ, suc, zero, Bool, true, false, List, map, filter, Option, Some, arith, sym, ap, eqb-true, range_with_len, and_parts, none-some, same_Some, Block, kind, is_command_left_out, Command, NoOp, DisableSlot, AddressDevice, ConfigureEndpoint, EvaluateContext, SetTrDequeue, ResetDevice, is_off, command_by_kind, command_of, Change, Places, changes, placed_by_context, ContextSize, input_add_flag, added_endpoints, Header, ring_having, Known, bound_to, moved, pointed, disabled, in_state, held_at_ceiling, changed_by, changed_by_all, rules, cond_is, AreNumbered}
 use Rattle.safety.proofs.Endpoints.{moved_rings, held_rings}
-use Rattle.safety.proofs.FinishChanges.{AreNumbered}
 use Rattle.safety.proofs.WrittenKnown.{slot_low}
 
 -- ---- what commands name
@@ -13,11 +11,8 @@ IsNumbered (ConfigureEndpoint s dc n) = s < 256
 IsNumbered (SetTrDequeue s i p cycle) = (s < 256) × (i < 32)
 IsNumbered _ = Unit {0}
 
-by_kind_numbered : (t : BlockKind) (b : Block) (c : Command) → command_by_kind t b ≡ Some c → IsNumbered c
-by_kind_numbered o b c at = grind (arith, same_Some, slot_low, none-some)
-
 pub command_numbered : (b : Block) (c : Command) → command_of b ≡ Some c → IsNumbered c
-command_numbered b c at = search (rules, cond_is, is_command_left_out, command_by_kind, kind, none-some, by_kind_numbered)
+command_numbered b c at = search (rules, cond_is, is_command_left_out, command_by_kind, kind, none-some, same_Some, slot_low)
 
 -- ---- what they place
 
@@ -56,20 +51,11 @@ module _ (h : Header) where
   pub same_numbered : (k l : Known) → l.ring_of ≡ k.ring_of → AreNumbered k → AreNumbered l
   same_numbered k l same all s i r at = all s i r (ap (λ (f : ℕ → ℕ → Option ℕ). f s i) (sym same) ∙ at)
 
-  bound_numbered : (k : Known) → AreNumbered k → (s i : ℕ) (o : Option ℕ) (p : ℕ) (cycle : Bool) → (s < 256) × (i < 32) → AreNumbered (bound_to h k s i o p cycle)
-  unfolding bound_to
-  bound_numbered k all s i o p cycle fits = grind (arith, cond_is, and_parts, eqb-true)
-
   pointed_numbered : (k : Known) → AreNumbered k → (s i p : ℕ) (cycle : Bool) → (s < 256) × (i < 32) → AreNumbered (pointed h k s i p cycle)
-  unfolding pointed
-  pointed_numbered k all s i p cycle fits = search (rules, is_off, bound_to, ring_having, moved, bound_numbered, same_numbered, moved_rings)
-
-  change_numbered : (c : Command) (k : Known) (change : Change) → AreNumbered k → PlacesNumbered change → AreNumbered (changed_by h c k change)
-  unfolding changed_by disabled in_state
-  change_numbered c k o all fits =
-      grind (arith, same_numbered, changed_by, cond_is, none-some, pointed, pointed_numbered, in_state, held_at_ceiling, held_rings)
+  unfolding pointed bound_to
+  pointed_numbered k all s i p cycle fits = search (rules, is_off, bound_to, ring_having, moved, cond_is, and_parts, eqb-true, same_numbered, moved_rings)
 
   pub all_numbered : (c : Command) (k : Known) (l : List Change) → AreNumbered k → AllNumbered l → AreNumbered (changed_by_all h c k l)
-  unfolding changed_by_all
+  unfolding changed_by_all changed_by disabled in_state
   all_numbered c k [] all fits = all
-  all_numbered c k (change ∷ rest) all fits = all_numbered c (changed_by h c k change) rest (change_numbered c k change all fits.0) fits.1
+  all_numbered c k (change ∷ rest) all fits = all_numbered c (changed_by h c k change) rest (grind (arith, same_numbered, changed_by, cond_is, none-some, pointed, pointed_numbered, in_state, held_at_ceiling, held_rings)) fits.1

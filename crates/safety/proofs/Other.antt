@@ -1,7 +1,5 @@
 -- An event of the controller itself is posted: the run goes on
-use Rattle.safety.proofs.Words.{[], ◌≡◌, ◌+◌, ◌||◌, ◌∷◌, ◌++◌, ◌∙◌, true, false, not, List, Some, sym, ap, subst, false≢true, and_parts, and_left, or_right, cond_some, Block, BlockKind, IsBlock, kind, is_transfer_event, is_command_completion, is_other_event, Header, Read, IsHeader, World, can_post, posted, other_posted, counted, Known, event_read, learned, is_in_profile, is_impossible_by_kind, DriverKeeps, Agrees, Runs, all_read, rules, arith}
-use Rattle.safety.proofs.LowerLaws.{agrees_counted, with_reads, stands_with_reads, matches_with_reads, post_keeps, learned_read, event_clean}
-use Rattle.safety.proofs.ReportSuccess.{runs_more}
+use Rattle.safety.proofs.MiddleLaws.{[], ◌≡◌, ◌+◌, ◌||◌, ◌∷◌, ◌++◌, ◌∙◌, true, false, not, List, Some, sym, ap, subst, false≢true, and_parts, and_left, or_right, cond_some, Block, BlockKind, IsBlock, kind, is_transfer_event, is_command_completion, is_other_event, Header, Read, IsHeader, World, can_post, posted, other_posted, counted, Known, event_read, learned, is_in_profile, is_impossible_by_kind, DriverKeeps, Agrees, Runs, all_read, rules, arith, agrees_counted, with_reads, stands_with_reads, matches_with_reads, post_keeps, learned_read, event_clean, runs_more}
 
 -- what such an event says
 pub record SaysNothing (h : Header) (k : Known) (b : Block) (t : BlockKind) : Type 0 where

@@ -1,5 +1,5 @@
 -- A word of one ring gives nothing of another
-use Rattle.safety.proofs.Words.{◌≡◌, ◌≢◌, ◌==◌, ◌∙◌, ℕ, true, arith, sym, ap, inl, inr, eqb-true, or_cases, is_inside, RingView, Writes, changed, gives, gives_crossing, gives_is, gives_crossing_is, GivesMore, address_inside, link_address_inside, Header, Ring, IsHeader, shape_of, IsDriverRing}
+use Rattle.safety.proofs.Words.{◌≡◌, ◌≢◌, ◌==◌, ◌∙◌, ℕ, true, arith, sym, ap, inl, inr, eqb-true, or_cases, is_inside, RingView, Writes, changed, gives, gives_crossing, gives_is, gives_crossing_is, GivesMore, address_inside, link_address_inside, Header, Ring, IsHeader, shape_of, IsDriverRing, rules}
 use Rattle.safety.proofs.Headers.{found_in, together, clash_apart, shape_is, header_parts, ring_shape}
 
 module _ (h : Header) (is : IsHeader h) (r c : ℕ) (d : IsDriverRing h r) (g : IsDriverRing h c) (other : r ≢ c) where
@@ -9,13 +9,7 @@ module _ (h : Header) (is : IsHeader h) (r c : ℕ) (d : IsDriverRing h r) (g : 
       let yours = found_in (λ q. q.id == c) h.rings g.ring g.found in
       let one : is_inside d.ring.shape x ≡ true = ap (λ s. is_inside s x) (sym (shape_is h r d.ring d.found)) ∙ here in
       let two : is_inside g.ring.shape x ≡ true = ap (λ s. is_inside s x) (sym (shape_is h c g.ring g.found)) ∙ there in
-      elim (together h.rings d.ring g.ring (header_parts h is).1 mine.0 yours.0) [
-        | inl same ↦ other (sym (eqb-true d.ring.id r mine.1) ∙ ap (λ (q : Ring). q.id) same ∙ eqb-true g.ring.id c yours.1)
-        | inr apart ↦ elim apart [
-          | inl first ↦ clash_apart d.ring g.ring x first one two
-          | inr second ↦ clash_apart g.ring d.ring x second two one
-        ]
-      ]
+      search (rules, together, header_parts, eqb-true, clash_apart)
 
   pub written_elsewhere : (v : RingView) (a w : ℕ) → is_inside (shape_of h c) a ≡ true → GivesMore (changed (shape_of h r) v (Writes a w)) v
   written_elsewhere v a w inside = record {

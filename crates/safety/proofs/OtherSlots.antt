@@ -1,7 +1,6 @@
 -- The success of a command leaves other slots, and the rings that it doesn't name; one of an endpoint leaves the slot's other endpoints too
-use Rattle.safety.proofs.Words.{[], ◌≡◌, ◌∷◌, ℕ, Bool, true, false, List, Option, None, Some, refl, sym, subst, ne_eqb, cond_both, cond-false, and_left, none-some, put_pair, Spot, number, RingChange, Reaches, Holds, ceiling, target, Command, EndpointState, Stopped, is_off, Change, SlotGoesOn, DeviceLeft, Disables, Places, Stops, Resets, Header, shape_of, ring_having, Known, on_ring, set_to, bound_to, moved_to, moved, pointed, disabled, in_state, held_at_ceiling, changed_by, changed_by_all, rules, arith}
+use Rattle.safety.proofs.LowerLaws.{[], ◌≡◌, ◌∷◌, ℕ, Bool, true, false, List, Option, None, Some, sym, subst, ne_eqb, cond_both, cond-false, and_left, none-some, put_pair, Spot, number, RingChange, Reaches, Holds, ceiling, target, Command, EndpointState, Stopped, is_off, Change, SlotGoesOn, DeviceLeft, Disables, Places, Stops, Resets, Header, shape_of, ring_having, Known, on_ring, set_to, bound_to, moved_to, moved, pointed, disabled, in_state, held_at_ceiling, changed_by, changed_by_all, rules, arith, at_pair, at_number}
 use Rattle.safety.proofs.DriverRows.{ring_elsewhere}
-use Rattle.safety.proofs.EndpointPut.{at_pair, at_number}
 
 -- endpoint i is in the part of a slot that changed: one endpoint, or with None the whole slot
 abbrev pub IsPart : Option ℕ → ℕ → Type 0
@@ -51,16 +50,12 @@ module _ (s : ℕ) (part : Option ℕ) (B : ℕ → Type 0) where
         let set : OtherSlots k (moved_to h k r (target (shape_of h r) (k.ring r) p cycle)) s part B = grind (arith, same_others, set_others) in
         search (rules, at_pair, part_is, at_number)
 
-    moved_others : (k : Known) → Within k → (i p : ℕ) → IsPart part i → (cycle : Bool) (o : Option ℕ) → k.ring_of s i ≡ o → OtherSlots k (moved h k o p cycle) s part B
-    unfolding moved moved_to
-    moved_others k within i p mine cycle o at = grind (arith, same_others, set_others, target, shape_of, k.ring)
-
     pointed_others : (k : Known) → Within k → (i p : ℕ) → IsPart part i → (cycle : Bool) → (is_off (k.endpoint_state s i) ≡ true → (r : ℕ) → ring_having h p ≡ Some r → B r) →
         OtherSlots k (pointed h k s i p cycle) s part B
-    unfolding pointed
+    unfolding pointed moved moved_to
     pointed_others k within i p mine cycle named =
         cond_both (is_off (k.endpoint_state s i)) (bound_to h k s i (ring_having h p) p cycle) (moved h k (k.ring_of s i) p cycle) (λ l. OtherSlots k l s part B)
-        (λ off. bound_others k within i mine (ring_having h p) p cycle (named off)) (λ on. moved_others k within i p mine cycle (k.ring_of s i) refl)
+        (λ off. bound_others k within i mine (ring_having h p) p cycle (named off)) (λ on. grind (arith, same_others, set_others, target, shape_of, k.ring))
 
     state_others : (k : Known) → Within k → (i : ℕ) → IsPart part i → (state : EndpointState) → OtherSlots k (in_state h k s i state) s part B
     unfolding in_state
@@ -77,18 +72,6 @@ module _ (s : ℕ) (part : Option ℕ) (B : ℕ → Type 0) where
     ChangesOnly k (Places t i p cycle state) = (t ≡ s) × IsPart part i × (is_off (k.endpoint_state s i) ≡ true → (r : ℕ) → ring_having h p ≡ Some r → B r)
     ChangesOnly k (Stops t i) = (t ≡ s) × IsPart part i
     ChangesOnly k (Resets t i) = (t ≡ s) × IsPart part i
-
-    goes_on : (c : Command) (k : Known) → Within k → part ≡ None → OtherSlots k (changed_by h c k (SlotGoesOn s)) s part B
-    unfolding changed_by
-    goes_on c k within whole = search (rules, at_number)
-
-    leaves_device : (c : Command) (k : Known) → Within k → part ≡ None → OtherSlots k (changed_by h c k (DeviceLeft s)) s part B
-    unfolding changed_by
-    leaves_device c k within whole = search (rules, at_number, none-some)
-
-    disables : (c : Command) (k : Known) (which : ℕ → Bool) → Within k → part ≡ None → OtherSlots k (changed_by h c k (Disables s which)) s part B
-    unfolding changed_by disabled
-    disables c k which within whole = search (rules, cond-false, and_left, ne_eqb, cond_both, none-some)
 
     places : (c : Command) (k : Known) (i p : ℕ) (cycle : Bool) (state : EndpointState) → Within k → IsPart part i →
         (is_off (k.endpoint_state s i) ≡ true → (r : ℕ) → ring_having h p ≡ Some r → B r) → OtherSlots k (changed_by h c k (Places s i p cycle state)) s part B
@@ -110,9 +93,10 @@ module _ (s : ℕ) (part : Option ℕ) (B : ℕ → Type 0) where
     resets c k i within mine = state_others k within i mine Stopped
 
     pub change_others : (c : Command) (k : Known) (change : Change) → Within k → ChangesOnly k change → OtherSlots k (changed_by h c k change) s part B
-    change_others c k (SlotGoesOn t) within only = subst (λ x. OtherSlots k (changed_by h c k (SlotGoesOn x)) s part B) (sym only.0) (goes_on c k within only.1)
-    change_others c k (DeviceLeft t) within only = subst (λ x. OtherSlots k (changed_by h c k (DeviceLeft x)) s part B) (sym only.0) (leaves_device c k within only.1)
-    change_others c k (Disables t which) within only = subst (λ x. OtherSlots k (changed_by h c k (Disables x which)) s part B) (sym only.0) (disables c k which within only.1)
+    unfolding changed_by disabled
+    change_others c k (SlotGoesOn t) within only = subst (λ x. OtherSlots k (changed_by h c k (SlotGoesOn x)) s part B) (sym only.0) (search (rules, at_number))
+    change_others c k (DeviceLeft t) within only = subst (λ x. OtherSlots k (changed_by h c k (DeviceLeft x)) s part B) (sym only.0) (search (rules, at_number, none-some))
+    change_others c k (Disables t which) within only = subst (λ x. OtherSlots k (changed_by h c k (Disables x which)) s part B) (sym only.0) (search (rules, cond-false, and_left, ne_eqb, cond_both, none-some))
     change_others c k (Places t i p cycle state) within only = subst (λ x. OtherSlots k (changed_by h c k (Places x i p cycle state)) s part B) (sym only.0) (places c k i p cycle state within only.1 only.2)
     change_others c k (Stops t i) within only = subst (λ x. OtherSlots k (changed_by h c k (Stops x i)) s part B) (sym only.0) (stops c k i within only.1)
     change_others c k (Resets t i) within only = subst (λ x. OtherSlots k (changed_by h c k (Resets x i)) s part B) (sym only.0) (resets c k i within only.1)

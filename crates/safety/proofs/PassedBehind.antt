@@ -1,8 +1,6 @@
 -- What keeps the Cycle bit of what is free and may be passed keeps it also behind an event: no more is free there, and no more may be passed
-use Rattle.safety.proofs.Words.{◌≡◌, ◌+◌, ◌%◌, ◌<◌, ◌==◌, ◌&&◌, ◌∙◌, ℕ, not, Bool, true, false, nat_lt, arith, sym, lt-ltb, ltb-true, false≢true, false_from_ne_true, and_parts, and_from, Shape, place_count, address_of, cycle_of, RingView, floor_number, due_positions, ceiling, flips_passed, unrestored, IsIn, some_of, any_of, in_filter, from_filter, PassesNoMore}
-use Rattle.safety.proofs.UnfinishedLists.{in_range}
+use Rattle.safety.proofs.MiddleLaws.{◌≡◌, ◌+◌, ◌%◌, ◌<◌, ◌==◌, ◌&&◌, ◌∙◌, ℕ, not, Bool, true, false, nat_lt, arith, sym, lt-ltb, ltb-true, false≢true, false_from_ne_true, and_parts, and_from, Shape, place_count, address_of, cycle_of, RingView, floor_number, due_positions, ceiling, flips_passed, unrestored, IsIn, some_of, any_of, in_filter, from_filter, PassesNoMore, in_range, RingBehind}
 use Rattle.safety.proofs.LeasesBehind.{from_range}
-use Rattle.safety.proofs.GivingBeneath.{RingBehind}
 
 module _ (shape : Shape) (memory : ℕ → ℕ) (v u : RingView) (b : RingBehind shape memory v u) (passes : PassesNoMore shape v u) where
   -- what is free and due behind the event was before

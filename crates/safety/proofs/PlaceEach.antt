@@ -1,6 +1,5 @@
 -- A command's success places the rings of several endpoints, one after the other
-use Rattle.safety.proofs.Words.{[], ◌≡◌, ◌≢◌, ◌<◌, ◌==◌, ◌&&◌, ◌∷◌, ◌∙◌, ℕ, Bool, false, List, map, All, Option, Some, refl, sym, ap, get_or, eq-eqb, ne_eqb, None, list_any, and_right, or_parts, cond-false, false≢true, All-head, All-tail, Command, Running, Change, Places, placed_by_context, context_pointer, context_cycle, Header, IsHeader, is_ring, World, Known, is_among, has_repeats, changed_by}
-use Rattle.safety.proofs.LowerLaws.{each_fails, any_of_map, ReadyAt, BoundThere, ring_at, ready_next, placed_there, StatesMatch}
+use Rattle.safety.proofs.MiddleLaws.{[], ◌≡◌, ◌≢◌, ◌<◌, ◌==◌, ◌&&◌, ◌∷◌, ◌∙◌, ℕ, Bool, false, List, map, All, Option, Some, refl, sym, ap, get_or, eq-eqb, ne_eqb, None, list_any, and_right, or_parts, cond-false, false≢true, All-head, All-tail, Command, Running, Change, Places, placed_by_context, context_pointer, context_cycle, Header, IsHeader, is_ring, World, Known, is_among, has_repeats, changed_by, each_fails, any_of_map, ReadyAt, BoundThere, ring_at, ready_next, placed_there, StatesMatch}
 use Rattle.safety.proofs.PlaceKeeps.{bind_keeps}
 use Rattle.safety.proofs.FinishGiven.{ListKeeps, nothing_keeps, change_then}
 

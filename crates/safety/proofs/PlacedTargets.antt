@@ -1,6 +1,5 @@
 -- Where more is declared of rings, an unfinished command places endpoints at the same targets
-use Rattle.safety.proofs.Words.{[], ◌≡◌, ◌≤◌, ◌==◌, ◌&&◌, if◌then◌else◌, ◌∷◌, ◌∙◌, ℕ, not, Bool, true, false, List, map, All, Some, arith, refl, sym, ap, eq-eqb, subst, get_or, ◌≢◌, false≢true, or_parts, not-false, All-head, All-tail, declared, floor_number, ceiling, target, is_move, given_count_declared, floor_given, ceiling_within, Command, NoOp, DisableSlot, AddressDevice, ConfigureEndpoint, EvaluateContext, SetTrDequeue, ResetDevice, EndpointState, Off, Running, is_off, is_at_rest, Change, SlotGoesOn, Disables, changes, placed_by_context, added_endpoints, is_dropped, context_pointer, context_cycle, Header, IsHeader, shape_of, ring_having, Known, disabled, changed_by, is_bad_dequeue, is_bad_move, IsDriverRing, DriverKeeps, StillHolds, RingView, binds, has_repeats, is_placement, binding_in, is_among, same_Some, list_any, ring_bound, is_ring, put_pair, rules}
-use Rattle.safety.proofs.LowerLaws.{ring_shape, transfer_driver, each_fails, any_of_map, transfer_ring, rings_of, having_transfer, Ready, ReadyAt, BoundThere, ring_at, at_rest_on, address_ready, all_ready, ready_next, placed_there, map_map, target_still}
+use Rattle.safety.proofs.MiddleLaws.{[], ◌≡◌, ◌≤◌, ◌==◌, ◌&&◌, if◌then◌else◌, ◌∷◌, ◌∙◌, ℕ, not, Bool, true, false, List, map, All, Some, arith, refl, sym, ap, eq-eqb, subst, get_or, ◌≢◌, false≢true, or_parts, not-false, All-head, All-tail, declared, floor_number, ceiling, target, is_move, given_count_declared, floor_given, ceiling_within, Command, NoOp, DisableSlot, AddressDevice, ConfigureEndpoint, EvaluateContext, SetTrDequeue, ResetDevice, EndpointState, Off, Running, is_off, is_at_rest, Change, SlotGoesOn, Disables, changes, placed_by_context, added_endpoints, is_dropped, context_pointer, context_cycle, Header, IsHeader, shape_of, ring_having, Known, disabled, changed_by, is_bad_dequeue, is_bad_move, IsDriverRing, DriverKeeps, StillHolds, RingView, binds, has_repeats, is_placement, binding_in, is_among, same_Some, list_any, ring_bound, is_ring, put_pair, rules, ring_shape, transfer_driver, each_fails, any_of_map, transfer_ring, rings_of, having_transfer, Ready, ReadyAt, BoundThere, ring_at, at_rest_on, address_ready, all_ready, ready_next, placed_there, map_map, target_still}
 use Rattle.safety.proofs.AlikeChanges.{TargetsAre}
 
 module _ (h : Header) where

@@ -1,7 +1,5 @@
 -- An endpoint whose ring is placed at an address: what changes in the world
-use Rattle.safety.proofs.Words.{◌≡◌, ◌≢◌, if◌then◌else◌, ◌∷◌, ℕ, Bool, false, length, Option, Some, None, none-some, same_Some, put, put_pair, EndpointState, World, Placed, takes_of, is_had_by_another, inactive, placed, placed_on, state_of, rules, arith}
-use Rattle.safety.proofs.LookKinds.{cond_is, put_at, put_off}
-use Rattle.safety.proofs.PlacedRing.{placed_state}
+use Rattle.safety.proofs.LowerLaws.{◌≡◌, ◌≢◌, if◌then◌else◌, ◌∷◌, ℕ, Bool, false, length, Option, Some, None, none-some, same_Some, put, put_pair, EndpointState, World, Placed, takes_of, is_had_by_another, inactive, placed, placed_on, state_of, rules, arith, cond_is, put_at, put_off, placed_state}
 
 -- the ring that is placed, which no other endpoint has
 pub record IsPlaced (w v : World) (s i a : ℕ) (c : Bool) (state : EndpointState) (o : Option ℕ) : Type 0 where

@@ -1,8 +1,6 @@
 -- One endpoint's ring is placed in the world as it is in what is known: both match still
-use Rattle.safety.proofs.Words.{◌≡◌, ◌≢◌, ◌<◌, ◌⊎◌, if◌then◌else◌, ◌∙◌, ℕ, Bool, Option, Some, arith, sym, ap, subst, inl, inr, eqb-true, rules, put_pair_same, cases_eq, and_parts, cond-true, cond-false, same_Some, put_pair, Spot, EndpointState, SlotState, Header, shape_of, command_id, World, Known, state_of, RingMatches, Unreported, BoundRing, EndpointRing}
+use Rattle.safety.proofs.LowerLaws.{◌≡◌, ◌≢◌, ◌<◌, ◌⊎◌, if◌then◌else◌, ◌∙◌, ℕ, Bool, Option, Some, arith, sym, ap, subst, inl, inr, eqb-true, rules, put_pair_same, cases_eq, and_parts, cond-true, cond-false, same_Some, put_pair, Spot, EndpointState, SlotState, Header, shape_of, command_id, World, Known, state_of, RingMatches, Unreported, EndpointRing, known_changed, StatesMatch, ChangeKeeps, set_view, placed_state}
 use Rattle.safety.proofs.SlotChanges.{same_put_pair}
-use Rattle.safety.proofs.FinishChanges.{known_changed, StatesMatch, LeavesRest, ChangeKeeps}
-use Rattle.safety.proofs.PlacedRing.{set_view, placed_state}
 use Rattle.safety.proofs.PlacedWorld.{placed_world, placed_here, placed_elsewhere}
 
 -- what is known once ring r of an endpoint was placed at a spot
@@ -32,11 +30,6 @@ module _ (h : Header) (k l : Known) (w : World) (s i r a : ℕ) (c : Bool) (stat
   other_ring q other (inl b) = search (rules, v, placed_elsewhere, kept, none_still)
   other_ring q other (inr f) = search (rules, v, placed_elsewhere, kept, none_still)
 
-  -- the ring that is placed
-  this_ring : RingMatches (shape_of h r) (set_view (k.ring r) t) (placed_state (state_of w r) a (if c then 1 else 0)) t →
-      Unreported (shape_of h r) (set_view (k.ring r) t) (placed_state (state_of w r) a (if c then 1 else 0)) t → BoundRing (shape_of h r) l.ring_of (l.ring r) (state_of v r) r
-  this_ring m u = search (rules, state_of, placed_state, placed_here, x.ring_of, put_pair_same, k.ring_of, shape_of, set_view, k.ring)
-
   -- whose an endpoint's ring is: the one placed, or the one it had
   whose : (y j q : ℕ) → l.ring_of y j ≡ Some q → ((y ≡ s) × (j ≡ i) × (q ≡ r)) ⊎ (k.ring_of y j ≡ Some q)
   whose y j q at = search (rules, and_parts, eqb-true, same_Some, cond-true, cond-false)
@@ -56,9 +49,6 @@ module _ (h : Header) (k l : Known) (w : World) (s i r a : ℕ) (c : Bool) (stat
             ]
       ]
 
-  leaves_rest : LeavesRest h k l w v
-  leaves_rest = search (rules, v, placed_elsewhere)
-
   pub placed_keeps : RingMatches (shape_of h r) (set_view (k.ring r) t) (placed_state (state_of w r) a (if c then 1 else 0)) t →
       Unreported (shape_of h r) (set_view (k.ring r) t) (placed_state (state_of w r) a (if c then 1 else 0)) t → StatesMatch h k w → ChangeKeeps h k l w v
   placed_keeps m u y = record {
@@ -67,7 +57,7 @@ module _ (h : Header) (k l : Known) (w : World) (s i r a : ℕ) (c : Bool) (stat
       endpoints = λ q j. same_put_pair w.endpoint_state k.endpoint_state s i state y.endpoints q j ∙ ap (λ (f : ℕ → ℕ → EndpointState). f q j) (sym x.endpoint_state);
       ring_of = λ q j. same_put_pair w.ring_of k.ring_of s i (Some r) y.ring_of q j ∙ sym (x.ring_of q j);
       rings = λ q other. elim (cases_eq q r) [
-        | inl same ↦ subst (λ n. EndpointRing h l v n) (sym same) (inl (this_ring m u))
+        | inl same ↦ subst (λ n. EndpointRing h l v n) (sym same) (inl (search (rules, state_of, placed_state, placed_here, x.ring_of, put_pair_same, k.ring_of, shape_of, set_view, k.ring)))
         | inr apart ↦ other_ring q apart (y.rings q other)
       ];
       scribbles = λ q may none. y.scribbles q may (ap (λ (f : ℕ → Option ℕ). f q) (sym x.device) ∙ none);
@@ -75,5 +65,5 @@ module _ (h : Header) (k l : Known) (w : World) (s i r a : ℕ) (c : Bool) (stat
       one_endpoint = one_still y.one_endpoint;
       within = λ z j q at. elim (whose z j q at) [ inl here ↦ (omega (arith, here.0), omega (arith, here.0), omega (arith, here.1), omega (arith, here.1)) | inr there ↦ y.within z j q there ];
     };
-    rest = leaves_rest;
+    rest = search (rules, v, placed_elsewhere);
   }

@@ -1,11 +1,8 @@
 -- A command of which what was tested still holds places endpoints where it may
-use Rattle.safety.proofs.Words.{[], ◌≡◌, ◌≢◌, ◌<◌, ◌≤◌, ◌==◌, ◌&&◌, ◌||◌, if◌then◌else◌, ◌∷◌, ◌∙◌, ℕ, Bool, true, false, List, map, length, All, Option, Some, arith, refl, sym, ap, get_or, eq-eqb, ne_eqb, subst, rules, EndpointRestored, IsShape, IsShownTo, Shape, shown_where_restored, list_any, cases_option, none-some, same_Some, cond-true, cond-false, and_from, and_right, or_parts, or_left, not-false, false≢true, All-head, All-tail, list_any_at, length-map, get_or-map, put_pair, Spot, number, RingView, RingKeeps, is_placement, declared, floor_number, ceiling, target, is_move, is_reached, floor_given, given_count_declared, ceiling_within, move_target, added_endpoints, is_dropped, context_pointer, context_cycle, Command, NoOp, DisableSlot, AddressDevice, ConfigureEndpoint, EvaluateContext, SetTrDequeue, ResetDevice, EndpointState, Off, Running, is_off, is_at_rest, Change, SlotGoesOn, Disables, Places, changes, placed_by_context, Header, IsHeader, shape_of, is_ring, ring_having, Known, on_ring, set_to, bound_to, moved_to, moved, pointed, disabled, in_state, changed_by, Binding, drops, is_placed, is_among, has_repeats, binding_in, binds, ring_bound, binds_ring, is_bad_dequeue, is_bad_move, RingsKeep, EndpointsKeep, MayPoint, MayChangeAll, StillHolds}
+use Rattle.safety.proofs.LowerLaws.{[], ◌≡◌, ◌≢◌, ◌<◌, ◌≤◌, ◌==◌, ◌&&◌, ◌||◌, if◌then◌else◌, ◌∷◌, ◌∙◌, ℕ, Bool, true, false, List, map, length, All, Option, Some, arith, refl, sym, ap, get_or, eq-eqb, ne_eqb, subst, rules, EndpointRestored, IsShape, IsShownTo, Shape, shown_where_restored, list_any, cases_option, none-some, same_Some, cond-true, cond-false, and_from, and_right, or_parts, or_left, not-false, false≢true, All-head, All-tail, list_any_at, length-map, get_or-map, put_pair, Spot, number, RingView, RingKeeps, is_placement, declared, floor_number, ceiling, target, is_move, is_reached, floor_given, given_count_declared, ceiling_within, move_target, added_endpoints, is_dropped, context_pointer, context_cycle, Command, NoOp, DisableSlot, AddressDevice, ConfigureEndpoint, EvaluateContext, SetTrDequeue, ResetDevice, EndpointState, Off, Running, is_off, is_at_rest, Change, SlotGoesOn, Disables, Places, changes, placed_by_context, Header, IsHeader, shape_of, is_ring, ring_having, Known, on_ring, set_to, bound_to, moved_to, moved, pointed, disabled, in_state, changed_by, Binding, drops, is_placed, is_among, has_repeats, binding_in, binds, ring_bound, binds_ring, is_bad_dequeue, is_bad_move, RingsKeep, EndpointsKeep, MayPoint, MayChangeAll, StillHolds, each_fails, any_of_map, shape_allowed, having_transfer, target_here, target_placed}
 use Rattle.safety.specs.RingsKeep.{IsDriverRing}
-use Rattle.safety.proofs.TestsPassed.{each_fails, any_of_map}
-use Rattle.safety.proofs.RingsOfHeader.{shape_allowed}
-use Rattle.safety.proofs.RingIds.{having_transfer, transfer_driver}
+use Rattle.safety.proofs.RingIds.{transfer_driver}
 use Rattle.safety.proofs.DriverRows.{ring_elsewhere}
-use Rattle.safety.proofs.StandingTargets.{target_here, target_placed}
 
 pub at_rest_on : (state : EndpointState) → is_at_rest state ≡ true → is_off state ≡ true → ⊥
 at_rest_on o rest off = grind (arith, false≢true)
@@ -80,10 +77,7 @@ module _ (h : Header) (is : IsHeader h) where
       let low = floor_given (shape_of h b.ring) allowed memory (l.ring b.ring) b.keeps in
       let high = given_count_declared (shape_of h b.ring) allowed memory (l.ring b.ring) b.keeps in
       let within = ceiling_within (shape_of h b.ring) allowed memory (l.ring b.ring) b.keeps in
-      subst (λ n. target (shape_of h n) (l.ring n) p cycle ≡ Some t → IsShownTo (shape_of h n) (l.ring n) (number t)) (same_Some b.ring r (sym b.named ∙ at))
-      (λ there. floor_shown (shape_of h b.ring) allowed memory (l.ring b.ring) b.keeps t
-      (target_placed (shape_of h b.ring) (l.ring b.ring) p cycle t within.0 (omega (arith, low, high)) b.placed there))
-      named
+      search (rules, target, shape_of, number, same_Some, floor_shown, target_placed, named)
 
   ready_points : (l : Known) (memory : ℕ → ℕ) (s i p : ℕ) (cycle : Bool) → Ready h l memory s i p cycle → MayPoint h l s i p cycle
   ready_points l memory s i p cycle b = record {
@@ -203,15 +197,9 @@ module _ (h : Header) (is : IsHeader h) where
   off_then true false state s at free = ap is_off (cond-false (s == s && false) Off state (and_right (s == s) false refl)) ∙ at
   off_then false false state s at free = absurd (false≢true free)
 
-  -- no endpoint has a ring that the command binds, once those that it drops have none
-  none_left : (k : Known) (s a r : ℕ) → StillHolds h k (ConfigureEndpoint s false a) → binds_ring h k r (ConfigureEndpoint s false a) ≡ true → (t j : ℕ) →
-      (dropped (ConfigureEndpoint s false a) k s a).ring_of t j ≢ Some r
-  unfolding drops changed_by disabled
-  none_left k s a r still bound t j has = search (rules, dropped, none-some, cond-true, cond-false, false≢true)
-
   pub all_ready : (k : Known) → RingsKeep h k → (s a : ℕ) → StillHolds h k (ConfigureEndpoint s false a) →
       All (ReadyAt (dropped (ConfigureEndpoint s false a) k s a) k.memory s a) (added_endpoints k.memory a)
-  unfolding binds_ring binds binding_in ring_bound changed_by disabled
+  unfolding binds_ring binds binding_in ring_bound changed_by disabled drops
   all_ready k rings s a still x d inside =
       let c : Command = ConfigureEndpoint s false a in
       let added : List ℕ = added_endpoints k.memory a in
@@ -223,7 +211,7 @@ module _ (h : Header) (is : IsHeader h) where
       let bound : binds_ring h k there.ring c ≡ true =
       any_of_map (λ b. is_ring there.ring (ring_bound h b)) (binding_in h k a) added
       ∙ list_any_at (λ j. is_ring there.ring (ring_at k.memory a j)) added x d inside (ap (is_ring there.ring) there.named ∙ eq-eqb there.ring there.ring refl) in
-      search (rules, is_off, off_then, is_dropped, none_left, shape_of, dropped_rings, having_driver, context_pointer, is_placement, context_cycle)
+      search (rules, is_off, off_then, is_dropped, dropped, none-some, cond-true, cond-false, false≢true, shape_of, dropped_rings, having_driver, context_pointer, is_placement, context_cycle)
 
   configures : (k : Known) → RingsKeep h k → (s a : ℕ) → StillHolds h k (ConfigureEndpoint s false a) →
       MayChangeAll h (ConfigureEndpoint s false a) (dropped (ConfigureEndpoint s false a) k s a) (map (placed_by_context h.context_size k.memory s a) (added_endpoints k.memory a))
@@ -242,21 +230,5 @@ module _ (h : Header) (is : IsHeader h) where
 
   pub still_places : (k : Known) → RingsKeep h k → EndpointsKeep h k → (n : ℕ) (c : Command) → StillHolds h k c → MayChangeAll h c k (changes h.context_size k.memory n c)
   unfolding changes
-  still_places k rings endpoints n NoOp still = tt
-  still_places k rings endpoints n (DisableSlot s) still = (tt, (tt, (tt, tt)))
-  still_places k rings endpoints n (AddressDevice s bsr a) still =
-      let c : Command = AddressDevice s bsr a in
-      let same = behind_slot c k s in (
-        tt,
-        (
-          same_points k (changed_by h c k (SlotGoesOn s)) s 1 (context_pointer h.context_size k.memory a 1) (context_cycle h.context_size k.memory a 1) same.0 same.1 same.2
-              (address_points k rings endpoints s a bsr still),
-          tt,
-        ),
-      )
-  still_places k rings endpoints n (ConfigureEndpoint s false a) still = (tt, (tt, configures k rings s a still))
-  still_places k rings endpoints n (ConfigureEndpoint s true a) still = (tt, (tt, tt))
-  still_places k rings endpoints n (EvaluateContext s a) still = tt
-  still_places k rings endpoints n (SetTrDequeue s i p cycle) still = (dequeue_points k rings endpoints s i p cycle still.moves_on (still.restored s i p cycle refl), tt)
-  still_places k rings endpoints n (ResetDevice s) still = (tt, (tt, tt))
-  still_places k rings endpoints n _ still = (tt, tt)
+  still_places k rings endpoints n z still =
+      grind (arith, behind_slot, same_points, changed_by, context_pointer, context_cycle, address_points, rings, configures, dequeue_points)

@@ -1,10 +1,6 @@
 -- Behind a post: the event lies behind the unread ones, and nothing else that the driver or the controller did has changed
-use Rattle.safety.proofs.Words.{[], ◌≡◌, ◌+◌, ◌<◌, ◌≤◌, ◌⊎◌, ◌∷◌, ◌++◌, ◌∙◌, ℕ, suc, zero, true, List, length, Some, slice_get, arith, refl, ap, inl, inr, length-append, rules, same_Some, none-some, Block, IsBlock, block_at, place_count, address_of, shape_facts, posted_in_order, Header, IsHeader, event_shape, event_size, World, stored_block, can_post, posted, Known, AreInOrder, DriverKeeps, Stands, EventsStand, Matches, Agrees, stored}
+use Rattle.safety.proofs.LowerLaws.{[], ◌≡◌, ◌+◌, ◌<◌, ◌≤◌, ◌⊎◌, ◌∷◌, ◌++◌, ◌∙◌, ℕ, suc, zero, true, List, length, Some, slice_get, arith, refl, ap, inl, inr, length-append, rules, same_Some, none-some, Block, IsBlock, block_at, place_count, address_of, shape_facts, posted_in_order, Header, IsHeader, event_shape, event_size, World, stored_block, can_post, posted, Known, AreInOrder, DriverKeeps, Stands, EventsStand, Matches, Agrees, stored, EventRing, event_ring_is, same_block_at, Late, CanPost, can_post_is, size_is, places_apart, block_elsewhere, block_here, stands_block, late_block, matches_block}
 use Rattle.world_state.specs.World.{event_at}
-use Rattle.safety.proofs.Headers.{EventRing, event_ring_is}
-use Rattle.safety.proofs.RingMemory.{same_block_at}
-use Rattle.safety.proofs.Stored.{Late}
-use Rattle.safety.proofs.Posting.{CanPost, can_post_is, size_is, places_apart, block_elsewhere, block_here, stands_block, late_block, matches_block}
 
 -- an element of a list with one more: of the list, or the new one
 more_at : {X : Type 0} (xs : List X) (y : X) (i : ℕ) (e : X) → slice_get (xs ++ y ∷ []) i ≡ Some e → ((i < length xs) × (slice_get xs i ≡ Some e)) ⊎ ((i ≡ length xs) × (y ≡ e))
@@ -70,10 +66,6 @@ module _ (h : Header) (k : Known) (unread : List Block) (w : World) (b : Block) 
       index : (i : ℕ) → i ≡ length unread → w.reads + i ≡ w.posted
       index i at = omega (arith, g.events.count)
 
-  stands_posted : Stands h k (posted h w b)
-  unfolding posted
-  stands_posted = search (rules, stands_block, w.posted, g.stands)
-
   late_posted : Late (posted h w b)
   unfolding posted
   late_posted = late_block h e k d w w.posted b (λ a. omega (arith, g.stamps a))
@@ -84,12 +76,9 @@ module _ (h : Header) (k : Known) (unread : List Block) (w : World) (b : Block) 
       let m = matches_block h e k d w w.posted b (λ a. omega (arith, g.stamps a)) g.matches in
       search rules
 
-  posted_count : (posted h w b).posted ≡ k.reads + 1
-  unfolding posted
-  posted_count = omega (arith, g.read)
-
   keeps_at : IsBlock b → PostKeeps h k unread w b
-  keeps_at is = search (rules, stands_posted, events_posted, matches_posted, late_posted, posted_count, after_posted)
+  unfolding posted
+  keeps_at is = search (rules, stands_block, w.posted, g.stands, events_posted, matches_posted, late_posted, g.read, after_posted)
 
 -- a post that is possible keeps all that was known of the controller, with its event as the last unread one
 pub post_keeps : (h : Header) → IsHeader h → (k : Known) (unread : List Block) (w : World) (b : Block) → IsBlock b → DriverKeeps h k → Agrees h k unread w →

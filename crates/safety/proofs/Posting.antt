@@ -10,10 +10,6 @@ pub four_of : (l : List ℕ) → length l ≡ 4 → slice_index l 0 ∷ slice_in
 four_of (a ∷ b ∷ c ∷ d ∷ []) h = refl
 four_of _ h = absurd (omega arith)
 
-same_word_list : (a b c d e f g h : ℕ) → a ≡ e → b ≡ f → c ≡ g → d ≡ h →
-    ◌≡◌ {A = List ℕ} (a ∷ b ∷ c ∷ d ∷ []) (e ∷ f ∷ g ∷ h ∷ [])
-same_word_list a b c d e f g h p q r s = cc
-
 -- a block's words, and no others, are written where it is stored
 pub block_elsewhere : (w : World) (a x : ℕ) (b : Block) → ((j : ℕ) → j < 16 → x ≢ a + j) → (stored_block w a b).memory x ≡ w.memory x
 unfolding stored_block
@@ -23,7 +19,7 @@ block_elsewhere w a x b apart =
 
 pub block_here : (w : World) (a : ℕ) (b : Block) → IsBlock b → block_at (stored_block w a b).memory a ≡ b
 unfolding stored_block
-block_here w a b is = search (rules, same_word_list, word, memory_stored, memory_here, four_of, b.w)
+block_here w a b is = search (rules, word, memory_stored, memory_here, four_of, b.w)
 
 -- ---- where it may be posted
 

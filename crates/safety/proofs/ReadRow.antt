@@ -1,22 +1,16 @@
 -- The driver reads an event: it is the oldest unread one, and the run goes on
-use Rattle.safety.proofs.Words.{[], ◌≡◌, ◌+◌, ◌<◌, ◌∷◌, ◌∙◌, ℕ, true, false, List, nat_lt, Some, All, slice_get, arith, refl, ap, subst, eqb-true, ltb-true, rules, and_parts, All-head, All-tail, cond_some, Block, IsBlock, kind, same_words, Header, Read, World, counted, Known, learned, EventsStand, Agrees, ArePossible, Runs, all_read}
-use native.Mathlib.Numerals.{unary_clauses}
+use Rattle.safety.proofs.LowerLaws.{[], ◌≡◌, ◌+◌, ◌<◌, ◌∷◌, ◌∙◌, ℕ, true, false, List, nat_lt, Some, All, slice_get, arith, refl, ap, subst, eqb-true, ltb-true, rules, and_parts, All-head, All-tail, cond_some, Block, IsBlock, kind, same_words, Header, Read, World, counted, Known, learned, EventsStand, Agrees, ArePossible, Runs, all_read, unary_clauses, agrees_counted, four_of}
 use Rattle.world_state.specs.World.{event_at}
+use Rattle.safety.proofs.EventRead.{learned_read}
+use Rattle.safety.proofs.SameDriver.{event_same}
 use Rattle.world_state.specs.World as of_world
 use Rattle.controller_model.specs.DriverRows as driver
-use Rattle.safety.proofs.LowerLaws.{agrees_counted, learned_read, event_same}
-use Rattle.safety.proofs.Posting.{four_of}
 
 -- blocks with the same four words are the same
 same_block : (a b : Block) → IsBlock a → IsBlock b → same_words a b ≡ true → a ≡ b
 same_block a b is_a is_b same = search (rules, and_parts, eqb-true, four_of)
 
 module _ (h : Header) where
-  read_is : (w v : World) (e : Block) → driver.event_read h w e ≡ Some v →
-      (w.reads < w.posted) × (same_words (event_at h w w.reads) e ≡ true) × ((let x : World = record w { reads = w.reads + 1 } in x) ≡ v)
-  unfolding driver.event_read
-  read_is w v e at = search (rules, cond_some, nat_lt, w.reads, same_words, event_at, and_parts, ltb-true, w.posted)
-
   -- the one behind the first
   get_next : (u : Block) (rest : List Block) (i : ℕ) → slice_get (u ∷ rest) (i + 1) ≡ slice_get rest i
   get_next u rest i = simp unary_clauses refl
@@ -67,4 +61,5 @@ module _ (h : Header) where
 
   -- the run goes on behind the row that reads an event
   pub read_runs : (now : Known) (e : Block) (w v : World) → IsBlock e → (run : Runs h now w) → driver.event_read h w e ≡ Some v → Runs h (learned h now (Read e)) (counted h v)
-  read_runs now e w v block run at = read_oldest now e w v block (read_is w v e at) run.unread run.possible run.blocks run.on run.agrees
+  unfolding driver.event_read
+  read_runs now e w v block run at = read_oldest now e w v block (search (rules, cond_some, nat_lt, w.reads, same_words, event_at, and_parts, ltb-true, w.posted)) run.unread run.possible run.blocks run.on run.agrees

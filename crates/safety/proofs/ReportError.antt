@@ -1,7 +1,6 @@
 -- The controller reports that an endpoint has halted, or gone to Error: the run goes on
-use Rattle.safety.proofs.Words.{[], ◌≡◌, ◌≢◌, ◌+◌, ◌<◌, ◌==◌, ◌&&◌, ◌||◌, if◌then◌else◌, ◌∷◌, ◌++◌, ◌∙◌, ℕ, Bool, true, false, not, List, length, drop, Some, None, arith, refl, sym, ap, subst, rules, and_parts, and_from, and_right, or_left, or_right, cond-true, cond-false, not_from_true, none-some, same_Some, put, put_pair, Block, IsBlock, code, endpoint, kind, pointer, slot, is_transfer_event, is_command_completion, is_other_event, is_success, is_halting, is_trb_error, is_transfer_code, Data, Holds, ceiling, is_data_below, is_open, EndpointState, Halted, Error, is_running, Header, Read, IsHeader, shape_of, command_id, World, unreported, posted, is_last, with_reported, report_error, report_code, counted, Known, event_read, learned, event_at, on_ring, passed, broken_off, transferred, transferred_at, transfer_read, is_in_profile, is_working, can_report, can_report_at, DriverKeeps, RingState, state_of, BoundRing, Agrees}
-use Rattle.safety.proofs.LowerLaws.{transfer_driver, transfer_not_command, ring_shape, agrees_counted, with_reads, PostKeeps, post_keeps, learned_read, event_clean, OnlyRing, stands_only, events_only, cond_is, put_at, put_off, LearnsRing, stands_learns, matches_learns, known_states, world_states, stands_states, events_states, matches_states, open_takes, broken_at, last_is, last_take, broken_matches, broken_unreported, held_open}
-use Rattle.safety.proofs.ReportSuccess.{possible, where_bound, IsReport, ReportKeeps, transfer_kind, spot_named, in_profile_is, below_is}
+use Rattle.safety.proofs.MiddleLaws.{[], ◌≡◌, ◌≢◌, ◌+◌, ◌<◌, ◌==◌, ◌&&◌, ◌||◌, if◌then◌else◌, ◌∷◌, ◌++◌, ◌∙◌, ℕ, Bool, true, false, not, List, length, drop, Some, None, arith, refl, sym, ap, subst, rules, and_parts, and_from, and_right, or_left, or_right, cond-true, cond-false, not_from_true, none-some, same_Some, put, put_pair, Block, IsBlock, code, endpoint, kind, pointer, slot, is_transfer_event, is_command_completion, is_other_event, is_success, is_halting, is_trb_error, is_transfer_code, Data, Holds, ceiling, is_data_below, is_open, EndpointState, Halted, Error, is_running, Header, Read, IsHeader, shape_of, command_id, World, unreported, posted, is_last, with_reported, report_error, report_code, counted, Known, event_read, learned, event_at, on_ring, passed, broken_off, transferred, transferred_at, transfer_read, is_in_profile, is_working, can_report, can_report_at, DriverKeeps, RingState, state_of, BoundRing, Agrees, transfer_driver, transfer_not_command, ring_shape, agrees_counted, with_reads, PostKeeps, post_keeps, learned_read, event_clean, OnlyRing, stands_only, events_only, cond_is, put_at, put_off, LearnsRing, stands_learns, matches_learns, known_states, world_states, stands_states, events_states, matches_states, open_takes, broken_at, last_is, last_take, broken_matches, broken_unreported, held_open, possible, where_bound, IsReport, ReportKeeps, transfer_kind, spot_named, in_profile_is}
+use Rattle.safety.proofs.ReportSuccess.{below_is}
 
 -- the ring at rest, its takes reported
 abbrev pub ended_ring : World → ℕ → ℕ → World

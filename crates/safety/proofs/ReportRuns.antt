@@ -1,9 +1,9 @@
 -- Whatever the controller reports of a take, the run goes on
-use Rattle.safety.proofs.Words.{[], ◌≡◌, ◌∙◌, false, List, Some, sym, inl, inr, cases_Bool, cond-false, none-some, Block, IsBlock, code, endpoint, pointer, slot, is_success, is_halting, is_trb_error, is_stopping, Header, IsHeader, World, posted, report_code, reported, counted, DriverKeeps, Agrees, Runs, all_read, Known, ◌≢◌, ◌+◌, ◌-◌, ◌<◌, ◌==◌, ◌&&◌, ◌||◌, ◌∷◌, ◌++◌, ℕ, Bool, true, not, length, Option, arith, refl, ap, subst, eq-eqb, lt-ltb, false≢true, and_right, and_from, or_left, cond-true, not_from_true, put_pair, kind, is_transfer_event, is_command_completion, is_other_event, Spot, Data, Shape, RingView, Reaches, Holds, floor_number, ceiling, given_count, is_stop_spot, named, stopped_number, cycle_of_bit, rank_least, command_of, is_stop_of, is_running, shape_of, command_id, UnderWay, is_stop_under_way, with_stopped, report_stop, command_at, next_command, on_ring, is_in_profile, RingState, state_of, BoundRing, RingMatches, Unreported, UnderWayMatches, CommandMatches, ◌≤◌, ◌⊎◌, nat_lt, nat_le, drop, eqb-true, le-leb, rules, and_parts, not-false, or_right, same_Some, Link, number, is_way_given, Command, unreported, is_last, with_reported, stopped_with, was_stop_seen, Stands, EventsStand, TakenCommand, Matches, map, min, length-drop, drop-drop, range_with_len, address_of, rank, IsShape, declared, RingKeeps, rank_most, named_spot-near, given_count_declared, given_count_near, takes_of}
-use Rattle.safety.proofs.ReportSuccess.{IsReport, ReportKeeps, report_is, runs_more, success_keeps, where_bound, spot_named, in_profile_is}
+use Rattle.safety.proofs.MiddleLaws.{[], ◌≡◌, ◌∙◌, false, List, Some, sym, inl, inr, cases_Bool, cond-false, none-some, Block, IsBlock, code, endpoint, pointer, slot, is_success, is_halting, is_trb_error, is_stopping, Header, IsHeader, World, posted, report_code, reported, counted, DriverKeeps, Agrees, Runs, all_read, Known, ◌≢◌, ◌+◌, ◌-◌, ◌<◌, ◌==◌, ◌&&◌, ◌||◌, ◌∷◌, ◌++◌, ℕ, Bool, true, not, length, Option, arith, refl, ap, subst, eq-eqb, lt-ltb, false≢true, and_right, and_from, or_left, cond-true, not_from_true, put_pair, kind, is_transfer_event, is_command_completion, is_other_event, Spot, Data, Shape, RingView, Reaches, Holds, floor_number, ceiling, given_count, is_stop_spot, named, stopped_number, cycle_of_bit, rank_least, command_of, is_stop_of, is_running, shape_of, command_id, UnderWay, is_stop_under_way, with_stopped, report_stop, command_at, next_command, on_ring, is_in_profile, RingState, state_of, BoundRing, RingMatches, Unreported, UnderWayMatches, CommandMatches, ◌≤◌, ◌⊎◌, nat_lt, nat_le, drop, eqb-true, le-leb, rules, and_parts, not-false, or_right, same_Some, Link, number, is_way_given, Command, unreported, is_last, with_reported, stopped_with, was_stop_seen, Stands, EventsStand, TakenCommand, Matches, map, min, length-drop, drop-drop, range_with_len, address_of, rank, IsShape, declared, RingKeeps, rank_most, named_spot-near, given_count_declared, given_count_near, takes_of, IsReport, ReportKeeps, report_is, runs_more, success_keeps, where_bound, spot_named, in_profile_is, transfer_driver, transfer_not_command, ring_shape, command_of-with_cycle, ceiling_given, at_floor, command_is_ring, command_at_is, agrees_counted, with_reads, PostKeeps, post_keeps, learned_read, event_clean, stands_only, events_only, next_same, stands_learns, matches_learns, LearnsRing, open_takes, low, count, drop_range, last_is, last_take, cond_is, put_at, put_off, held_from}
 use Rattle.safety.proofs.ReportError.{halted_keeps, erred_keeps, ended_ring, only_ended, works}
 use Rattle.safety.proofs.StopRead.{StopCode, stop_transfer_code, stop_read, stop_possible}
-use Rattle.safety.proofs.LowerLaws.{transfer_driver, transfer_not_command, ring_shape, command_of-with_cycle, ceiling_given, ceiling_held, at_floor, command_is_ring, command_at_is, agrees_counted, with_reads, PostKeeps, post_keeps, learned_read, event_clean, stands_only, events_only, next_same, command_same, stands_learns, matches_learns, LearnsRing, open_takes, low, count, drop_range, last_is, last_take, cond_is, put_at, put_off, held_from}
+use Rattle.safety.proofs.NoWait.{ceiling_held}
+use Rattle.safety.proofs.Learns.{command_same}
 use Rattle.safety.proofs.FinishFails.{taken_now, posted_under_way}
 use Rattle.world_state.specs.World as of_world
 

@@ -1,14 +1,8 @@
 -- The controller reports that a take has succeeded: the run goes on
-use Rattle.std.proofs.Common.{[], ◌≡◌, ◌≢◌, ◌+◌, ◌<◌, ◌==◌, ◌||◌, ◌∷◌, ◌++◌, ◌∙◌, ℕ, true, false, not, List, drop, Option, Some, position, option_map, arith, refl, sym, ap, subst, inl, inr, lt-ltb, rules}
-use Rattle.safety.proofs.Words.{false≢true, and_parts, and_from, and_right, or_from, or_left, cond-true, not-true, not_from_true, not_from_false, none-some, same_Some, Block, BlockKind, is_set, IsBlock, code, endpoint, kind, pointer, slot, word, is_transfer_event, is_command_completion, is_other_event, is_success, is_transfer_code, Spot, Data, after, number, floor_number, ceiling, named, is_data_below, Off, is_off, Header, Read, IsHeader, shape_of, command_id, World, takes_of, unreported, can_post, posted, with_reported, report_success, report_code, reported_on, reported, counted, Known, event_read, learned, RingSpot, event_at, on_ring, spot_on, passed, transferred, transferred_at, transfer_read, lenient, is_in_profile, is_impossible_by_kind, is_impossible_transfer, can_report, can_report_at, DriverKeeps, state_of, BoundRing, Agrees, Runs, all_read, TransferEvent}
-use Rattle.safety.proofs.Headers.{transfer_driver, transfer_not_command, ring_shape}
-use Rattle.safety.proofs.Counted.{agrees_counted}
-use Rattle.safety.proofs.WithReads.{with_reads}
+use Rattle.safety.proofs.LowerLaws.{[], ◌≡◌, ◌≢◌, ◌+◌, ◌<◌, ◌==◌, ◌||◌, ◌∷◌, ◌++◌, ◌∙◌, ℕ, true, false, not, List, drop, Option, Some, position, arith, refl, sym, ap, subst, inl, inr, lt-ltb, rules, false≢true, and_parts, and_from, and_right, or_from, or_left, cond-true, not-true, not_from_true, not_from_false, none-some, same_Some, Block, BlockKind, is_set, IsBlock, code, endpoint, kind, pointer, slot, word, is_transfer_event, is_command_completion, is_other_event, is_success, is_transfer_code, Spot, Data, after, number, floor_number, ceiling, named, is_data_below, Off, is_off, Header, Read, IsHeader, shape_of, command_id, World, takes_of, unreported, can_post, posted, with_reported, report_success, report_code, reported_on, reported, counted, Known, event_read, learned, RingSpot, event_at, on_ring, spot_on, passed, transferred, transferred_at, transfer_read, lenient, is_in_profile, is_impossible_by_kind, is_impossible_transfer, can_report, can_report_at, DriverKeeps, state_of, BoundRing, Agrees, Runs, all_read, TransferEvent, transfer_driver, transfer_not_command, ring_shape, agrees_counted, with_reads, OnlyRing, stands_only, events_only, late_only, cond_is, put_at, put_off, LearnsRing, stands_learns, matches_learns}
+use Rattle.std.proofs.Common.{option_map}
 use Rattle.safety.proofs.Posted.{PostKeeps, post_keeps}
 use Rattle.safety.proofs.EventRead.{learned_read, event_clean, blocks_more, possible_more, read_more}
-use Rattle.safety.proofs.OnlyRing.{OnlyRing, stands_only, events_only, late_only}
-use Rattle.safety.proofs.LookKinds.{cond_is, put_at, put_off}
-use Rattle.safety.proofs.Learns.{LearnsRing, stands_learns, matches_learns}
 use Rattle.safety.proofs.ReportedRing.{open_takes, reported_is, reported_matches, reported_unreported}
 use Rattle.safety.proofs.StatesPlaced.{on_is}
 

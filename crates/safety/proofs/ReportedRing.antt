@@ -1,8 +1,5 @@
 -- A take that is reported: what the event names, and the ring behind it
-use Rattle.safety.proofs.Words.{◌≡◌, ◌+◌, ◌-◌, ◌<◌, ◌≤◌, ◌==◌, ◌∙◌, ℕ, suc, zero, List, length, drop, map, Some, position, arith, refl, sym, ap, get_or, length-drop, eqb-true, drop-drop, range_with_len, position-Some, length-map-range_with_len, get_or-map-range_with_len, Spot, Data, Shape, address_of, rank, number, after, IsShape, RingView, declared, floor_number, named, RingKeeps, rank_least, rank_most, next_least, named_spot-near, given_count_declared, given_count_near, takes_of, RingState, RingMatches, Unreported}
-use Rattle.safety.proofs.NoWait.{ceiling_given}
-use Rattle.safety.proofs.LookedRing.{number_after}
-use Rattle.safety.proofs.RingGoesOn.{held_from}
+use Rattle.safety.proofs.LowerLaws.{◌≡◌, ◌+◌, ◌-◌, ◌<◌, ◌≤◌, ◌==◌, ◌∙◌, ℕ, suc, zero, List, length, drop, map, Some, position, arith, refl, sym, ap, get_or, length-drop, eqb-true, drop-drop, range_with_len, position-Some, length-map-range_with_len, get_or-map-range_with_len, Spot, Data, Shape, address_of, rank, number, after, IsShape, RingView, declared, floor_number, named, RingKeeps, rank_least, rank_most, next_least, named_spot-near, given_count_declared, given_count_near, takes_of, RingState, RingMatches, Unreported, ceiling_given, number_after, held_from, rules}
 use Rattle.safety.proofs.FloorMoves.{ceiling_grows}
 
 -- ---- places in a list of addresses
@@ -62,11 +59,7 @@ module _ (shape : Shape) (is : IsShape shape) (memory : ℕ → ℕ) (v : RingVi
       let element : get_or (open_takes s) n 0 ≡ address_of shape (floor_number v + n) =
       ap (λ l. get_or l n 0) u.takes ∙ get_or-map-range_with_len (address_of shape) (floor_number v) (number t - floor_number v) n (floor_number v + n) 0 inside refl in
       let here : address_of shape (floor_number v + n) ≡ a = sym element ∙ eqb-true (get_or (open_takes s) n 0) a found.1 in
-      record {
-        within = omega arith;
-        at = here;
-        named_is = ap (λ x. named shape v x) (sym here) ∙ named_near (floor_number v + n) (omega arith) (omega arith);
-      }
+      search (rules, named, named_near, floor_number)
 
   -- ---- behind it
 

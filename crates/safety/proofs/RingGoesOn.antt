@@ -1,5 +1,5 @@
 -- A ring of which more is known while its pointer stays: what is said of it in the world stays
-use Rattle.safety.proofs.Words.{Bool, ◌≡◌, ◌≤◌, ℕ, true, List, map, Option, None, arith, refl, ap, rules, range_with_len, Shape, Spot, address_of, number, rank, is_border, RingView, floor_number, ceiling, is_way_given, is_step_given, given_count_same, RingEvent, Newest, RingState, RingMatches, BoundRing, IsHeldMore, GivesMore, step_more}
+use Rattle.safety.proofs.Words.{Bool, ◌≡◌, ◌≤◌, ℕ, true, List, map, Option, None, arith, ap, rules, range_with_len, Shape, Spot, address_of, number, rank, is_border, RingView, floor_number, ceiling, is_way_given, is_step_given, given_count_same, RingEvent, Newest, RingState, RingMatches, BoundRing, IsHeldMore, GivesMore, step_more}
 use Rattle.safety.proofs.NoWait.{ceiling_open, ceiling_held}
 
 -- the floor is the same, no less is given, and where descriptors begin, they still do
@@ -42,9 +42,6 @@ module _ (shape : Shape) (v x : RingView) (g : RingGoesOn shape v x) (s : RingSt
   pub bound_on : (ring_of : ℕ → ℕ → Option ℕ) (r : ℕ) → BoundRing shape ring_of v s r → BoundRing shape ring_of x s r
   bound_on ring_of r b = search (rules, matches_on, map, address_of, range_with_len, floor_number, number)
 
-held_ceiling : (shape : Shape) (v : RingView) (a o : Option ℕ) → v.held ≡ a → IsHeldMore a o → ceiling shape v ≤ ceiling shape (record v { held = o })
-unfolding is_step_given is_way_given
-held_ceiling shape v o x at more = grind (arith, ceiling_open, given_count_same, ceiling_held)
-
 pub held_goes_on : (shape : Shape) (v : RingView) (o : Option ℕ) → IsHeldMore v.held o → RingGoesOn shape v (record v { held = o })
-held_goes_on shape v o more = search (rules, held_ceiling)
+unfolding is_step_given is_way_given
+held_goes_on shape v o more = search (rules, ceiling_open, given_count_same, ceiling_held)

@@ -56,11 +56,8 @@ module _ (h : Header) (is : IsHeader h) where
   pub none_has_256 : (q : Ring) → ring_with h 256 ≡ Some q → ⊥
   none_has_256 q found = search (rules, eqb-true, found_passes, ltb-true, and_parts, nat_lt, found_allowed, list_all, is_shape, may_stand_together)
 
-  no_ring : (o : Option Ring) → ring_with h 256 ≡ o → is_transfer_ring o ≡ true → ⊥
-  no_ring o found transfer = grind (arith, false≢true, none_has_256)
-
   not_transfer : (o : Option Ring) → find (λ q. is_command_kind q.shape.kind) h.rings ≡ o → IsTransferRing h (id_or_none o) → ⊥
-  not_transfer None found transfer = no_ring (ring_with h 256) refl transfer
+  not_transfer None found transfer = (grind (arith, false≢true, none_has_256))
   not_transfer (Some q) found transfer =
       two_kinds q.shape.kind (found_passes (λ q. is_command_kind q.shape.kind) h.rings q found)
       (sym (ap is_transfer_ring (found_again (λ q. is_command_kind q.shape.kind) h.rings q together found)) ∙ transfer)

@@ -1,7 +1,5 @@
 -- Which rings keep an endpoint that a command doesn't drop
-use Rattle.safety.proofs.Words.{◌≡◌, ◌<◌, ◌&&◌, ◌∙◌, ℕ, not, Bool, true, false, Some, arith, refl, sym, ap, inl, inr, eq-eqb, list_any, range_with_len, cases_Bool, and_parts, and_from, not_from_false, not-true, false≢true, false_from_ne_true, Command, Header, is_ring, Known, drops, is_kept, some_of, any_of}
-use Rattle.safety.proofs.UnfinishedLists.{in_range}
-use Rattle.safety.proofs.BoundRings.{ring_is}
+use Rattle.safety.proofs.LowerLaws.{◌≡◌, ◌<◌, ◌&&◌, ◌∙◌, ℕ, not, Bool, true, false, Some, arith, refl, sym, ap, inl, inr, eq-eqb, list_any, range_with_len, cases_Bool, and_parts, and_from, not_from_false, not-true, false≢true, false_from_ne_true, Command, Header, is_ring, Known, drops, is_kept, some_of, any_of, in_range, ring_is}
 
 module _ (h : Header) (k : Known) (c : Command) (r : ℕ) where
   -- where the ring is kept by none, an endpoint that has it is dropped

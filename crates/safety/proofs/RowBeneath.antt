@@ -1,12 +1,11 @@
 -- A driver's row beneath the events that aren't read yet: they stay possible, and what is known when they are read differs from what
 -- the row adds to it at the end in the numbers at which rings are held, if at all
-use Rattle.safety.proofs.Words.{[], ◌≡◌, ◌+◌, ◌≤◌, ◌∷◌, ◌∙◌, ℕ, false, List, length, Some, arith, refl, sym, ap, subst, inl, inr, same_Some, Block, kind, erdp_address, is_reached_within, Header, Row, Sub, Write, Reg, Bell, Read, Register, Erdp, IsHeader, event_shape, IsRow, World, stored, counted, Known, learned, may_pass, is_bad_erdp, lenient, DriverKeeps, KeptByRestoring, MayCome, IsDriverRow, Agrees, ArePossible, Runs, all_read, HeldMore, is_idle, Square, SquareLaw, MoreLaw, ◌≢◌, ◌<◌, ◌++◌, true, Option, option_and_then, slice_get, cases_Bool, none-some, put, address_of, RingView, Declares, changed, declared, is_due, slice_get-append, ceiling_within, given_count_declared, Command, command_of, named_context, shape_of, command_id, UnderWay, on_ring, command_at, next_command, IsDriverRing, IsUnfinished, Stands, EventsStand, UnderWayMatches, IsUnchanged, Matches, rules}
-use Rattle.controller_model.specs.DriverRows as driver
-use Rattle.safety.proofs.LowerLaws.{clean_tests, register_facts, event_same, view_after, held_more_same, held_more_twice, weaker, erdp_says, ring_shape, due_has_ring, put_at, put_off, command_is_ring, Late, agrees_counted, RingGoesOn, goes_same, declares_goes_on, KnownGoesOn, SameController, matches_go_on}
+use Rattle.safety.proofs.MiddleLaws.{[], ◌≡◌, ◌+◌, ◌≤◌, ◌∷◌, ◌∙◌, ℕ, false, List, length, Some, arith, refl, sym, ap, subst, inl, inr, same_Some, Block, kind, erdp_address, is_reached_within, Header, Row, Sub, Write, Reg, Bell, Read, Register, Erdp, IsHeader, event_shape, IsRow, World, stored, counted, Known, learned, may_pass, is_bad_erdp, lenient, DriverKeeps, KeptByRestoring, MayCome, IsDriverRow, Agrees, ArePossible, Runs, all_read, HeldMore, is_idle, Square, SquareLaw, MoreLaw, ◌≢◌, ◌<◌, ◌++◌, true, Option, option_and_then, slice_get, cases_Bool, none-some, put, address_of, RingView, Declares, changed, declared, is_due, slice_get-append, ceiling_within, given_count_declared, Command, command_of, named_context, shape_of, command_id, UnderWay, on_ring, command_at, next_command, IsDriverRing, IsUnfinished, EventsStand, UnderWayMatches, IsUnchanged, Matches, rules, clean_tests, register_facts, event_same, view_after, held_more_same, held_more_twice, weaker, erdp_says, ring_shape, due_has_ring, put_at, put_off, command_is_ring, Late, agrees_counted, RingGoesOn, goes_same, declares_goes_on, KnownGoesOn, SameController, matches_go_on, register_agrees}
 use Rattle.safety.proofs.KeptCounts.{passable, read_counts}
 use Rattle.safety.proofs.RowRings.{rings_agree}
-use Rattle.safety.proofs.RowRegisters.{MayMove, register_agrees}
+use Rattle.safety.proofs.RowRegisters.{MayMove}
 use Rattle.safety.proofs.RowWrites.{writes_agree}
+use Rattle.controller_model.specs.DriverRows as driver
 use Rattle.world_state.specs.World as of_world
 
 -- A declaration where all events are read: what is known agrees with the world
@@ -90,10 +89,6 @@ module _ (h : Header) (is : IsHeader h) (k : Known) (unread : List Block) (w : W
       (put_at w.lengths r (w.lengths r ++ length blocks ∷ []) ∙ ap (λ l. l ++ length blocks ∷ []) (g.stands.lengths r))
       (λ other. put_off w.lengths r (w.lengths r ++ length blocks ∷ []) q other ∙ g.stands.lengths q)
 
-  stands : Stands h m v
-  unfolding m v on_ring driver.declared
-  stands = search (rules, queues, lengths)
-
   events : EventsStand h v unread
   unfolding v driver.declared of_world.event_at
   events = let e = g.events in record { order = e.order; count = e.count; places = e.places; started = e.started; ring = e.ring }
@@ -107,8 +102,8 @@ module _ (h : Header) (is : IsHeader h) (k : Known) (unread : List Block) (w : W
   late a = omega (arith, g.stamps a)
 
   pub declares_agree : Agrees h (learned h k (Sub r blocks)) unread (counted h (driver.declared h w r blocks))
-  unfolding m v learned
-  declares_agree = agrees_counted h m unread v stands events matches read late
+  unfolding m v learned on_ring driver.declared
+  declares_agree = agrees_counted h m unread v (search (rules, queues, lengths)) events matches read late
 
 module _ (h : Header) where
   pub read_on : (k : Known) (b : Block) → (learned h k (Read b)).stopped ≡ k.stopped

@@ -1,5 +1,5 @@
 -- What each row of the driver leaves as it is
-use Rattle.safety.proofs.Words.{◌≡◌, ℕ, List, Option, option_and_then, refl, rules, Block, RingView, Writes, changed, Header, Register, Sub, Write, Reg, Bell, shape_of, command_id, Known, on_ring, with_device, with_word, written, command_given, taken_device, run_or_stop, valued, register_written, endpoint_rung, rung, learned, arith}
+use Rattle.safety.proofs.Words.{◌≡◌, ℕ, List, refl, rules, Block, RingView, Writes, changed, Header, Register, Sub, Write, Reg, Bell, shape_of, command_id, Known, on_ring, with_device, with_word, written, run_or_stop, valued, register_written, endpoint_rung, rung, learned, arith}
 use Rattle.safety.proofs.SameDriver.{view_after}
 
 pub record SameRegisters (k l : Known) : Type 0 where
@@ -68,13 +68,9 @@ module _ (h : Header) where
   unfolding learned written with_device with_word
   written_view k a w r = grind arith
 
-  value_leaves : (k : Known) (r : Register) (x : ℕ) → RegisterLeaves k (valued k r x)
-  unfolding valued
-  value_leaves k r x = search rules
-
   register_leaves_by : (k : Known) (r : Register) (x : ℕ) → RegisterLeaves k (register_written h k r x)
   unfolding register_written valued run_or_stop
-  register_leaves_by k r x = grind (arith, value_leaves)
+  register_leaves_by k r x = grind arith
 
   pub register_leaves : (k : Known) (r : Register) (x : ℕ) → RegisterLeaves k (learned h k (Reg r x))
   unfolding learned

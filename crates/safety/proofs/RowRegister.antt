@@ -1,11 +1,9 @@
 -- A write of a register where all events are read: what is known agrees with the world
-use Rattle.safety.proofs.Words.{◌≡◌, ◌+◌, ◌≤◌, if◌then◌else◌, ℕ, nat_lt, true, false, List, Option, Some, option_and_then, slice_get, arith, ap, ltb-true, rules, list_any, range_with_len, some_of, and_parts, cond-true, cond-false, Block, Command, named_context, Shape, Header, Register, shape_of, command_id, event_shape, event_size, with_register, same_register, address_of, place_count, AreInOrder, position_from, is_reached_within, is_event_place, World, counted, Known, IsUnfinished, IsUnchanged, Matches, Agrees, command_at, next_command, valued}
+use Rattle.safety.proofs.LowerLaws.{◌≡◌, ◌+◌, ◌≤◌, if◌then◌else◌, ℕ, nat_lt, true, false, List, Some, slice_get, arith, ap, ltb-true, rules, list_any, range_with_len, some_of, and_parts, cond-true, cond-false, Block, Shape, Header, Register, command_id, event_shape, with_register, same_register, address_of, place_count, position_from, is_reached_within, is_event_place, World, counted, Known, Matches, Agrees, command_at, next_command, valued, no_place_stays, place_of, position_within, agrees_counted}
+use Rattle.safety.proofs.DriverGoesOn.{goes_same}
+use Rattle.safety.proofs.MatchesGoesOn.{SameController, matches_go_on}
 use Rattle.world_state.specs.World as of_world
 use Rattle.controller_model.specs.DriverRows as driver
-use Rattle.safety.proofs.DriverGoesOn.{goes_same}
-use Rattle.safety.proofs.ErdpMoves.{no_place_stays, place_of, position_within}
-use Rattle.safety.proofs.Counted.{agrees_counted}
-use Rattle.safety.proofs.MatchesGoesOn.{SameController, matches_go_on}
 
 pub agrees_once_counted : (h : Header) (k : Known) (unread : List Block) (w : World) → Agrees h k unread w → Agrees h k unread (counted h w)
 agrees_once_counted h k unread w g = agrees_counted h k unread w g.stands g.events g.matches g.read (λ a. omega (arith, g.stamps a))
@@ -22,18 +20,12 @@ pub record SameRings (k m : Known) : Type 0 where
   pub device : m.device ≡ k.device
 
 module _ (h : Header) (k m : Known) (w v : World) (s : SameRings k m) (c : SameController w v) where
-  same_before : (p : ℕ) (d : Command) → IsUnfinished h m p d → IsUnfinished h k p d
-  unfolding command_at
-  same_before p d u = search (rules, option_and_then, slice_get)
-
-  still_unchanged : v.changed ≡ w.changed → v.written ≡ w.written → (at : ℕ) (o : Option ℕ) → IsUnchanged h w at o → IsUnchanged h v at o
-  still_unchanged changed written at o same = grind arith
-
   pub same_matches : v.changed ≡ w.changed → v.written ≡ w.written → Matches h k w → Matches h m v
+  unfolding command_at
   same_matches changed written y =
       matches_go_on h k m w v (search (rules, goes_same)) c
       (λ u at. ap (λ f. slice_get (f (command_id h)).queue (next_command h k)) s.rings)
-      (λ p d u. still_unchanged changed written (address_of (shape_of h (command_id h)) p) (named_context d) (y.contexts p d (same_before p d u))) y
+      (λ p d u. grind arith) y
 
 module _ (h : Header) (k : Known) (unread : List Block) (w : World) (g : Agrees h k unread w) where
   -- a value that changes nothing else
@@ -63,12 +55,9 @@ module _ (h : Header) (k : Known) (unread : List Block) (w : World) (g : Agrees 
   moved_world : World
   moved_world = record w { dequeue = position_from (event_shape h) w.dequeue a }
 
-  order : AreInOrder (event_size h) (record { posted = w.posted; reads = w.reads; dequeue = position_from (event_shape h) w.dequeue a })
-  order = search (rules, position_within, event_shape, w.dequeue, may.more, may.reached, g.events.order.room)
-
   moved_agrees : Agrees h moved_known unread moved_world
   unfolding moved_known moved_world of_world.event_at
-  moved_agrees = search (rules, moved_known, moved_world, order, same_matches)
+  moved_agrees = search (rules, moved_known, moved_world, position_within, event_shape, w.dequeue, may.more, may.reached, g.events.order.room, same_matches)
 
   pub erdp_agrees : Agrees h (record k { dequeue = position_from (event_shape h) k.dequeue a }) unread (driver.with_dequeue h w a)
   unfolding moved_known moved_world driver.with_dequeue

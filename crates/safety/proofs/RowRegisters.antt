@@ -1,7 +1,7 @@
 -- A write of any register, but one that stops the controller, where all events are read: what is known agrees with the world
-use Rattle.safety.proofs.Words.{[], ◌≡◌, ◌&&◌, ◌||◌, ◌⊎◌, if◌then◌else◌, ◌∙◌, ℕ, not, true, false, List, Option, None, Some, is_some, refl, sym, ap, subst, inl, inr, false≢true, Block, erdp_address, is_event_place, event_shape, Header, Register, Usbcmd, Crcr, Erdp, Reg, IsHeader, run_bit, reset_bit, World, counted, Known, learned, is_bad_register, lenient, Unstarted, CommandRingNamed, DriverKeeps, Agrees, ◌≢◌, ◌∷◌, Bool, rules, Shape, Data, address_of, cycle_of, number, is_border, RingView, is_way_given, place_count_pos, cycle_of-first, Command, shape_of, command_id, register_or_zero, base_address, ring_cycle_state, RingEvent, IsUnfinished, Newest, state_of, RingMatches, EndpointRing, UnderWayMatches, CommandMatches, NotStarted, Matches, register_written, run_or_stop, valued, next_take, has_other_words, is_out_of_order, command_at, next_command, arith}
+use Rattle.safety.proofs.LowerLaws.{[], ◌≡◌, ◌&&◌, ◌||◌, ◌⊎◌, if◌then◌else◌, ◌∙◌, ℕ, not, true, false, List, Option, None, Some, is_some, refl, sym, ap, subst, inl, inr, false≢true, Block, erdp_address, is_event_place, event_shape, Header, Register, Usbcmd, Crcr, Erdp, Reg, IsHeader, run_bit, reset_bit, World, counted, Known, learned, is_bad_register, lenient, Unstarted, CommandRingNamed, DriverKeeps, Agrees, ◌≢◌, ◌∷◌, Bool, rules, Shape, Data, address_of, cycle_of, number, is_border, RingView, is_way_given, place_count_pos, cycle_of-first, shape_of, command_id, register_or_zero, base_address, ring_cycle_state, RingEvent, Newest, state_of, RingMatches, UnderWayMatches, CommandMatches, NotStarted, Matches, register_written, run_or_stop, valued, next_take, has_other_words, is_out_of_order, command_at, next_command, arith, register_facts, starts_written, ring_shape, put_at, put_off}
+use Rattle.safety.proofs.RowRegister.{ErdpReached, agrees_once_counted, valued_agrees, erdp_agrees, erdp_stays}
 use Rattle.controller_model.specs.DriverRows as driver
-use Rattle.safety.proofs.LowerLaws.{register_facts, starts_written, ErdpReached, agrees_once_counted, valued_agrees, erdp_agrees, erdp_stays, ring_shape, put_at, put_off}
 use Rattle.world_state.specs.World as of_world
 
 border_first : (lengths : List ℕ) → is_border lengths 0 0 ≡ true
@@ -69,25 +69,10 @@ module _ (h : Header) (is : IsHeader h) (k : Known) (unread : List Block) (w : W
   unfolding m
   command = record { spot = Data 0; ring = first; under_way = subst (λ o. UnderWayMatches h m (Data 0) o) (sym none) (sym next_zero, seen) }
 
-  endpoint_ring : (r : ℕ) → r ≢ command_id h → EndpointRing h k w r → EndpointRing h k v r
-  unfolding v driver.started_with
-  endpoint_ring r other o = grind (arith, shape_of, k.ring_of, k.ring, put_off, command_id, base_address, register_or_zero, ring_cycle_state)
-
   matches : Matches h m v
   unfolding m v driver.started_with command_at
   matches =
-      let y = g.matches in
-      record {
-        slots = y.slots;
-        endpoints = y.endpoints;
-        ring_of = y.ring_of;
-        rings = λ r other. endpoint_ring r other (y.rings r other);
-        before = λ waits. absurd (false≢true (sym waits));
-        command = λ on. command;
-        scribbles = y.scribbles;
-        contexts = λ p c f. y.contexts p c (record { due = f.due; given = f.given; command = f.command });
-        inside = y.inside;
-      }
+      search (rules, shape_of, put_off, command_id, base_address, register_or_zero, ring_cycle_state, before, command, g.matches)
 
   pub start_agrees : Agrees h (record k { started = true }) unread (driver.started_with h w)
   unfolding m v driver.started_with of_world.event_at

@@ -1,6 +1,5 @@
 -- A doorbell where all events are read: what is known agrees with the world
-use Rattle.safety.proofs.Words.{[], ◌≡◌, ◌==◌, ◌&&◌, ◌||◌, if◌then◌else◌, ◌∙◌, ℕ, not, nat_lt, true, false, List, Option, None, Some, option_and_then, slice_get, arith, refl, sym, ap, subst, inl, inr, rules, cases_Bool, cond-true, cond-false, and_from, or_parts, or_cases, not-false, false≢true, put_pair, Block, RingView, Opens, changed, Command, EndpointState, Running, is_running, is_stopped, Header, Bell, IsHeader, shape_of, command_id, World, counted, Known, learned, on_ring, command_at, next_command, endpoint_rung, rung, is_bad_bell, lenient, IsDriverRing, IsUnfinished, DriverKeeps, Stands, EventsStand, state_of, RingMatches, BoundRing, UnderWayMatches, CommandMatches, Matches, Agrees, Spot, RingState, activated, bell_row, endpoint_bell}
-use Rattle.safety.proofs.LowerLaws.{transfer_driver, transfer_not_command, ring_shape, command_is_ring, BellFacts, bell_facts, at_pair, Late, agrees_counted, stands_only, events_only, late_only, read_only, matches_command, OnlyRing, stands_learns, matches_learns, LearnsRing, known_states, world_states, stands_states, events_states, matches_states, RingGoesOn, bound_on, goes_same, opens_goes_on, KnownGoesOn, same_controller, matches_go_on, view_after, put_at, put_off}
+use Rattle.safety.proofs.MiddleLaws.{[], ◌≡◌, ◌==◌, ◌&&◌, ◌||◌, if◌then◌else◌, ◌∙◌, ℕ, not, nat_lt, true, false, List, Option, None, Some, option_and_then, slice_get, arith, refl, sym, ap, subst, inl, inr, rules, cases_Bool, cond-true, cond-false, and_from, or_parts, or_cases, not-false, false≢true, put_pair, Block, RingView, Opens, changed, EndpointState, Running, is_running, is_stopped, Header, Bell, IsHeader, shape_of, command_id, World, counted, Known, learned, on_ring, command_at, next_command, endpoint_rung, rung, is_bad_bell, lenient, IsDriverRing, DriverKeeps, Stands, EventsStand, state_of, RingMatches, BoundRing, UnderWayMatches, CommandMatches, Matches, Agrees, Spot, RingState, activated, bell_row, endpoint_bell, transfer_driver, transfer_not_command, ring_shape, command_is_ring, BellFacts, bell_facts, at_pair, Late, agrees_counted, stands_only, events_only, late_only, read_only, matches_command, OnlyRing, stands_learns, matches_learns, LearnsRing, known_states, world_states, stands_states, events_states, matches_states, RingGoesOn, bound_on, goes_same, opens_goes_on, KnownGoesOn, same_controller, matches_go_on, view_after, put_at, put_off}
 use Rattle.safety.proofs.StatesRung.{running_is}
 
 abbrev pub activated_ring : World → ℕ → RingState
@@ -131,15 +130,12 @@ module _ (h : Header) (is : IsHeader h) (k : Known) (unread : List Block) (w : W
       (λ same. subst (λ n. StaysBut (k.ring n) (changed (shape_of h (command_id h)) (k.ring (command_id h)) Opens)) (sym same) (record { queue = refl; given = refl; floor = refl }))
       (λ other. record { queue = refl; given = refl; floor = refl })
 
-  command_before : (p : ℕ) (c : Command) → IsUnfinished h (on_ring h k (command_id h) Opens) p c → IsUnfinished h k p c
-  unfolding command_at
-  command_before p c u = search (rules, command_stays, option_and_then, slice_get)
-
   command_known : k.started ≡ true → Matches h (on_ring h k (command_id h) Opens) w
+  unfolding command_at
   command_known on =
       matches_go_on h k (on_ring h k (command_id h) Opens) w w (command_goes on) (same_controller w)
       (λ u at. ap (λ q. slice_get q (next_command h k)) (command_stays (command_id h)).queue)
-      (λ p c u. g.matches.contexts p c (command_before p c u)) g.matches
+      (λ p c u. g.matches.contexts p c (search (rules, command_stays, option_and_then, slice_get))) g.matches
 
   command_opened : k.started ≡ true → Matches h (on_ring h k (command_id h) Opens) (activated h w (command_id h))
   command_opened on =
@@ -171,12 +167,8 @@ module _ (h : Header) (is : IsHeader h) (k : Known) (unread : List Block) (w : W
 
   -- ---- the row
 
-  good_state : (s t : ℕ) → is_bad_bell h k s t ≡ false → (is_running (k.endpoint_state s t) || is_stopped (k.endpoint_state s t)) ≡ true
-  unfolding is_bad_bell
-  good_state s t good = search (rules, or_parts, nat_lt, not-false)
-
   pub rings_agree : (s t : ℕ) → lenient h k (Bell s t) ≡ [] → Agrees h (learned h k (Bell s t)) unread (counted h (bell_row h w s t))
-  unfolding learned rung bell_row
+  unfolding learned rung bell_row is_bad_bell
   rings_agree s t clean =
       let facts : BellFacts h k s t = bell_facts h k s t clean in
       elim (cases_Bool (s == 0)) [
@@ -192,5 +184,5 @@ module _ (h : Header) (is : IsHeader h) (k : Known) (unread : List Block) (w : W
             (subst (λ v. Agrees h (endpoint_rung h k s t (k.ring_of s t)) unread (counted h v))
             (sym (cond-false (s == 0) (if t == 0 && w.started then activated h w (command_id h) else w) (endpoint_bell h w s t (w.ring_of s t)) endpoint
             ∙ ap (λ o. endpoint_bell h w s t o) (g.matches.ring_of s t)))
-            (endpoint_agrees s t (k.ring_of s t) refl (good_state s t (sym (cond-false (s == 0) (not (t == 0)) (is_bad_bell h k s t) endpoint) ∙ facts.good))))
+            (endpoint_agrees s t (k.ring_of s t) refl (search (rules, or_parts, nat_lt, not-false))))
       ]

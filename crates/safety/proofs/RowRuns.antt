@@ -1,7 +1,5 @@
 -- Behind a row of the driver the run goes on, whatever is unread
-use Rattle.safety.proofs.Words.{[], ◌≡◌, ◌==◌, ◌&&◌, if◌then◌else◌, ◌∷◌, ◌∙◌, ℕ, not, true, false, List, Some, refl, sym, subst, inl, inr, rules, cases_Bool, cond-true, and_from, not-false, same_Some, Block, is_open, Header, Row, Sub, Write, Reg, Bell, Read, IsHeader, MayCome, command_id, IsRow, World, counted, Known, learned, is_bad_bell, lenient, DriverKeeps, KeptByRestoring, IsDriverRow, Agrees, ArePossible, Runs, all_read, is_idle, is_open_if, MayRing, SquareLaw, MoreLaw, None, BlockKind, kind, event_read, EndpointsKeep, activated, bell_row, endpoint_bell, row_done, arith}
-use Rattle.safety.proofs.LowerLaws.{BellFacts, bell_facts, endpoints_of, transfer_command, open_held, held_open}
-use Rattle.safety.proofs.MiddleLaws.{read_counts, awake_runs, read_on, idle, rings, rung_agrees, command_rung, completed_view}
+use Rattle.safety.proofs.UpperLaws.{[], ◌≡◌, ◌==◌, ◌&&◌, if◌then◌else◌, ◌∷◌, ◌∙◌, ℕ, not, true, false, List, Some, sym, subst, inl, inr, rules, cases_Bool, cond-true, and_from, not-false, same_Some, Block, is_open, Header, Row, Sub, Write, Reg, Bell, Read, IsHeader, MayCome, command_id, IsRow, World, counted, Known, learned, is_bad_bell, lenient, DriverKeeps, KeptByRestoring, IsDriverRow, Agrees, ArePossible, Runs, all_read, is_idle, is_open_if, MayRing, SquareLaw, MoreLaw, None, BlockKind, kind, event_read, EndpointsKeep, activated, bell_row, endpoint_bell, row_done, arith, BellFacts, bell_facts, endpoints_of, transfer_command, open_held, held_open, read_counts, awake_runs, read_on, idle, rings, rung_agrees, command_rung, completed_view}
 
 -- No event holds the command ring
 module _ (h : Header) (is : IsHeader h) (k : Known) (keeps : EndpointsKeep h k) (b : Block) where
@@ -64,12 +62,4 @@ module _ (h : Header) where
     module _ (square : SquareLaw h) (more : MoreLaw h) where
       pub row_runs : (now : Known) (row : Row) (w v : World) → IsRow row → IsDriverRow row → DriverKeeps h now → Runs h now w → MayCome h now row → (learned h now row).stopped ≡ false →
           row_done h w row ≡ Some v → Runs h (learned h now row) (counted h v)
-      row_runs now (Bell s t) w v is_row driver_row keeps run possible on at =
-          elim (cases_Bool (is_idle h now (Bell s t))) [
-            | inl idles ↦ idle_runs now w v s t keeps run possible.0 idles at
-            | inr awake ↦ awake_runs h is square more kept (Bell s t) is_row driver_row now w v keeps run possible awake on at
-          ]
-      row_runs now (Sub r blocks) w v is_row driver_row keeps run possible on at = awake_runs h is square more kept (Sub r blocks) is_row driver_row now w v keeps run possible refl on at
-      row_runs now (Write a x) w v is_row driver_row keeps run possible on at = awake_runs h is square more kept (Write a x) is_row driver_row now w v keeps run possible refl on at
-      row_runs now (Reg r x) w v is_row driver_row keeps run possible on at = awake_runs h is square more kept (Reg r x) is_row driver_row now w v keeps run possible refl on at
-      row_runs now (Read e) w v is_row driver_row keeps run possible on at = absurd driver_row
+      row_runs now z w v is_row driver_row keeps run possible on at = grind (arith, is_idle, idle_runs, awake_runs)

@@ -1,8 +1,6 @@
 -- A write of memory where all events are read: what is known agrees with the world
-use Rattle.safety.proofs.Words.{[], ◌≡◌, ◌≢◌, ◌+◌, ◌*◌, ◌/◌, ◌<◌, ◌⊎◌, ◌∙◌, ℕ, false, List, Option, None, Some, option_and_then, slice_get, arith, refl, sym, ap, inl, inr, add-zero, ne_eqb, rules, list_any, or_parts, or_cases, false≢true, not_from_false, slice_get_within, put, Block, address_of, is_in, is_inside, Writes, changed, put_here, put_elsewhere, gives_is, address_inside, Command, named_context, device_context_bytes, input_context_bytes, Header, Write, IsHeader, shape_of, command_id, event_shape, World, stored, counted, Known, learned, command_at, next_command, with_device, with_word, written, command_given, taken_device, covers, lease_start, lease_bytes, segment_ranges, device_ranges, lenient, IsUnfinished, DriverKeeps, Stands, EventsStand, touches_events, IsUnchanged, Matches, Agrees, is_the_controllers}
+use Rattle.safety.proofs.MiddleLaws.{[], ◌≡◌, ◌≢◌, ◌+◌, ◌*◌, ◌/◌, ◌<◌, ◌⊎◌, ◌∙◌, ℕ, false, List, Option, None, Some, option_and_then, slice_get, arith, refl, sym, ap, inl, inr, add-zero, ne_eqb, rules, list_any, or_parts, or_cases, false≢true, not_from_false, slice_get_within, put, Block, address_of, is_in, is_inside, Writes, changed, put_here, put_elsewhere, gives_is, address_inside, Command, named_context, device_context_bytes, input_context_bytes, Header, Write, IsHeader, shape_of, command_id, event_shape, World, stored, counted, Known, learned, command_at, next_command, with_device, with_word, written, command_given, taken_device, covers, lease_start, lease_bytes, segment_ranges, device_ranges, lenient, IsUnfinished, DriverKeeps, touches_events, IsUnchanged, Matches, Agrees, is_the_controllers, any_of_map, EventRing, event_ring_is, byte_apart, clean_word, context_lies, context_free, word_elsewhere, word_free, free_or_same, not_the_controllers, none_of_both, same_block_at, at_number, Late, late_stored, memory_stored, unchanged_stored, agrees_counted, writes_goes_on, KnownGoesOn, SameController, matches_go_on, WriteLeaves, write_leaves}
 use Rattle.world_state.specs.World.{event_at}
-use Rattle.safety.proofs.LowerLaws.{any_of_map, EventRing, event_ring_is, byte_apart, clean_word, context_lies, context_free, word_elsewhere, word_free, free_or_same, not_the_controllers, none_of_both, same_block_at, at_number, Late, late_stored, memory_stored, unchanged_stored, agrees_counted, writes_goes_on, KnownGoesOn, SameController, matches_go_on}
-use Rattle.safety.proofs.RowFrames.{WriteLeaves, write_leaves}
 
 -- ---- what the write adds
 
@@ -22,14 +20,10 @@ written_memory : (h : Header) (k : Known) (a x b : ℕ) → (learned h k (Write 
 unfolding learned written with_word
 written_memory h k a x b = ap (λ f. f b) (device_memory h (with_word h k a x) (option_and_then (taken_device k) (command_given h k a x)))
 
-device_soiled : (h : Header) (l : Known) (taken : Option (ℕ × ℕ)) (b : ℕ) → (with_device h l taken).soiled b ≡ false → l.soiled b ≡ false
-unfolding with_device
-device_soiled h l o b none = grind (arith, or_parts, is_in, device_context_bytes, l.soiled)
-
 -- a word that isn't soiled then is the one that is written, or wasn't soiled
 written_soiled : (h : Header) (k : Known) (a x b : ℕ) → (learned h k (Write a x)).soiled b ≡ false → b ≢ a → k.soiled b ≡ false
-unfolding learned written with_word
-written_soiled h k a x b none other = search (rules, ne_eqb, device_soiled, option_and_then, false≢true, not_from_false)
+unfolding learned written with_word with_device
+written_soiled h k a x b none other = search (rules, ne_eqb, or_parts, is_in, device_context_bytes, option_and_then, false≢true, not_from_false)
 
 device_kept : (h : Header) (l : Known) (taken : Option (ℕ × ℕ)) (s : ℕ) → l.device s ≢ None → (with_device h l taken).device s ≢ None
 unfolding with_device
@@ -82,11 +76,6 @@ module _ (h : Header) (is : IsHeader h) (k : Known) (unread : List Block) (w : W
   some_posted : (i : ℕ) (f : Block) → slice_get unread i ≡ Some f → 0 < w.posted
   some_posted i f at = let within = slice_get_within unread i f at in omega (arith, g.events.count)
 
-  events : EventsStand h v unread
-  unfolding v stored
-  events =
-      search (rules, event_stays, event_ring_is, some_posted)
-
   -- ---- what is known
 
   goes_on : KnownGoesOn h k m
@@ -106,18 +95,13 @@ module _ (h : Header) (is : IsHeader h) (k : Known) (unread : List Block) (w : W
   unfolding command_at m
   was_or_now p c u = search (rules, m, written_rings, or_cases, option_and_then, slice_get, queue_same, gives_is)
 
-  -- what is given now was changed before now
-  given_now : (at : ℕ) (o : Option ℕ) → a ≡ at + 12 → IsUnchanged h v at o
-  unfolding v stored
-  given_now at o same = grind (arith, v, late_stored, late, put_here)
-
   contexts : (p : ℕ) (c : Command) → IsUnfinished h m p c → IsUnchanged h v (address_of (shape_of h (command_id h)) p) (named_context c)
-  unfolding v
+  unfolding v stored
   contexts p c u =
       elim (was_or_now p c u) [
         | inl was ↦
             unchanged_stored h w a x (address_of (shape_of h (command_id h)) p) (named_context c) late (λ n i named low. in_context_same p n i c was named low) (g.matches.contexts p c was)
-        | inr now ↦ given_now (address_of (shape_of h (command_id h)) p) (named_context c) now
+        | inr now ↦ grind (arith, v, late_stored, late, put_here)
       ]
 
   matches : Matches h m v
@@ -128,14 +112,10 @@ module _ (h : Header) (is : IsHeader h) (k : Known) (unread : List Block) (w : W
   unfolding m v stored
   quiet b none apart = search (rules, put, w.memory, put_here, k.memory, written_memory, put_elsewhere, g.stands.quiet, written_soiled)
 
-  stands : Stands h m v
-  unfolding m v stored
-  stands = search (rules, g.stands, m, write_leaves, queue_same, written_rings, quiet)
-
   read : v.posted ≡ m.reads
   unfolding m v stored
   read = let l : WriteLeaves k m = write_leaves h k a x in g.read ∙ sym l.registers.reads
 
   pub writes_agree : Agrees h (learned h k (Write a x)) unread (counted h (stored w a x))
-  unfolding m v
-  writes_agree = agrees_counted h m unread v stands events matches read (late_stored h w a x late)
+  unfolding m v stored
+  writes_agree = agrees_counted h m unread v (search (rules, g.stands, m, write_leaves, queue_same, written_rings, quiet)) (search (rules, event_stays, event_ring_is, some_posted)) matches read (late_stored h w a x late)

@@ -1,6 +1,7 @@
 -- The rows still to come are those that no row was made of: no step of the controller touches them, and a row takes the first
-use Rattle.std.proofs.Common.{[], ◌≡◌, ◌==◌, ◌&&◌, if◌then◌else◌, ◌∷◌, ◌||◌, ◌∙◌, ℕ, Bool, true, false, not, List, Option, Some, None, option_map, option_and_then, position, refl, sym, ap, rules, arith}
-use Rattle.safety.proofs.Words.{list_any, range_with_len, none-some, same_Some, Block, is_set, block_at, code, cycle, endpoint, kind, pointer, slot, word, is_command_completion, is_other_event, is_transfer_event, put_pair, Command, EndpointState, named_context, can_succeed, is_running, is_stopped, Change, changes, Header, Row, Register, Config, command_id, register_or_zero, World, UnderWay, unreported, stored, stored_block, command_begun, crossed, looked, looked_at, seen_by_look, taken, taken_on, can_post, other_posted, posted, report_code, report_error, report_stop, report_success, reported, reported_on, stopped_with, with_reported, is_scribbled, scribbled}
+use Rattle.safety.proofs.Words.{[], ◌≡◌, ◌==◌, ◌&&◌, if◌then◌else◌, ◌∷◌, ◌||◌, ◌∙◌, ℕ, Bool, true, false, not, List, Option, Some, None, option_and_then, position, refl, sym, ap, rules, arith, list_any, range_with_len, none-some, same_Some, Block, is_set, block_at, code, cycle, endpoint, kind, pointer, slot, word, is_command_completion, is_other_event, is_transfer_event, put_pair, Command, named_context, can_succeed, is_running, is_stopped, Change, changes, Header, Row, Config, command_id, register_or_zero, World, unreported, stored, stored_block, command_begun, crossed, looked, looked_at, seen_by_look, taken_on, can_post, other_posted, posted, report_code, report_error, report_stop, report_success, reported, reported_on, stopped_with, with_reported, is_scribbled, scribbled}
+use Rattle.std.proofs.Common.{option_map}
+use Rattle.controller_model.specs.Looks.{taken}
 use Rattle.controller_model.specs.DriverRows as driver
 use Rattle.controller_model.specs.Finishes as finishes
 use Rattle.controller_model.specs.Bindings as bindings
@@ -46,28 +47,20 @@ only_if : (w : World) (b : Bool) (o : Option World) → RowsLeft w o → RowsLef
 only_if w b o left = either w b o None left (nowhere w)
 
 module _ (h : Header) where
-  taken_left : (w : World) (r : ℕ) (b : Block) → (taken h w r b).rows ≡ w.rows
-  unfolding taken taken_on command_begun
-  taken_left w r b = search (rules, one_of, command_id, command_begun, taken_on, w.pointer_of, kept)
-
   pub looked_left : (w : World) (r : ℕ) → RowsLeft w (looked h w r)
-  unfolding looked looked_at seen_by_look crossed
-  looked_left w r = only_if w (w.is_active r) (looked_at h w r (block_at w.memory (w.pointer_of r))) (search (rules, either, nowhere, to, taken_left))
+  unfolding looked looked_at seen_by_look crossed taken taken_on command_begun
+  looked_left w r = only_if w (w.is_active r) (looked_at h w r (block_at w.memory (w.pointer_of r))) (search (rules, either, nowhere, to, one_of, command_id, command_begun, taken_on, kept))
 
   pub other_left : (w : World) (b : Block) → RowsLeft w (other_posted h w b)
   unfolding other_posted posted stored stored_block
   other_left w b = only_if w (can_post h w b && is_other_event (kind b)) (Some (posted h w b)) (to w (posted h w b) (refl))
 
-  report_left : (w : World) (c s i r a : ℕ) → RowsLeft w (report_code h w c s i r a)
-  unfolding report_code report_success with_reported report_error report_stop stopped_with
-  report_left w c s i r a = search (rules, either, over, with_reported, position, unreported, to, only_if, nowhere)
-
   reported_on_left : (w : World) (b : Block) (o : Option ℕ) → RowsLeft w (reported_on h w b o)
-  unfolding reported_on posted stored stored_block
+  unfolding reported_on posted stored stored_block report_code report_success with_reported report_error report_stop stopped_with
   reported_on_left w b None = nowhere w
   reported_on_left w b (Some r) =
       from_start (posted h w b) w (report_code h (posted h w b) (code b) (slot b) (endpoint b) r (pointer b)) (refl)
-      (report_left (posted h w b) (code b) (slot b) (endpoint b) r (pointer b))
+      (search (rules, either, over, with_reported, position, unreported, to, only_if, nowhere))
 
   pub reported_left : (w : World) (b : Block) → RowsLeft w (reported h w b)
   unfolding reported
@@ -75,13 +68,9 @@ module _ (h : Header) where
       only_if w (can_post h w b && is_transfer_event (kind b) && not (is_set (word b 3) 2)) (reported_on h w b (w.ring_of (slot b) (endpoint b)))
       (reported_on_left w b (w.ring_of (slot b) (endpoint b)))
 
-  inactive_left : (w : World) (o : Option ℕ) → (bindings.inactive w o).rows ≡ w.rows
-  unfolding bindings.inactive
-  inactive_left w o = grind arith
-
   changed_left : (c : Command) (w : World) (change : Change) → RowsLeft w (bindings.changed_by h c w change)
-  unfolding bindings.changed_by bindings.disabled bindings.in_state bindings.placed_on bindings.placed
-  changed_left c w o = grind (arith, cycle, nowhere, either, to, inactive_left)
+  unfolding bindings.changed_by bindings.disabled bindings.in_state bindings.placed_on bindings.placed bindings.inactive
+  changed_left c w o = grind (arith, cycle, nowhere, either, to)
 
   all_left : (c : Command) (l : List Change) (w : World) → RowsLeft w (bindings.changed_by_all h c w l)
   unfolding bindings.changed_by_all
@@ -97,14 +86,10 @@ module _ (h : Header) where
       either w (finishes.passes_end h (named_context c) || not (can_succeed w.slot_state w.endpoint_state (register_or_zero w.register Config) n c)) None
       (bindings.changed_by_all h c w (changes h.context_size w.memory n c)) (nowhere w) (all_left c (changes h.context_size w.memory n c) w)
 
-  finished_as_left : (w : World) (b : Block) (o : Option UnderWay) → RowsLeft w (finishes.finished_as h w b o)
-  unfolding finishes.finished_as finishes.ended_with finishes.ended posted stored stored_block
-  finished_as_left w b o = grind (arith, nowhere, only_if, either, after, succeeded_left, to)
-
   pub finished_left : (w : World) (b : Block) → RowsLeft w (finishes.finished h w b)
-  unfolding finishes.finished
+  unfolding finishes.finished finishes.finished_as finishes.ended_with finishes.ended posted stored stored_block
   finished_left w b =
-      only_if w (can_post h w b && is_command_completion (kind b) && not (code b == 0)) (finishes.finished_as h w b w.under_way) (finished_as_left w b w.under_way)
+      only_if w (can_post h w b && is_command_completion (kind b) && not (code b == 0)) (finishes.finished_as h w b w.under_way) (grind (arith, nowhere, only_if, either, after, succeeded_left, to))
 
   pub scribbled_left : (w : World) (a x : ℕ) → RowsLeft w (scribbled h w a x)
   unfolding scribbled stored
@@ -112,10 +97,6 @@ module _ (h : Header) where
 
   -- ---- a row
 
-  register_left : (w : World) (r : Register) (v : ℕ) → (driver.register_row h w r v).rows ≡ w.rows
-  unfolding driver.register_row driver.with_dequeue driver.valued driver.run_or_stop driver.started_with
-  register_left w o v = grind (arith, one_of, kept)
-
   pub row_left : (w : World) (row : Row) → RowsLeft w (driver.row_done h w row)
-  unfolding driver.row_done driver.declared stored driver.event_read driver.bell_row driver.activated driver.endpoint_bell
-  row_left w o = grind (arith, to, register_left, one_of, kept, put_pair, is_running, is_stopped, only_if)
+  unfolding driver.row_done driver.declared stored driver.event_read driver.bell_row driver.activated driver.endpoint_bell driver.register_row driver.with_dequeue driver.valued driver.run_or_stop driver.started_with
+  row_left w o = grind (arith, to, one_of, kept, put_pair, is_running, is_stopped, only_if)

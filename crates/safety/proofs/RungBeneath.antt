@@ -1,13 +1,8 @@
 -- The doorbell of an endpoint whose ring is held beneath an event that isn't read yet: the two may change places
-use Rattle.safety.proofs.Words.{[], ◌≡◌, ◌==◌, ◌||◌, ◌∙◌, ℕ, true, false, not, Option, None, Some, refl, sym, ap, subst, MayCome, cond-false, false≢true, Block, Opens, is_open, is_running, is_stopped, Header, Bell, Read, IsHeader, command_id, Known, on_ring, endpoint_rung, rung, learned, is_touched, is_bad_bell, lenient, DriverKeeps, HeldMore, is_open_if, is_idle, Square, ◌≢◌, ◌&&◌, nat_lt, slice_get, option_and_then, rules, or_parts, or_from, not-false, BlockKind, TransferEvent, CommandCompletion, kind, code, slot, is_transfer_event, Command, changes, Config, register_or_zero, command_at, next_command, completed, event_read, touches_endpoint, is_in_profile, may_be_taken, can_finish, is_impossible_completion, is_impossible_by_kind, CommandKeeps, if◌then◌else◌, List, is_some, and_parts, and_from, cond-true, after, RingView, Reaches, floor_number, command_of, named_endpoint, can_succeed, endpoint_meant, endpoint_success, Change, shape_of, changed_by_all, succeeded, stop_ended, finished, was_stop_seen, arith}
-use Rattle.safety.proofs.LowerLaws.{clean_tests, EventFacts, event_facts, bell_facts, SameDriver, both_drivers, endpoints_of, rings_of, endpoints_part, unfinished_fails, Woken, woken_reach, woken_seen}
-use Rattle.safety.proofs.MiddleLaws.{counted, read_same, read_both, flip_driver, woken_more, EndpointHolds, bell_untouched, bell_state, free_same, CompletionFacts, by_completion, next_unfinished, command_holds, can_be, success_fits}
-use Rattle.safety.proofs.WokenChanges.{one_of, Owns, flipped, changes_woken}
+use Rattle.safety.proofs.UpperLaws.{[], ◌≡◌, ◌==◌, ◌||◌, ◌∙◌, ℕ, true, false, not, Option, None, Some, refl, sym, ap, subst, MayCome, cond-false, false≢true, Block, Opens, is_open, is_running, is_stopped, Header, Bell, Read, IsHeader, command_id, Known, on_ring, endpoint_rung, rung, learned, is_touched, is_bad_bell, lenient, DriverKeeps, HeldMore, is_open_if, is_idle, Square, ◌≢◌, ◌&&◌, nat_lt, slice_get, option_and_then, rules, or_parts, or_from, not-false, BlockKind, TransferEvent, CommandCompletion, kind, code, slot, is_transfer_event, Command, changes, Config, register_or_zero, command_at, next_command, completed, event_read, touches_endpoint, is_in_profile, may_be_taken, can_finish, is_impossible_completion, is_impossible_by_kind, CommandKeeps, if◌then◌else◌, List, is_some, and_parts, and_from, cond-true, after, RingView, Reaches, floor_number, command_of, can_succeed, Change, shape_of, changed_by_all, succeeded, stop_ended, finished, was_stop_seen, arith, clean_tests, EventFacts, event_facts, bell_facts, SameDriver, both_drivers, endpoints_of, rings_of, endpoints_part, unfinished_fails, Woken, woken_reach, woken_seen, read_same, read_both, flip_driver, woken_more, EndpointHolds, bell_untouched, bell_state, free_same, CompletionFacts, by_completion, next_unfinished, command_holds, can_be, success_fits, one_of, Owns, flipped, changes_woken, rung_woken, rung_driver, not_command, transfer_rung, FitAll, both_sides_if}
+use Rattle.safety.proofs.HeldFurther.{counted}
 use Rattle.safety.proofs.HeldBehind.{read_holds, still_held, good_behind}
 use Rattle.safety.proofs.BellBeneath.{ReadWoken, bell_clean, read_woken}
-use Rattle.safety.proofs.EndpointBeneath.{rung_woken, rung_driver, not_command, transfer_rung}
-use Rattle.safety.proofs.StatesChanges.{FitAll}
-use Rattle.safety.proofs.AlikeChanges.{both_sides_if}
 use Rattle.safety.proofs.UntouchedCompletion.{touches_any}
 
 -- Behind the doorbell of an endpoint whose ring is held, and that no unfinished command touches, each event may be read that might be
@@ -16,13 +11,9 @@ use Rattle.safety.proofs.UntouchedCompletion.{touches_any}
 -- A Command Completion Event that is possible where an endpoint's ring is held and no unfinished command touches it: it is so where the
 -- ring was woken, and leaves it woken
 module _ (h : Header) (r s i : ℕ) (k l : Known) (w : Woken h r (one_of s i) k l) (d : SameDriver k l) where
-  seen_same : (c : Command) → was_stop_seen l c ≡ was_stop_seen k c
-  unfolding was_stop_seen
-  seen_same o = grind arith
-
   pub finish_same : (b : Block) (c : Command) → touches_endpoint h k s i c ≡ false → can_finish k b (Some c) ≡ true → can_finish l b (Some c) ≡ true
-  unfolding can_finish can_succeed touches_endpoint changes
-  finish_same b c apart may = search (rules, and_parts, and_from, cond-true, is_some, flipped, or_parts, cond-false, seen_same)
+  unfolding can_finish can_succeed touches_endpoint changes was_stop_seen
+  finish_same b c apart may = search (rules, and_parts, and_from, cond-true, is_some, flipped, or_parts, cond-false)
 
   stop_woken : (m n : Known) → Woken h r (one_of s i) m n → (c : Command) → Woken h r (one_of s i) (stop_ended h m c) (stop_ended h n c)
   unfolding stop_ended

@@ -1,11 +1,7 @@
 -- A world that agrees with what a rule-keeping driver's rows lead to is safe: harm by harm
-use Rattle.std.proofs.Common.{[], ◌≡◌, ◌+◌, ◌-◌, ◌<◌, ◌≤◌, ◌==◌, ◌&&◌, ◌∷◌, ◌∙◌, ℕ, Bool, false, not, List, nat_lt, nat_le, None, find, option_map, arith, refl, sym, ap, subst, inl, inr, eq-eqb, le-ltb, rules}
-use Rattle.safety.proofs.Words.{list_any, cases_Bool, cases_eq, and_left, and_right, or_from, lt-leb, not_from_true, Block, block_at, cycle, number, spot_address, Spot, Header, Ring, IsHeader, shape_of, command_id, event_size, some_ring, Harm, TakenOutOfOrder, TakenOtherWords, WaitsInsideDescriptor, LooksOutside, PostsOverUnread, InputContextChanged, World, is_out_of_order, has_other_words, is_inside_descriptor, waits, harms, harm_of, IsSafe, has_changed_context, Known, IsDriverRing, DriverKeeps, Stands, RingMatches, state_of, Agrees, Runs, all_read}
-use Rattle.safety.proofs.Headers.{transfer_driver, ring_shape}
-use Rattle.safety.proofs.AtSpots.{MayStand}
-use Rattle.safety.proofs.NoWait.{ceiling_given, inside_given, cycle_inside}
-use Rattle.safety.proofs.RingMemory.{block_at_spot}
-use Rattle.safety.proofs.SafeContext.{changed_none, command_is_ring, under_way_unchanged}
+use Rattle.safety.proofs.LowerLaws.{[], ◌≡◌, ◌+◌, ◌-◌, ◌<◌, ◌≤◌, ◌==◌, ◌&&◌, ◌∷◌, ◌∙◌, ℕ, Bool, false, not, List, nat_lt, nat_le, None, find, arith, refl, sym, ap, subst, inl, inr, eq-eqb, le-ltb, rules, list_any, cases_Bool, cases_eq, and_left, and_right, or_from, lt-leb, not_from_true, Block, block_at, cycle, number, spot_address, Spot, Header, Ring, IsHeader, shape_of, command_id, event_size, Harm, TakenOutOfOrder, TakenOtherWords, WaitsInsideDescriptor, LooksOutside, PostsOverUnread, InputContextChanged, World, is_out_of_order, has_other_words, is_inside_descriptor, waits, harms, harm_of, IsSafe, has_changed_context, Known, IsDriverRing, DriverKeeps, Stands, RingMatches, state_of, Agrees, Runs, all_read, transfer_driver, ring_shape, MayStand, ceiling_given, inside_given, cycle_inside, block_at_spot, changed_none, command_is_ring, under_way_unchanged}
+use Rattle.std.proofs.Common.{option_map}
+use Rattle.traces.specs.Header.{some_ring}
 
 no_ring : (rings : List Ring) (test : ℕ → Bool) → ((r : ℕ) → test r ≡ false) → list_any (λ r. test r.id) rings ≡ false
 no_ring [] test none = refl
@@ -94,11 +90,8 @@ module _ (h : Header) (is : IsHeader h) (k : Known) (unread : List Block) (w : W
         ]
       ]
 
-  context_kept : has_changed_context h w w.under_way ≡ false
-  context_kept = search (rules, under_way_unchanged, command_is_ring, changed_none)
-
   pub agreed_safe : IsSafe h w
-  agreed_safe = search (rules, safe_from, no_some_ring, (λ (r : ℕ). (ring_safe r).in_order), (λ (r : ℕ). (ring_safe r).as_declared), (λ (r : ℕ). (ring_safe r).no_wait), room_left, context_kept)
+  agreed_safe = search (rules, safe_from, no_some_ring, (λ (r : ℕ). (ring_safe r).in_order), (λ (r : ℕ). (ring_safe r).as_declared), (λ (r : ℕ). (ring_safe r).no_wait), room_left, under_way_unchanged, command_is_ring, changed_none)
 
 -- each world of a run is safe
 pub safe : (h : Header) → IsHeader h → (now : Known) (w : World) (r : Runs h now w) → DriverKeeps h (all_read h now r.unread) → IsSafe h w

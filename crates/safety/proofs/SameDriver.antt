@@ -1,5 +1,5 @@
 -- What events leave as it is: registers, memory, and what is declared and given of each ring
-use Rattle.safety.proofs.Words.{[], ◌≡◌, ◌≢◌, ◌∷◌, ℕ, Bool, List, Option, refl, sym, subst, rules, cond_both, Block, BlockKind, code, slot, endpoint, Spot, number, after, RingView, RingChange, Reaches, Opens, Holds, changed, ceiling, target, Command, EndpointState, is_off, Change, Header, shape_of, command_id, ring_having, Known, RingSpot, on_ring, event_at, command_at, next_command, passed, broken_off, stopped_at, transferred, transferred_at, transfer_read, set_to, bound_to, moved_to, moved, pointed, disabled, in_state, held_at_ceiling, changed_by, changed_by_all, succeeded, stop_ended, finished, completed, event_read, arith}
+use Rattle.safety.proofs.Words.{[], ◌≡◌, ◌≢◌, ◌∷◌, ℕ, Bool, List, Option, refl, sym, subst, rules, cond_both, Block, BlockKind, code, slot, endpoint, Spot, number, after, RingView, RingChange, Reaches, Opens, Holds, changed, ceiling, target, Command, is_off, Change, Header, shape_of, command_id, ring_having, Known, on_ring, command_at, next_command, passed, broken_off, stopped_at, transferred, transferred_at, transfer_read, set_to, bound_to, moved_to, moved, pointed, disabled, in_state, held_at_ceiling, changed_by, changed_by_all, succeeded, stop_ended, finished, completed, event_read, arith}
 use Rattle.safety.proofs.DriverRows.{ring_here, ring_elsewhere}
 
 -- what is declared and given of a ring
@@ -55,13 +55,9 @@ module _ (h : Header) where
 
   -- ---- a Transfer Event
 
-  stopped_same : (k : Known) (s i r : ℕ) (t : Spot) → SameDriver k (stopped_at h k s i r t)
-  unfolding stopped_at
-  stopped_same k s i r t = search (rules, both_drivers, on_ring_same, same_given)
-
   transferred_same : (k : Known) (c s i r : ℕ) (t : Spot) → SameDriver k (transferred h k c s i r t)
-  unfolding transferred broken_off passed
-  transferred_same k c s i r t = search (rules, after, shape_of, number, both_drivers, on_ring_same, same_given, stopped_same, same_driver)
+  unfolding transferred broken_off passed stopped_at
+  transferred_same k c s i r t = search (rules, after, shape_of, number, both_drivers, on_ring_same, same_given, same_driver)
 
   pub transfer_same : (k : Known) (b : Block) → SameDriver k (transfer_read h k b)
   unfolding transfer_read transferred_at
@@ -85,17 +81,9 @@ module _ (h : Header) where
       cond_both (is_off (k.endpoint_state s i)) (bound_to h k s i (ring_having h p) p cycle) (moved h k (k.ring_of s i) p cycle) (SameDriver k)
       (λ _. (grind (arith, same_driver, both_drivers, moved_same, same_given))) (λ _. moved_same k (k.ring_of s i) p cycle)
 
-  state_same : (k : Known) (s i : ℕ) (state : EndpointState) → SameDriver k (in_state h k s i state)
-  unfolding in_state
-  state_same k s i state = search (rules, same_given, k.ring)
-
-  held_same : (k : Known) (o : Option ℕ) → SameDriver k (held_at_ceiling h k o)
-  unfolding held_at_ceiling
-  held_same k o = grind (arith, same_driver, on_ring_same, ceiling, shape_of, k.ring)
-
   pub change_same : (c : Command) (k : Known) (change : Change) → SameDriver k (changed_by h c k change)
-  unfolding changed_by disabled in_state
-  change_same c k o = grind (arith, state_same, same_given, both_drivers, pointed_same, held_same)
+  unfolding changed_by disabled in_state held_at_ceiling
+  change_same c k o = grind (arith, same_given, both_drivers, pointed_same, same_driver, on_ring_same, ceiling, shape_of)
 
   pub changes_same : (c : Command) (k : Known) (all : List Change) → SameDriver k (changed_by_all h c k all)
   unfolding changed_by_all
@@ -108,16 +96,12 @@ module _ (h : Header) where
   unfolding stop_ended
   stop_same k o = grind (arith, same_given, same_driver)
 
-  finish_same : (k : Known) (b : Block) (o : Option Command) → SameDriver k (finished h k b o)
-  unfolding finished succeeded
-  finish_same k b o = grind (arith, same_driver, both_drivers, changes_same, stop_same)
-
   pub completion_same : (k : Known) (b : Block) → SameDriver k (completed h k b)
-  unfolding completed
+  unfolding completed finished succeeded
   completion_same k b =
       let l : Known = finished h k b (command_at h k (next_command h k)) in
       let t : Spot = after (shape_of h (command_id h)) (next_command h k) in
-      both_drivers k l (on_ring h l (command_id h) (Reaches t)) (finish_same k b (command_at h k (next_command h k))) (on_ring_same l (command_id h) (Reaches t) tt)
+      both_drivers k l (on_ring h l (command_id h) (Reaches t)) (grind (arith, same_driver, both_drivers, changes_same, stop_same)) (on_ring_same l (command_id h) (Reaches t) tt)
 
   -- ---- any event
 

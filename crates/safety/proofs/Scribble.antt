@@ -1,6 +1,5 @@
 -- The controller writes a word of a device context that it may write: the run goes on
-use Rattle.safety.proofs.Words.{◌≡◌, ◌≢◌, ◌+◌, ◌*◌, ◌<◌, ◌≤◌, ◌∙◌, ℕ, true, false, List, nat_lt, nat_le, Option, Some, None, slice_get, unwrap_or, arith, refl, sym, ap, subst, inl, inr, add-zero, leb-true, ltb-true, list_any, range_with_len, cases_lt, and_parts, cond_some, slice_get_within, Block, address_of, is_in, is_inside, address_inside, device_context, device_context_bytes, slot_entry, Header, Dcbaap, IsHeader, event_shape, event_size, touches_ring, register_or_zero, World, stored, is_scribbled, scribbled, counted, Known, device_named, entry_of, some_of, DeviceKeeps, DriverKeeps, EventsStand, touches_events, Agrees, Runs, all_read, rules}
-use Rattle.segments.specs.Places.{touches}
+use Rattle.safety.proofs.Words.{◌≡◌, ◌≢◌, ◌+◌, ◌*◌, ◌<◌, ◌≤◌, ◌∙◌, ℕ, true, false, List, nat_lt, nat_le, Option, Some, None, slice_get, unwrap_or, arith, refl, sym, ap, subst, inl, inr, add-zero, leb-true, ltb-true, list_any, range_with_len, cases_lt, and_parts, cond_some, slice_get_within, Block, address_of, is_in, is_inside, address_inside, device_context, device_context_bytes, slot_entry, Header, Dcbaap, IsHeader, event_shape, event_size, touches_ring, register_or_zero, World, stored, is_scribbled, scribbled, counted, Known, device_named, entry_of, some_of, DeviceKeeps, DriverKeeps, EventsStand, touches_events, Agrees, Runs, all_read, rules, touches}
 use Rattle.world_state.specs.World.{event_at}
 use Rattle.safety.proofs.Headers.{EventRing, event_ring_is, no_events}
 use Rattle.safety.proofs.RingMemory.{same_block_at}
@@ -48,12 +47,7 @@ module _ (h : Header) (is : IsHeader h) (k : Known) (unread : List Block) (w : W
       let at = entry_is k s in
       let low : w.memory e ≡ k.memory e = subst (λ x. w.memory x ≡ k.memory x) (add-zero (entry_of k s) ∙ at) (entry_word s c 0 dev (omega arith)) in
       let high : w.memory (e + 4) ≡ k.memory (e + 4) = subst (λ x. w.memory (x + 4) ≡ k.memory (x + 4)) at (entry_word s c 1 dev (omega arith)) in
-      ap (λ b. device_context w.memory b s) (ap (λ o. unwrap_or o 0) (g.stands.registers Dcbaap)) ∙ two_words low high ∙ dev.entry
-    where
-      two_words : w.memory (slot_entry (register_or_zero k.register Dcbaap) s) ≡ k.memory (slot_entry (register_or_zero k.register Dcbaap) s) →
-          w.memory (slot_entry (register_or_zero k.register Dcbaap) s + 4) ≡ k.memory (slot_entry (register_or_zero k.register Dcbaap) s + 4) →
-          device_context w.memory (register_or_zero k.register Dcbaap) s ≡ device_context k.memory (register_or_zero k.register Dcbaap) s
-      two_words p q = cc
+      search (rules, device_context, unwrap_or, slot_entry, register_or_zero)
 
   -- the word is one of a leased device context
   leased_word : (a x : ℕ) → list_any (is_scribbled h w a) (range_with_len 0 256) ≡ true → (s : ℕ) × (c : ℕ) × DeviceKeeps h k s c × (is_in a c (device_context_bytes h.context_size) ≡ true)
@@ -103,11 +97,4 @@ pub scribble_runs : (h : Header) → IsHeader h → (now : Known) (w v : World) 
     scribbled h w a x ≡ Some v → Runs h now (counted h v)
 scribble_runs h is now w v a x r d at =
     let s = scribbled_is h w v a x at in
-    record {
-      unread = r.unread;
-      possible = r.possible;
-      blocks = r.blocks;
-      on = r.on;
-      agrees = subst (λ u. Agrees h (all_read h now r.unread) r.unread (counted h u)) s.1
-          (agrees_stored h is (all_read h now r.unread) r.unread w d r.agrees a x s.0);
-    }
+    search (rules, subst (λ u. Agrees h (all_read h now r.unread) r.unread (counted h u)) s.1 (agrees_stored h is (all_read h now r.unread) r.unread w d r.agrees a x s.0))

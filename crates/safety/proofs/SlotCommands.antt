@@ -1,6 +1,7 @@
 -- The success of an unfinished command changes its own slot alone, or its own endpoint, and binds only rings that it names
-use Rattle.safety.proofs.Words.{[], ◌≡◌, ◌∷◌, ℕ, not, Bool, true, false, List, map, Some, refl, inl, inr, eq-eqb, Option, None, list_any, or_parts, or_left, not-false, Command, NoOp, EnableSlot, DisableSlot, AddressDevice, ConfigureEndpoint, EvaluateContext, ResetEndpoint, StopEndpoint, SetTrDequeue, ResetDevice, is_off, is_at_rest, changes, placed_by_context, added_endpoints, context_pointer, Header, command_id, is_ring, ring_having, Known, changed_by, succeeded, binding_in, binds, ring_bound, binds_ring, is_bad_dequeue, is_bad_move, IsIn, any_of, MovesIf, rules, arith}
-use Rattle.safety.proofs.LowerLaws.{any_of_map, IsPart, OtherSlots, Within, AllOnly, changes_others, at_rest_on}
+use Rattle.safety.proofs.LowerLaws.{[], ◌≡◌, ◌∷◌, ℕ, not, Bool, true, false, List, map, Some, refl, inl, inr, eq-eqb, Option, None, list_any, or_parts, or_left, not-false, Command, NoOp, EnableSlot, DisableSlot, AddressDevice, ConfigureEndpoint, EvaluateContext, ResetEndpoint, StopEndpoint, SetTrDequeue, ResetDevice, is_at_rest, changes, placed_by_context, added_endpoints, context_pointer, Header, command_id, is_ring, ring_having, Known, changed_by, succeeded, binding_in, binds, ring_bound, binds_ring, is_bad_dequeue, is_bad_move, IsIn, any_of, MovesIf, arith, any_of_map}
+use Rattle.safety.proofs.OtherSlots.{IsPart, OtherSlots, Within, AllOnly, changes_others}
+use Rattle.safety.proofs.Placings.{at_rest_on}
 
 -- the slot that the success of a command changes; n is that of its completion
 abbrev pub changed_slot : Command → ℕ → ℕ
@@ -32,16 +33,6 @@ module _ (h : Header) (k : Known) where
   pub of_slot : (s : ℕ) (part : Option ℕ) (e : Command) → Within s part (OfCommand s part e) k
   of_slot s part e i r mine at = Has i mine at
 
-  address_binds : (s n r : ℕ) (bsr : Bool) → is_off (k.endpoint_state s 1) ≡ true → ring_having h (context_pointer h.context_size k.memory n 1) ≡ Some r →
-      binds_ring h k r (AddressDevice s bsr n) ≡ true
-  unfolding binds_ring binds binding_in ring_bound
-  address_binds s n r bsr off at = search (rules, list_any, is_ring, ring_bound, binding_in, or_left, false, eq-eqb)
-
-  configure_binds : (s n i r : ℕ) → IsIn i (added_endpoints k.memory n) → ring_having h (context_pointer h.context_size k.memory n i) ≡ Some r →
-      binds_ring h k r (ConfigureEndpoint s false n) ≡ true
-  unfolding binds_ring binds binding_in ring_bound
-  configure_binds s n i r added at = search (rules, any_of_map, is_ring, ring_bound, binding_in, added_endpoints, k.memory, any_of, eq-eqb)
-
   places_only : (s n : ℕ) (e : Command) (B : ℕ → Type 0) (l : Known) (xs : List ℕ) → ((i : ℕ) → IsIn i xs → (r : ℕ) → ring_having h (context_pointer h.context_size k.memory n i) ≡ Some r → B r) →
       AllOnly s None B h e l (map (placed_by_context h.context_size k.memory s n) xs)
   places_only s n e B l [] named = tt
@@ -57,9 +48,9 @@ module _ (h : Header) (k : Known) where
   -- each change is one of the slot, or of the endpoint
   only_own : (n : ℕ) (e : Command) → MovesIf h k e →
       AllOnly (changed_slot e n) (changed_part e) (OfCommand (changed_slot e n) (changed_part e) e) h e k (changes h.context_size k.memory n e)
-  unfolding changes changed_by
+  unfolding changes changed_by binds_ring binds binding_in ring_bound
   only_own n o moves =
-      grind (arith, address_binds, false, places_only, added_endpoints, k.memory, configure_binds, true, at_rest_on, k.endpoint_state, set_rests)
+      grind (arith, list_any, is_ring, ring_bound, binding_in, or_left, eq-eqb, false, places_only, added_endpoints, k.memory, any_of_map, any_of, true, at_rest_on, k.endpoint_state, set_rests)
 
   pub success_others : (n : ℕ) (e : Command) → MovesIf h k e →
       OtherSlots k (succeeded h k n e) (changed_slot e n) (changed_part e) (OfCommand (changed_slot e n) (changed_part e) e)

@@ -1,6 +1,5 @@
 -- What a change leaves of slots
-use Rattle.safety.proofs.Words.{[], ◌≡◌, ◌≢◌, ◌⊎◌, ◌==◌, ◌&&◌, ◌∷◌, ◌∙◌, ℕ, Bool, List, map, Option, None, Some, refl, ap, inl, inr, ne_eqb, cond_both, cond-false, and_left, none-some, Spot, target, Command, EndpointState, Stopped, is_off, Change, SlotGoesOn, DeviceLeft, Disables, Places, Stops, Resets, placed_by_context, ContextSize, Header, shape_of, ring_having, Known, on_ring, set_to, bound_to, moved_to, moved, pointed, disabled, in_state, held_at_ceiling, changed_by, changed_by_all, rules, arith}
-use Rattle.safety.proofs.EndpointPut.{at_pair}
+use Rattle.safety.proofs.LowerLaws.{[], ◌≡◌, ◌≢◌, ◌⊎◌, ◌==◌, ◌&&◌, ◌∷◌, ◌∙◌, ℕ, Bool, List, map, Option, None, Some, refl, ap, inl, inr, ne_eqb, cond_both, cond-false, and_left, none-some, target, Command, EndpointState, Stopped, is_off, Change, SlotGoesOn, DeviceLeft, Disables, Places, Stops, Resets, placed_by_context, ContextSize, Header, shape_of, ring_having, Known, on_ring, set_to, bound_to, moved_to, moved, pointed, disabled, in_state, held_at_ceiling, changed_by, changed_by_all, arith, at_pair}
 use Rattle.safety.proofs.StatesOneEndpoint.{same_pair}
 
 -- endpoint i of slot s may have got a ring, and no more is changed of slots
@@ -36,20 +35,16 @@ AreOfSlot s [] = Unit {0}
 AreOfSlot s (change ∷ rest) = (slot_of change ≡ s) × AreOfSlot s rest
 
 module _ (h : Header) where
-  moved_tables : (k : Known) (r p : ℕ) (cycle : Bool) → ((moved h k (Some r) p cycle).slot_state ≡ k.slot_state) × ((moved h k (Some r) p cycle).device ≡ k.device)
-  unfolding moved moved_to set_to on_ring
-  moved_tables k r p cycle = search (rules, target, shape_of, k.ring, moved_to)
-
   moved_leaves : (k : Known) (s i : ℕ) (o : Option ℕ) (p : ℕ) (cycle : Bool) → GetsRing k (moved h k o p cycle) s i
   unfolding moved moved_to set_to on_ring
   moved_leaves k s i None p cycle = record { slot_state = refl; device = refl; rings = λ u j. inr refl; some = λ u j has. has }
   moved_leaves k s i (Some r) p cycle = grind arith
 
   pointed_leaves : (k : Known) (s i p : ℕ) (cycle : Bool) → GetsRing k (pointed h k s i p cycle) s i
-  unfolding pointed bound_to
+  unfolding pointed bound_to moved moved_to set_to on_ring
   pointed_leaves k s i p cycle =
       cond_both (is_off (k.endpoint_state s i)) (bound_to h k s i (ring_having h p) p cycle) (moved h k (k.ring_of s i) p cycle) (λ m. GetsRing k m s i)
-      (λ off. (grind (arith, moved_tables, same_pair, at_pair, none-some))) (λ on. moved_leaves k s i (k.ring_of s i) p cycle)
+      (λ off. (grind (arith, target, shape_of, moved_to, same_pair, at_pair, none-some))) (λ on. moved_leaves k s i (k.ring_of s i) p cycle)
 
   pub placed_leaves : (c : Command) (k : Known) (s i p : ℕ) (cycle : Bool) (state : EndpointState) → GetsRing k (changed_by h c k (Places s i p cycle state)) s i
   unfolding changed_by in_state

@@ -1,18 +1,15 @@
 -- A driver's row and an event that isn't read yet may change places, whatever kind of row it is
-use Rattle.safety.proofs.Words.{[], Header, Sub, Write, Reg, Bell, Read, SquareLaw, ◌≡◌, ℕ, false, inl, inr, MayCome, Block, cases_option, IsHeader, IsRow, Known, command_given, learned, lenient, DriverKeeps, IsDriverRow, is_idle, Square, ◌==◌, is_none, rules, cases_Bool, cond-true, false≢true, is_open, ◌∙◌, Some, refl, sym, subst, MovesRestored, same_Some, Command, ◌∷◌, Bool, ap, cond-false, or_from, broken_of, AfterStop, some_command, holds_of, write_tests, lenient_tests, ◌+◌, ◌≤◌, ◌<◌, ◌++◌, true, List, length, option_and_then, slice_get, arith, length-append, ltb-true, ltb-false, le-ltb, none-some, slice_get_within, RingView, Declares, changed, declared, floor_number, place_count, ceiling, has_no_room, slice_get-append, command_of, shape_of, command_id, on_ring, command_at, next_command, declaration_tests, may_be_taken, IsHeldMore, HeldMore, ◌||◌, zero, suc, not, nat_lt, unwrap_or, list_any, range_with_len, and_parts, and_from, or_parts, or_cases, or_left, or_right, not_from_true, position_from, erdp_address, Register, Usbcmd, Config, Erdp, event_shape, with_register, same_register, run_bit, reset_bit, run_or_stop, valued, register_written, changes, may_pass, is_bad_register, is_bad_erdp, register_tests, is_late_reset, is_early_start, is_wrong_start, is_bad_command}
+use Rattle.safety.proofs.UpperLaws.{[], Header, Sub, Write, Reg, Bell, Read, SquareLaw, ◌≡◌, ℕ, false, inl, inr, MayCome, Block, cases_option, IsHeader, IsRow, Known, command_given, learned, lenient, DriverKeeps, IsDriverRow, is_idle, Square, ◌==◌, is_none, rules, cases_Bool, cond-true, false≢true, is_open, ◌∙◌, Some, refl, sym, subst, MovesRestored, same_Some, Command, ◌∷◌, Bool, ap, cond-false, or_from, broken_of, AfterStop, some_command, holds_of, write_tests, lenient_tests, ◌+◌, ◌≤◌, ◌<◌, ◌++◌, true, List, length, option_and_then, slice_get, arith, length-append, ltb-true, ltb-false, le-ltb, none-some, slice_get_within, RingView, Declares, changed, declared, floor_number, place_count, ceiling, has_no_room, slice_get-append, command_of, shape_of, command_id, on_ring, command_at, next_command, declaration_tests, may_be_taken, IsHeldMore, HeldMore, ◌||◌, zero, suc, not, nat_lt, unwrap_or, list_any, range_with_len, and_parts, and_from, or_parts, or_cases, or_left, or_right, not_from_true, position_from, erdp_address, Register, Usbcmd, Config, Erdp, event_shape, with_register, same_register, run_bit, reset_bit, run_or_stop, valued, register_written, changes, may_pass, is_bad_register, is_bad_erdp, register_tests, is_late_reset, is_early_start, is_wrong_start, is_bad_command, read_alike, passed_behind, read_on, next_unfinished, command_holds, EventAlike, ReadAlike, EverySlot, states_from, held_more, read_same, flip_driver, targets_are, clean_tests, tests_fail, transfer_driver, event_facts, register_facts, SameGiven, SameDriver, both_drivers, view_after, Alike, RingAlike, held_same, named_still, erdp_says, erdp_within, reached_is_good, floors_grow, placed_targets}
 use Rattle.safety.proofs.WriteBeneath.{write_square}
 use Rattle.safety.proofs.BellBeneath.{command_square}
 use Rattle.safety.proofs.RungBeneath.{rung_ring, bell_square}
 use Rattle.safety.proofs.CommandBeneath.{command_event, command_after}
-use Rattle.safety.proofs.MiddleLaws.{read_alike, passed_behind, read_on, next_unfinished, command_holds, EventAlike, ReadAlike, EverySlot, SameStates, states_from, held_more, counted, read_same, flip_driver, targets_are}
+use Rattle.safety.proofs.HeldFurther.{SameStates, counted}
 use Rattle.safety.proofs.WriteBehind.{command_behind, RingRules, rules_behind, broken_none}
 use Rattle.safety.proofs.GivenBehind.{restored_behind}
 use Rattle.safety.proofs.CommandGood.{good_behind}
-use Rattle.safety.proofs.LowerLaws.{clean_tests, tests_fail, transfer_driver, event_facts, register_facts, SameGiven, SameDriver, both_drivers, view_after, Alike, RingAlike, held_same, named_still, erdp_says, erdp_within, reached_is_good}
 use Rattle.safety.proofs.CommandRow.{idle_behind, profile_behind, bindings_behind}
 use Rattle.safety.proofs.CommandMoves.{moves_behind}
-use Rattle.safety.proofs.FloorsGrow.{floors_grow}
-use Rattle.safety.proofs.PlacedTargets.{placed_targets}
 
 -- A register write beneath an event that isn't read yet: the two may change places
 
@@ -104,17 +101,7 @@ module _ (h : Header) where
       let driver : SameDriver (with_value k_read r v) l_read =
       both_drivers (with_value k_read r v) (counted h l) l_read (search (rules, with_value)) (read_same h l e) in
       let states_too : SameStates (with_value k_read r v) l_read = search rules in
-      record {
-        event = subst (λ x. lenient h x (Read e) ≡ []) (sym one) read.possible;
-        row = (
-          register_clean k_read r v (same.stopped ∙ ((clean_tests h k (Read e) may).0)) (register_still k k_read r v on (same.started ∙ on) facts.good)
-              (erdp_still k k_read r v on same.started same.dequeue (let reads = same.reads in omega arith) facts.erdp),
-          tt,
-        );
-        after = subst (λ x. HeldMore x (learned h (learned h k (Reg r v)) (Read e))) (sym two) (subst (λ x. HeldMore (with_value k_read r v) (learned h x (Read e))) (sym one)
-            (held_more (with_value k_read r v) l_read driver states_too (λ q. (read.after.rings q).floor) (λ q. (read.after.rings q).held)));
-        awake = refl;
-      }
+      search (rules, lenient, register_clean, clean_tests, register_still, erdp_still, learned, with_value, held_more)
 
 -- A declaration beneath an event that isn't read yet: the two may change places
 

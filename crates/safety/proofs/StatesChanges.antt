@@ -1,6 +1,9 @@
 -- What the success of a command changes keeps what is kept of endpoints, change by change
-use Rattle.safety.proofs.Words.{[], ◌≡◌, ◌≢◌, if◌then◌else◌, ◌∷◌, ℕ, Bool, true, false, List, Option, None, Some, refl, inl, inr, none-some, Holds, ceiling, Command, EndpointState, Off, Running, Stopped, Change, SlotGoesOn, DeviceLeft, Disables, Places, Stops, Resets, Header, IsHeader, shape_of, Known, on_ring, disabled, in_state, held_at_ceiling, changed_by, changed_by_all, EndpointsKeep, rules, arith}
-use Rattle.safety.proofs.LowerLaws.{ring_here, ring_elsewhere, change_keeps, fewer, at_pair, EndpointsStand, endpoints_same, OneEndpoint, one_stands, MayPlace, place_stands, some_ring}
+use Rattle.safety.proofs.LowerLaws.{[], ◌≡◌, ◌≢◌, if◌then◌else◌, ◌∷◌, ℕ, Bool, true, false, List, Option, None, Some, refl, inl, inr, none-some, Holds, ceiling, Command, EndpointState, Off, Running, Stopped, Change, SlotGoesOn, DeviceLeft, Disables, Places, Stops, Resets, Header, IsHeader, shape_of, Known, on_ring, disabled, in_state, held_at_ceiling, changed_by, changed_by_all, EndpointsKeep, rules, arith, at_pair, EndpointsStand, endpoints_same}
+use Rattle.safety.proofs.DriverRows.{ring_here, ring_elsewhere}
+use Rattle.safety.proofs.Endpoints.{change_keeps, fewer}
+use Rattle.safety.proofs.StatesOneEndpoint.{OneEndpoint, one_stands}
+use Rattle.safety.proofs.StatesPlaced.{MayPlace, place_stands, some_ring}
 
 -- an endpoint that is there, and isn't Running
 pub record RestsThere (e : EndpointState) : Type 0 where
@@ -35,10 +38,6 @@ module _ (h : Header) where
 
   -- ---- endpoints are disabled
 
-  disabled_stands : (k : Known) (s : ℕ) (which : ℕ → Bool) → EndpointsStand k → EndpointsStand (disabled h k s which)
-  unfolding disabled
-  disabled_stands k s which e = search (rules, none_left, off_left, fewer, state_left)
-
   -- ---- an endpoint's state is set
 
   module _ (k : Known) (s i r : ℕ) (state : EndpointState) (e : EndpointsStand k) (at : k.ring_of s i ≡ Some r) (on : state ≢ Off) where
@@ -60,19 +59,15 @@ module _ (h : Header) where
             (state_one k s i has.0 Stopped e has.1 (λ off. cc) (λ opened. absurd (fits.rests (e.open_runs s i has.0 has.1 opened))))
       ]
 
-  stop_stands_by : (k : Known) (s i : ℕ) (o : Option ℕ) → EndpointsStand k → k.endpoint_state s i ≢ Off → k.ring_of s i ≡ o → EndpointsStand (held_at_ceiling h (in_state h k s i Stopped) o)
-  unfolding held_at_ceiling
-  stop_stands_by k s i o e on at = grind (arith, e.off, in_state, ceiling, shape_of, one_stands, on_ring, held_one)
-
   -- ---- any change, and one after the other
 
   pub change_stands : (c : Command) (k : Known) (change : Change) → EndpointsKeep h k → EndpointsStand k → Fits k change → EndpointsStand (changed_by h c k change)
-  unfolding changed_by
+  unfolding changed_by disabled held_at_ceiling
   change_stands c k (SlotGoesOn s) keeps e fits = endpoints_same k (changed_by h c k (SlotGoesOn s)) refl refl (λ r. refl) e
   change_stands c k (DeviceLeft s) keeps e fits = endpoints_same k (changed_by h c k (DeviceLeft s)) refl refl (λ r. refl) e
-  change_stands c k (Disables s which) keeps e fits = disabled_stands k s which e
+  change_stands c k (Disables s which) keeps e fits = (search (rules, none_left, off_left, fewer, state_left))
   change_stands c k (Places s i p cycle state) keeps e fits = place_stands h c k s i p cycle state keeps e fits
-  change_stands c k (Stops s i) keeps e fits = stop_stands_by k s i (k.ring_of s i) e fits refl
+  change_stands c k (Stops s i) keeps e fits = (grind (arith, e.off, in_state, ceiling, shape_of, one_stands, on_ring, held_one))
   change_stands c k (Resets s i) keeps e fits = reset_stands k s i e fits
 
   pub changes_stand : IsHeader h → (c : Command) (k : Known) (all : List Change) → EndpointsKeep h k → EndpointsStand k → FitAll c k all → EndpointsStand (changed_by_all h c k all)

@@ -1,11 +1,8 @@
 -- A Command Completion Event keeps what is known of states
-use Rattle.safety.proofs.Words.{[], ◌≡◌, ◌==◌, if◌then◌else◌, ◌∙◌, ℕ, true, Option, None, Some, refl, sym, ap, cond_both, cond-true, and_parts, false≢true, same_Some, Block, code, slot, Spot, after, Reaches, Command, StopEndpoint, may_answer_slot, changes, Header, Config, IsHeader, shape_of, command_id, register_or_zero, Known, on_ring, command_at, next_command, succeeded, stop_ended, finished, completed, can_finish, CommandKeeps, DriverKeeps, ◌∷◌, Bool, List, rules, target, Stopped, is_off, Change, Places, Stops, ring_having, set_to, bound_to, moved_to, moved, pointed, disabled, in_state, held_at_ceiling, changed_by, changed_by_all, ◌≢◌, false, inl, inr, NoOp, EnableSlot, DisableSlot, AddressDevice, ConfigureEndpoint, EvaluateContext, ResetEndpoint, SetTrDequeue, ResetDevice, named_slot, Resets, RingsKeep, StillHolds, EndpointsKeep, ◌&&◌, nat_le, nat_lt, map, subst, eq-eqb, leb-false, ltb-true, cond-false, and_from, and_right, none-some, EndpointState, Off, Running, SlotGoesOn, DeviceLeft, Disables, placed_by_context, is_above_control, added_endpoints, is_dropped, context_pointer, context_cycle, is_bad_command, arith}
-use Rattle.safety.proofs.LowerLaws.{endpoints_of, rings_of, view_after, SeenStand, endpoints_part, slots_part, seen_part, endpoints_same, slots_same, EndpointsStand, SlotsStand, SlotStands, at_pair, IsPlaced, placed_is, pointed_on, on_is, some_ring, GetsRing, stops_slot, resets_slot, placed_leaves, SameSlot, changes_elsewhere, placed_of_slot, placed_all}
+use Rattle.safety.proofs.MiddleLaws.{[], ◌≡◌, ◌==◌, if◌then◌else◌, ◌∙◌, ℕ, true, Option, None, Some, refl, sym, ap, cond_both, cond-true, and_parts, false≢true, same_Some, Block, code, slot, Spot, after, Reaches, Command, StopEndpoint, may_answer_slot, changes, Header, Config, IsHeader, shape_of, command_id, register_or_zero, Known, on_ring, command_at, next_command, succeeded, stop_ended, finished, completed, can_finish, CommandKeeps, DriverKeeps, ◌∷◌, Bool, List, rules, target, Stopped, is_off, Change, Places, Stops, ring_having, set_to, bound_to, moved_to, moved, pointed, disabled, in_state, held_at_ceiling, changed_by, changed_by_all, ◌≢◌, false, inl, inr, NoOp, EnableSlot, DisableSlot, AddressDevice, ConfigureEndpoint, EvaluateContext, ResetEndpoint, SetTrDequeue, ResetDevice, named_slot, Resets, RingsKeep, StillHolds, EndpointsKeep, ◌&&◌, nat_le, nat_lt, map, subst, eq-eqb, leb-false, ltb-true, cond-false, and_from, and_right, none-some, EndpointState, Off, Running, SlotGoesOn, DeviceLeft, Disables, placed_by_context, is_above_control, added_endpoints, is_dropped, context_pointer, context_cycle, is_bad_command, arith, endpoints_of, rings_of, view_after, SeenStand, endpoints_part, slots_part, seen_part, endpoints_same, slots_same, EndpointsStand, SlotsStand, SlotStands, at_pair, IsPlaced, placed_is, pointed_on, on_is, some_ring, GetsRing, stops_slot, resets_slot, placed_leaves, SameSlot, changes_elsewhere, placed_of_slot, placed_all, RestsThere, changes_stand, slot_deconfigured, slot_reset, state_after, slot_enabled, slot_disabled, slot_addressed, slot_configured}
 use Rattle.safety.proofs.KeptRings.{CompletionFacts, next_unfinished, command_holds}
 use Rattle.safety.proofs.StatesFit.{Succeeds, succeeds_is, moving_rests, slot_there, no_slot_zero, success_fits}
 use Rattle.safety.proofs.StatesTransfer.{PartsStand}
-use Rattle.safety.proofs.StatesChanges.{RestsThere, changes_stand}
-use Rattle.safety.proofs.StatesOneSlot.{slot_deconfigured, slot_reset, state_after, slot_enabled, slot_disabled, slot_addressed, slot_configured}
 use Rattle.safety.proofs.SlotFrames.{KeepsRings}
 
 pub slots_as : (k l : Known) → SlotsStand k → ((t : ℕ) → SameSlot k l t) → SlotsStand l
@@ -138,17 +135,9 @@ module _ (h : Header) (is : IsHeader h) where
 
 -- Behind a completion no Stopped event is known: that of the finished Stop Endpoint was the only one
 module _ (h : Header) where
-  moved_seen : (k : Known) (o : Option ℕ) (p : ℕ) (cycle : Bool) → (moved h k o p cycle).stop_seen ≡ k.stop_seen
-  unfolding moved moved_to set_to on_ring
-  moved_seen k o p cycle = grind (arith, target, shape_of, k.ring)
-
-  held_seen : (k : Known) (o : Option ℕ) → (held_at_ceiling h k o).stop_seen ≡ k.stop_seen
-  unfolding held_at_ceiling on_ring
-  held_seen k o = grind arith
-
   change_seen : (c : Command) (k : Known) (change : Change) → (changed_by h c k change).stop_seen ≡ k.stop_seen
-  unfolding changed_by disabled in_state pointed bound_to
-  change_seen c k o = grind (arith, is_off, bound_to, ring_having, moved, moved_seen, held_seen, in_state, k.ring_of)
+  unfolding changed_by disabled in_state pointed bound_to moved moved_to set_to on_ring held_at_ceiling
+  change_seen c k o = grind (arith, is_off, bound_to, ring_having, moved, target, shape_of, in_state, k.ring_of)
 
   pub changes_seen : (c : Command) (k : Known) (all : List Change) → (changed_by_all h c k all).stop_seen ≡ k.stop_seen
   unfolding changed_by_all

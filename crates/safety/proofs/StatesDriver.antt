@@ -1,8 +1,6 @@
 -- Declarations, writes of memory and of registers keep what is known of states
-use Rattle.safety.proofs.Words.{[], ◌≡◌, ◌≢◌, ◌≤◌, ◌⊎◌, ◌∙◌, ℕ, List, Option, None, Some, option_and_then, slice_get, arith, refl, sym, ap, subst, inl, inr, ne_eqb, rules, cond-false, or_parts, false≢true, none-some, slice_get_within, Block, Shape, RingView, Declares, Writes, changed, floor_number, ceiling, cases_option, slice_get-append, given_count-writes, ceiling_held, ceiling_open, Command, SlotState, Disabled, Enabled, Configured, command_of, Header, Register, Sub, Write, Reg, IsHeader, shape_of, command_id, Known, command_at, with_device, with_word, written, command_given, taken_device, learned, names_disabled_slot, is_bad_command, lenient, StatesKeep, DriverKeeps}
-use Rattle.safety.proofs.EndpointHistories.{row_keeps}
-use Rattle.safety.proofs.LowerLaws.{ceiling_declares, endpoints_of, view_after, next_is, SlotsStand, StopsNext, endpoints_part, slots_part, seen_part, from_parts, endpoints_same, slots_same, seen_same}
-use Rattle.safety.proofs.RowFrames.{DeclarationLeaves, WriteLeaves, RegisterLeaves, declaration_leaves, write_leaves, written_view, register_leaves}
+use Rattle.safety.proofs.MiddleLaws.{[], ◌≡◌, ◌≢◌, ◌≤◌, ◌⊎◌, ◌∙◌, ℕ, List, Option, None, Some, option_and_then, slice_get, arith, refl, sym, ap, subst, inl, inr, ne_eqb, rules, cond-false, or_parts, false≢true, none-some, slice_get_within, Block, Shape, RingView, Declares, Writes, changed, floor_number, ceiling, cases_option, slice_get-append, given_count-writes, ceiling_held, Command, SlotState, Disabled, Enabled, Configured, command_of, Header, Register, Sub, Write, Reg, IsHeader, shape_of, command_id, Known, command_at, with_device, with_word, written, command_given, taken_device, learned, names_disabled_slot, is_bad_command, lenient, StatesKeep, DriverKeeps, row_keeps, ceiling_declares, endpoints_of, view_after, next_is, SlotsStand, StopsNext, endpoints_part, slots_part, seen_part, from_parts, endpoints_same, slots_same, seen_same, DeclarationLeaves, WriteLeaves, RegisterLeaves, declaration_leaves, write_leaves, written_view, register_leaves}
+use Rattle.segments.proofs.Named.{ceiling_open}
 use Rattle.safety.proofs.KeptClean.{CleanTaking, taking}
 
 -- the next command stays where it is, and no fewer may be finished
@@ -71,14 +69,9 @@ module _ (h : Header) where
 
   -- ---- a write of memory
 
-  -- which slots have a device context under lease
-  taken_by : (k : Known) (a w : ℕ) (o : Option (ℕ × ℕ)) (s : ℕ) → ((e : ℕ × ℕ) → o ≡ Some e → s ≢ e.0) → (with_device h (with_word h k a w) o).device s ≡ k.device s
-  unfolding with_device with_word
-  taken_by k a w o s others = grind (arith, cond-false, k.device, ne_eqb)
-
   no_more : (k : Known) (a w s : ℕ) → ((e : ℕ × ℕ) → option_and_then (taken_device k) (command_given h k a w) ≡ Some e → s ≢ e.0) → (learned h k (Write a w)).device s ≡ k.device s
-  unfolding learned written
-  no_more k a w s others = taken_by k a w (option_and_then (taken_device k) (command_given h k a w)) s others
+  unfolding learned written with_device with_word
+  no_more k a w s others = grind (arith, cond-false, k.device, ne_eqb)
 
   written_slots : (k : Known) (a w : ℕ) → lenient h k (Write a w) ≡ [] → SlotsStand k → SlotsStand (learned h k (Write a w))
   unfolding is_bad_command names_disabled_slot

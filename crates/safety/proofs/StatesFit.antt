@@ -1,7 +1,5 @@
 -- What the success of an unfinished command changes fits the endpoints
-use Rattle.safety.proofs.Words.{[], ◌≡◌, ◌≢◌, ◌≤◌, ◌∷◌, ◌∙◌, ℕ, nat_le, Bool, true, false, List, map, All, Some, is_some, arith, refl, sym, ap, get_or, leb-true, rules, list_any, and_parts, or_parts, false≢true, All-head, All-tail, Command, EnableSlot, DisableSlot, AddressDevice, ConfigureEndpoint, ResetEndpoint, StopEndpoint, SetTrDequeue, ResetDevice, SlotState, Disabled, EndpointState, Running, Halted, Stopped, Change, changes, placed_by_context, named_slot, named_endpoint, slot_success, endpoint_success, slot_meant, endpoint_meant, is_slot_enabled, can_succeed, added_endpoints, Header, IsHeader, is_ring, Known, changed_by, is_among, has_repeats, binding_in, binds, ring_bound, RingsKeep, StillHolds, is_bad_command, names_disabled_slot}
-use Rattle.safety.proofs.LowerLaws.{each_fails, any_of_map, added_above, ring_at, ReadyAt, ready_next, map_map, dropped, address_ready, all_ready, EndpointsStand, MayPlace, off_is}
-use Rattle.safety.proofs.StatesChanges.{RestsThere, FitAll}
+use Rattle.safety.proofs.MiddleLaws.{[], ◌≡◌, ◌≢◌, ◌≤◌, ◌∷◌, ◌∙◌, ℕ, nat_le, Bool, true, false, List, map, All, Some, is_some, arith, refl, sym, ap, get_or, leb-true, rules, list_any, and_parts, or_parts, false≢true, All-head, All-tail, Command, EnableSlot, DisableSlot, AddressDevice, ConfigureEndpoint, ResetEndpoint, StopEndpoint, SetTrDequeue, ResetDevice, SlotState, Disabled, EndpointState, Running, Halted, Stopped, Change, changes, placed_by_context, named_slot, named_endpoint, slot_success, endpoint_success, slot_meant, endpoint_meant, is_slot_enabled, can_succeed, added_endpoints, Header, IsHeader, is_ring, Known, changed_by, is_among, has_repeats, binding_in, binds, ring_bound, RingsKeep, StillHolds, is_bad_command, names_disabled_slot, each_fails, any_of_map, added_above, ring_at, ReadyAt, ready_next, map_map, dropped, address_ready, all_ready, EndpointsStand, MayPlace, off_is, RestsThere, FitAll}
 
 -- a command that can succeed
 pub record Succeeds (slots : ℕ → SlotState) (endpoints : ℕ → ℕ → EndpointState) (config n : ℕ) (c : Command) : Type 0 where
@@ -73,16 +71,5 @@ module _ (h : Header) (is : IsHeader h) where
   pub success_fits : (k : Known) (config n : ℕ) (c : Command) → k.slot_state 0 ≡ Disabled → RingsKeep h k → EndpointsStand k → is_bad_command h k c ≡ false → StillHolds h k c →
       Succeeds k.slot_state k.endpoint_state config n c → FitAll h c k (changes h.context_size k.memory n c)
   unfolding changes changed_by
-  success_fits k config n EnableSlot zero rings e good still may = (tt, tt)
-  success_fits k config n (DisableSlot s) zero rings e good still may = (tt, (tt, (tt, tt)))
-  success_fits k config n (AddressDevice s bsr a) zero rings e good still may =
-      (tt, ((search (rules, address_ready)), tt))
-  success_fits k config n (ConfigureEndpoint s false a) zero rings e good still may =
-      (tt, (tt, configure_fits k rings s a still (no_slot_zero k s zero (slot_there k (ConfigureEndpoint s false a) s good refl))))
-  success_fits k config n (ConfigureEndpoint s true a) zero rings e good still may = (tt, (tt, tt))
-  success_fits k config n (ResetEndpoint s i) zero rings e good still may =
-      let halted = resetting_halted s i (k.endpoint_state s i) may.endpoint in (record { on = λ off. cc; rests = λ runs. cc }, tt)
-  success_fits k config n (StopEndpoint s i) zero rings e good still may = let runs = stopping_runs s i (k.endpoint_state s i) may.endpoint in (λ off. cc, tt)
-  success_fits k config n (SetTrDequeue s i p cycle) zero rings e good still may = (dequeue_fits k s i p e (moving_rests s i p cycle (k.endpoint_state s i) may.endpoint), tt)
-  success_fits k config n (ResetDevice s) zero rings e good still may = (tt, (tt, tt))
-  success_fits k config n _ zero rings e good still may = tt
+  success_fits k config n z zero rings e good still may =
+      grind (arith, address_ready, configure_fits, no_slot_zero, slot_there, resetting_halted, stopping_runs, dequeue_fits, moving_rests)

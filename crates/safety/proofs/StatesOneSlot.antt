@@ -1,6 +1,5 @@
 -- One slot behind the success of a command that concerns it
-use Rattle.safety.proofs.Words.{◌≡◌, ◌≢◌, ◌⊎◌, ℕ, Bool, true, false, Option, None, Some, is_some, unwrap_or, refl, inl, inr, false≢true, none-some, Command, EnableSlot, DisableSlot, AddressDevice, ConfigureEndpoint, ResetDevice, SlotState, Disabled, Enabled, Default, Addressed, Configured, slot_success, rules, arith}
-use Rattle.safety.proofs.StatesParts.{SlotStands}
+use Rattle.safety.proofs.LowerLaws.{◌≡◌, ◌≢◌, ◌⊎◌, ℕ, Bool, true, false, Option, None, Some, is_some, unwrap_or, refl, inl, inr, false≢true, none-some, Command, EnableSlot, DisableSlot, AddressDevice, ConfigureEndpoint, ResetDevice, SlotState, Disabled, Enabled, Default, Addressed, Configured, slot_success, rules, arith, SlotStands}
 
 -- the state behind it
 abbrev pub state_after : Command → SlotState → SlotState

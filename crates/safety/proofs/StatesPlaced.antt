@@ -1,8 +1,6 @@
 -- An endpoint that is placed on a ring: what is kept of endpoints is kept
-use Rattle.safety.proofs.Words.{◌≡◌, ◌≢◌, ◌⊎◌, ◌∙◌, ℕ, Bool, true, false, Option, None, Some, refl, sym, ap, inl, inr, rules, cond-true, cond-false, none-some, same_Some, put_pair, Spot, number, Reaches, Holds, target, Command, EndpointState, Off, Running, is_off, Places, Header, shape_of, ring_having, Known, on_ring, set_to, bound_to, moved_to, moved, pointed, in_state, changed_by, EndpointsKeep, arith}
+use Rattle.safety.proofs.LowerLaws.{◌≡◌, ◌≢◌, ◌⊎◌, ◌∙◌, ℕ, Bool, true, false, Option, None, Some, refl, sym, ap, inl, inr, rules, cond-true, cond-false, none-some, same_Some, put_pair, Spot, number, target, Command, EndpointState, Off, Running, is_off, Places, Header, shape_of, ring_having, Known, on_ring, set_to, bound_to, moved_to, moved, pointed, in_state, changed_by, EndpointsKeep, arith, at_pair, EndpointsStand}
 use Rattle.safety.proofs.DriverRows.{ring_here, ring_elsewhere}
-use Rattle.safety.proofs.EndpointPut.{at_pair}
-use Rattle.safety.proofs.StatesParts.{EndpointsStand}
 use Rattle.safety.proofs.StatesOneEndpoint.{same_pair, one_stands}
 
 -- the ring at a pointer, which no endpoint has
@@ -40,17 +38,13 @@ pub on_is : (e : EndpointState) → e ≢ Off → is_off e ≡ false
 on_is o on = grind arith
 
 module _ (h : Header) where
-  set_other : (k : Known) (r : ℕ) (t : Spot) (q : ℕ) → q ≢ r → ((set_to h k r t).ring q).held ≡ (k.ring q).held
-  unfolding set_to
-  set_other k r t q other = search (rules, ring_elsewhere, on_ring, number)
-
   set_rest : (k : Known) (r : ℕ) (t : Spot) → ((set_to h k r t).endpoint_state ≡ k.endpoint_state) × ((set_to h k r t).ring_of ≡ k.ring_of)
   unfolding set_to on_ring
   set_rest k r t = (refl, refl)
 
   target_is : (k : Known) (r : ℕ) (o : Option Spot) → IsMoved k (moved_to h k r o) r
   unfolding moved_to set_to
-  target_is k r o = grind (arith, set_rest, none-some, ring_here, on_ring, number, set_other)
+  target_is k r o = grind (arith, set_rest, none-some, ring_here, on_ring, number, ring_elsewhere)
 
   pub pointed_off : (k : Known) (s i p r : ℕ) (cycle : Bool) → is_off (k.endpoint_state s i) ≡ true → ring_having h p ≡ Some r → IsBound k (pointed h k s i p cycle) s i r
   unfolding pointed bound_to moved

@@ -1,8 +1,6 @@
 -- A doorbell keeps what is known of states
-use Rattle.safety.proofs.Words.{[], ◌≡◌, ◌≢◌, ◌==◌, ◌&&◌, ◌||◌, ◌∙◌, ℕ, not, nat_lt, true, false, Option, None, Some, refl, sym, ap, subst, eq-eqb, rules, cond_both, cond-false, or_parts, or_cases, or_left, and_from, not-false, false≢true, put_pair, Shape, RingView, Opens, changed, is_step_given, is_way_given, given_count_same, ceiling_open, StopEndpoint, EndpointState, Running, changes, is_running, is_stopped, Header, Bell, IsHeader, shape_of, command_id, Known, on_ring, next_command, endpoint_rung, rung, learned, touches_endpoint, is_touched, is_bad_bell, lenient, StatesKeep, DriverKeeps, arith}
-use Rattle.safety.proofs.LowerLaws.{command_not_transfer, ring_here, ring_elsewhere, at_pair, unfinished_fails, endpoints_of, BellFacts, bell_facts, EndpointsStand, StopsNext, SeenStand, endpoints_part, slots_part, seen_part, from_parts, slots_same, OneEndpoint, OneSeen, one_stands, one_seen}
-use Rattle.safety.proofs.EndpointHistories.{row_keeps}
-use Rattle.safety.proofs.RowFrames.{BellLeaves, bell_leaves}
+use Rattle.safety.proofs.MiddleLaws.{[], ◌≡◌, ◌≢◌, ◌==◌, ◌&&◌, ◌||◌, ◌∙◌, ℕ, not, nat_lt, true, false, Option, None, Some, refl, sym, ap, eq-eqb, rules, cond_both, cond-false, or_parts, or_cases, or_left, and_from, not-false, false≢true, put_pair, Shape, RingView, Opens, changed, is_step_given, is_way_given, given_count_same, StopEndpoint, EndpointState, Running, changes, is_running, is_stopped, Header, Bell, IsHeader, shape_of, command_id, Known, on_ring, next_command, endpoint_rung, rung, learned, touches_endpoint, is_touched, is_bad_bell, lenient, StatesKeep, DriverKeeps, arith, command_not_transfer, ring_here, ring_elsewhere, at_pair, unfinished_fails, endpoints_of, BellFacts, bell_facts, EndpointsStand, StopsNext, SeenStand, endpoints_part, slots_part, seen_part, from_parts, slots_same, OneEndpoint, OneSeen, one_stands, one_seen, row_keeps, BellLeaves, bell_leaves}
+use Rattle.segments.proofs.Named.{ceiling_open}
 use Rattle.safety.proofs.KeptRings.{next_unfinished}
 use Rattle.safety.proofs.KeptCommands.{view_of, open_now}
 use Rattle.safety.proofs.StatesDriver.{ViewGoesOn, view_same, stops_on}
@@ -35,17 +33,7 @@ module _ (h : Header) where
         let l : Known = on_ring h k (command_id h) Opens in
         let same = opened k (command_id h) in
         let seen : SeenStand h k = seen_part h k d.states in
-        record {
-          command = λ s i is.
-              let stops : StopsNext h k s i = seen.command s i (ap (λ f. f s i) (sym same.4) ∙ is) in
-              stops_on h k l
-              (subst (λ v. ViewGoesOn (shape_of h (command_id h)) (k.ring (command_id h)) v) (sym (ring_here h k (command_id h) Opens))
-              (opens_open (shape_of h (command_id h)) (k.ring (command_id h)) (open_now h k (view_of h k d.command_ring) stops.below))) s i stops;
-          runs = λ s i is. ap (λ f. f s i) same.1 ∙ seen.runs s i (ap (λ f. f s i) (sym same.4) ∙ is);
-          held = λ s i r is at none.
-              let was : k.ring_of s i ≡ Some r = ap (λ f. f s i) (sym same.0) ∙ at in
-              seen.held s i r (ap (λ f. f s i) (sym same.4) ∙ is) was (ap (λ v. v.held) (sym (ring_elsewhere h k (command_id h) r Opens (not_command s i r was))) ∙ none);
-        }
+        search (rules, stops_on, shape_of, command_id, ring_here, opens_open, open_now, view_of, ring_elsewhere, not_command)
 
     -- ---- the doorbell of an endpoint
 

@@ -1,6 +1,5 @@
 -- A Transfer Event keeps what is known of states
-use Rattle.safety.proofs.Words.{◌≡◌, ◌≢◌, ◌+◌, ◌∙◌, ℕ, Bool, true, false, Option, None, Some, is_none, refl, ap, rules, and_parts, and_cases, or_parts, not-false, false≢true, none-some, put_pair, Block, code, slot, endpoint, is_success, is_halting, is_trb_error, is_stopping, Spot, number, after, Reaches, Holds, is_open, stopped_number, EndpointState, Off, Running, Halted, Error, is_running, Header, IsHeader, shape_of, command_id, Known, RingSpot, on_ring, event_at, passed, broken_off, stopped_at, transferred, transferred_at, transfer_read, is_in_profile, is_working, can_report, can_report_at, is_impossible_transfer, DriverKeeps}
-use Rattle.safety.proofs.LowerLaws.{by_code, ring_here, ring_elsewhere, at_pair, endpoints_of, LeavesSlots, event_ring_of, transfer_command, transfer_slots, EndpointsStand, SlotsStand, StopsNext, SeenStand, endpoints_part, slots_part, seen_part, stops_is, slots_same, OneEndpoint, OneSeen, one_stands, one_seen, none_is}
+use Rattle.safety.proofs.MiddleLaws.{◌≡◌, ◌≢◌, ◌+◌, ◌∙◌, ℕ, Bool, true, false, Option, None, Some, is_none, refl, ap, rules, and_parts, and_cases, or_parts, not-false, false≢true, none-some, put_pair, Block, code, slot, endpoint, is_success, is_halting, is_trb_error, is_stopping, Spot, number, after, Reaches, Holds, is_open, stopped_number, EndpointState, Off, Running, Halted, Error, is_running, Header, IsHeader, shape_of, command_id, Known, RingSpot, on_ring, event_at, passed, broken_off, stopped_at, transferred, transferred_at, transfer_read, is_in_profile, is_working, can_report, can_report_at, is_impossible_transfer, DriverKeeps, by_code, ring_here, ring_elsewhere, at_pair, endpoints_of, LeavesSlots, event_ring_of, transfer_command, transfer_slots, EndpointsStand, SlotsStand, StopsNext, SeenStand, endpoints_part, slots_part, seen_part, stops_is, slots_same, OneEndpoint, OneSeen, one_stands, one_seen, none_is}
 use Rattle.safety.proofs.StatesDriver.{view_same, stops_on}
 use Rattle.safety.proofs.StatesRung.{running_is}
 
@@ -31,10 +30,6 @@ module _ (h : Header) (k : Known) (e : EndpointsStand k) (seen : SeenStand h k) 
   unfolding passed
   passed_other t q other = ap (λ v. v.held) (ring_elsewhere h k r q (Reaches (after (shape_of h r) (number t))) other)
 
-  passed_only : (t : Spot) → OnlyThis (passed h k r t)
-  unfolding passed on_ring
-  passed_only t = search (rules, passed_other, ring_here, after, shape_of, number)
-
   broken_other : (t : Spot) (state : EndpointState) (q : ℕ) → q ≢ r → ((broken_off h k s i r t state).ring q).held ≡ (k.ring q).held
   unfolding broken_off
   broken_other t state q other = ap (λ v. v.held) (ring_elsewhere h (passed h k r t) r q (Holds (number t + 1)) other) ∙ passed_other t q other
@@ -43,25 +38,17 @@ module _ (h : Header) (k : Known) (e : EndpointsStand k) (seen : SeenStand h k) 
   unfolding broken_off passed on_ring
   broken_only t state on works = search (rules, at_pair, broken_other, none-some, ring_here, passed, number)
 
-  stopped_held : (t : Spot) → ((stopped_at h k s i r t).ring r).held ≡ Some (stopped_number (shape_of h r) (k.ring r) t)
-  unfolding stopped_at
-  stopped_held t = search (rules, stopped_number, shape_of, k.ring, ring_here, on_ring)
-
-  stopped_other : (t : Spot) (q : ℕ) → q ≢ r → ((stopped_at h k s i r t).ring q).held ≡ (k.ring q).held
-  unfolding stopped_at
-  stopped_other t q other = search (rules, stopped_number, shape_of, k.ring, ring_elsewhere, on_ring)
-
   stopped_only : (t : Spot) → Works k s i r → StopsNext h k s i → OnlyThis (stopped_at h k s i r t)
   unfolding stopped_at on_ring
-  stopped_only t works stops = search (rules, stopped_other, at_pair, none-some, stopped_held)
+  stopped_only t works stops = search (rules, ring_elsewhere, at_pair, none-some, stopped_number, shape_of, k.ring, ring_here, on_ring)
 
   must_only : (l : Known) (f : ℕ → ℕ → Bool) → OnlyThis l → OnlyThis (let m : Known = record l { must_move = f } in m)
   must_only l f only = search rules
 
   transferred_only : (c : ℕ) (t : Spot) → can_report h k c s i r t ≡ true → OnlyThis (transferred h k c s i r t)
-  unfolding transferred can_report
+  unfolding transferred can_report passed on_ring
   transferred_only c t can =
-      by_code OnlyThis (is_success c) (is_halting c) (is_trb_error c) (is_stopping c) _ _ _ _ _ _ _ _ can (λ _. passed_only t)
+      by_code OnlyThis (is_success c) (is_halting c) (is_trb_error c) (is_stopping c) _ _ _ _ _ _ _ _ can (λ _. search (rules, passed_other, ring_here, after, shape_of, number))
       (λ both. must_only (broken_off h k s i r t Halted) (put_pair k.must_move s i true) (broken_only t Halted (λ off. cc) (works_is k s i r (and_parts _ _ both).1)))
       (λ both. broken_only t Error (λ off. cc) (works_is k s i r (and_parts _ _ both).1))
       (λ all. let both = and_parts _ _ (and_parts _ _ all).0 in stopped_only t (works_is k s i r both.0) (stops_is h k s i both.1)) nothing_more

@@ -1,7 +1,7 @@
 -- Behind an event an endpoint whose doorbell does nothing stays one
-use Rattle.safety.proofs.Words.{[], ◌≡◌, ◌==◌, ◌&&◌, ◌∙◌, ℕ, not, true, false, Option, Some, refl, sym, ap, subst, inl, inr, eqb-true, eq-eqb, rules, list_any, cases_Bool, and_parts, or_from, and_from, not-false, false≢true, false_from_ne_true, Block, BlockKind, TransferEvent, CommandCompletion, kind, code, slot, endpoint, is_transfer_event, is_command_completion, Spot, number, after, Command, StopEndpoint, changes, touches, Header, Read, IsHeader, shape_of, Known, RingSpot, on_ring, event_at, next_command, passed, broken_off, transferred, transferred_at, transfer_read, event_read, learned, touches_endpoint, is_touched, is_in_profile, is_stopping_now, can_report, can_report_at, is_impossible_by_kind, lenient, some_of, any_of, DriverKeeps, IsIdleEndpoint, MayRing, arith}
-use Rattle.safety.proofs.LowerLaws.{EventFacts, event_facts, at_pair, event_same, StopsNext, stops_is, event_ring_of, chain, unfinished_fails}
-use Rattle.safety.proofs.MiddleLaws.{completion_facts, next_unfinished, reached_held, stop_touches, reported, TransferLeaves, transferred_leaves, listed_before, EndpointHolds}
+use Rattle.safety.proofs.UpperLaws.{[], ◌≡◌, ◌==◌, ◌&&◌, ◌∙◌, ℕ, not, true, false, Option, Some, refl, sym, ap, subst, inl, inr, eqb-true, eq-eqb, rules, list_any, cases_Bool, and_parts, or_from, and_from, not-false, false≢true, false_from_ne_true, Block, BlockKind, TransferEvent, CommandCompletion, kind, code, slot, endpoint, is_transfer_event, is_command_completion, Spot, number, after, Command, StopEndpoint, changes, Header, Read, IsHeader, shape_of, Known, RingSpot, on_ring, event_at, next_command, passed, broken_off, transferred, transferred_at, transfer_read, event_read, learned, touches_endpoint, is_touched, is_in_profile, is_stopping_now, can_report, can_report_at, is_impossible_by_kind, lenient, some_of, any_of, DriverKeeps, IsIdleEndpoint, MayRing, arith, EventFacts, event_facts, at_pair, event_same, StopsNext, stops_is, event_ring_of, chain, unfinished_fails, completion_facts, next_unfinished, reached_held, stop_touches, TransferLeaves, transferred_leaves, listed_before, EndpointHolds}
+use Rattle.commands.specs.Changes.{touches}
+use Rattle.safety.proofs.StatesTransfer.{reported}
 use Rattle.safety.proofs.UntouchedCompletion.{completion_holds}
 use Rattle.safety.proofs.RowRuns.{StillRingsLaw}
 

@@ -1,11 +1,8 @@
 -- The change of a Stop Endpoint's success: the endpoint is Stopped, and its ring held at its ceiling and inactive
-use Rattle.safety.proofs.Words.{◌≡◌, ◌≢◌, ℕ, false, Option, Some, None, refl, sym, ap, subst, inl, inr, rules, arith, cases_eq, false≢true, same_Some, put, Spot, Shape, ceiling, is_way_given, Command, Stopped, Stops, Header, shape_of, command_id, World, Known, RingState, state_of, RingMatches, BoundRing, EndpointRing, on_ring, changed_by, held_at_ceiling, in_state, RingView}
-use Rattle.controller_model.specs.Bindings as bindings
+use Rattle.safety.proofs.LowerLaws.{◌≡◌, ◌≢◌, ℕ, false, Option, Some, None, refl, sym, ap, subst, inl, inr, rules, arith, cases_eq, false≢true, same_Some, put, Spot, Shape, ceiling, is_way_given, Command, Stopped, Stops, Header, shape_of, command_id, World, Known, RingState, state_of, RingMatches, BoundRing, EndpointRing, on_ring, changed_by, held_at_ceiling, in_state, RingView, newest_still, put_at, put_off, StatesMatch, ChangeKeeps, none_keeps, both_keep}
 use Rattle.safety.proofs.NoWait.{ceiling_held}
-use Rattle.safety.proofs.RingGoesOn.{newest_still}
-use Rattle.safety.proofs.LookKinds.{put_at, put_off}
-use Rattle.safety.proofs.FinishChanges.{StatesMatch, ChangeKeeps, none_keeps, both_keep}
 use Rattle.safety.proofs.SlotChanges.{state_made}
+use Rattle.controller_model.specs.Bindings as bindings
 
 -- ---- one ring
 
@@ -50,21 +47,15 @@ module _ (h : Header) (k : Known) (w : World) (m : StatesMatch h k w) (s i r : �
       (subst (λ x. BoundRing (shape_of h r) k.ring_of (held_view (shape_of h r) (k.ring r)) x r) (sym state_here) (search (rules, held_matches))))
   stopped_here (inr free) = absurd (free.none s i had)
 
-  stopped_elsewhere : (q : ℕ) → q ≢ r → EndpointRing h k w q → EndpointRing h held rested q
-  stopped_elsewhere q other o = grind (arith, ring_elsewhere, state_elsewhere)
-
   stopped_ring : (q : ℕ) → q ≢ command_id h → EndpointRing h held rested q
   stopped_ring q not_command =
       elim (cases_eq q r) [
         | inl same ↦ subst (λ x. EndpointRing h held rested x) (sym same) (stopped_here (m.rings r apart))
-        | inr other ↦ stopped_elsewhere q other (m.rings q not_command)
+        | inr other ↦ grind (arith, ring_elsewhere, state_elsewhere)
       ]
 
-  lengths_still : (q : ℕ) → (held.ring q).lengths ≡ (k.ring q).lengths
-  lengths_still q = search (rules, held, ring_here, ring_elsewhere)
-
   held_keeps : ChangeKeeps h k held w rested
-  held_keeps = search (rules, held, rested, stopped_ring, apart, ring_here, lengths_still, ring_elsewhere, state_elsewhere)
+  held_keeps = search (rules, held, rested, stopped_ring, apart, ring_here, ring_elsewhere, state_elsewhere)
 
 -- the ring of an endpoint, if it has one
 module _ (h : Header) (k : Known) (w : World) (m : StatesMatch h k w) where

@@ -1,8 +1,6 @@
 -- What the rules say of a device context that a write takes
-use Rattle.safety.proofs.Words.{◌≡◌, ◌%◌, ◌<◌, ◌==◌, ◌||◌, ◌∙◌, ℕ, not, Bool, true, false, suc, zero, None, Some, is_none, is_some, arith, sym, ap, inl, inr, eqb-true, and_cases, or_parts, not-false, false≢true, overlap, Command, AddressDevice, named_slot, named_endpoint, named_context, is_disabled, device_context_bytes, input_context_bytes, Header, Dcbaap, Known, device_named, entry_of, is_bad_area, is_in_range_lease, is_soiled, DriverKeeps, has_bad_content, has_bad_context, has_bad_entry, is_bad_command, is_bad_device, names_disabled_endpoint, names_disabled_slot, takes_bad_device, rules}
-use Rattle.safety.proofs.GivenCommands.{content_good}
+use Rattle.safety.proofs.MiddleLaws.{◌≡◌, ◌%◌, ◌<◌, ◌==◌, ◌||◌, ◌∙◌, ℕ, not, Bool, true, false, suc, zero, None, Some, is_none, is_some, arith, sym, ap, inl, inr, eqb-true, and_cases, or_parts, not-false, false≢true, overlap, Command, AddressDevice, named_slot, named_endpoint, named_context, is_disabled, device_context_bytes, input_context_bytes, Header, Dcbaap, Known, device_named, entry_of, is_bad_area, is_in_range_lease, is_soiled, DriverKeeps, has_bad_content, has_bad_context, has_bad_entry, is_bad_command, is_bad_device, names_disabled_endpoint, names_disabled_slot, takes_bad_device, rules, content_good, some_is}
 use Rattle.safety.proofs.KeptClean.{CleanTaking}
-use Rattle.safety.proofs.KeptRegisters.{some_is}
 
 module _ (h : Header) (k : Known) where
   -- slot s takes the device context at d, with the input context at n

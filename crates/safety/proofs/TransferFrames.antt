@@ -1,6 +1,5 @@
 -- What a Transfer Event leaves as it is: all rings but that of its endpoint, and all slots
-use Rattle.safety.proofs.Words.{◌≡◌, ◌≢◌, ◌+◌, if◌then◌else◌, ◌∙◌, ℕ, true, Option, Some, refl, sym, ap, option_map, cond_both, none-some, same_Some, put_pair, Block, pointer, code, slot, endpoint, is_success, is_halting, is_trb_error, is_stopping, Spot, number, after, Reaches, Holds, named, stopped_number, Halted, Error, Header, IsHeader, shape_of, command_id, Known, RingSpot, on_ring, spot_on, event_at, passed, broken_off, stopped_at, transferred, transferred_at, transfer_read, EndpointsKeep, rules, arith}
-use Rattle.safety.proofs.RingIds.{command_not_transfer}
+use Rattle.safety.proofs.LowerLaws.{◌≡◌, ◌≢◌, ◌+◌, if◌then◌else◌, ◌∙◌, ℕ, true, Option, Some, refl, sym, ap, option_map, cond_both, none-some, same_Some, put_pair, Block, pointer, code, slot, endpoint, is_success, is_halting, is_trb_error, is_stopping, Spot, number, after, Reaches, Holds, named, stopped_number, Halted, Error, Header, IsHeader, shape_of, command_id, Known, RingSpot, on_ring, spot_on, event_at, passed, broken_off, stopped_at, transferred, transferred_at, transfer_read, EndpointsKeep, rules, arith, command_not_transfer}
 use Rattle.safety.proofs.DriverRows.{ring_elsewhere}
 
 module _ (h : Header) where
@@ -20,12 +19,8 @@ module _ (h : Header) where
     unfolding passed
     passed_off t = ring_elsewhere h k r q (Reaches (after (shape_of h r) (number t))) other
 
-    stopped_off : (s i : ℕ) (t : Spot) → (stopped_at h k s i r t).ring q ≡ k.ring q
-    unfolding stopped_at
-    stopped_off s i t = search (rules, on_ring, stopped_number, shape_of, k.ring, ring_elsewhere)
-
     transferred_off : (c s i : ℕ) (t : Spot) → (transferred h k c s i r t).ring q ≡ k.ring q
-    unfolding transferred broken_off
+    unfolding transferred broken_off stopped_at
     transferred_off c s i t =
         let halts : Known = record (broken_off h k s i r t Halted) { must_move = put_pair k.must_move s i true } in
         let fails : Known = broken_off h k s i r t Error in
@@ -36,7 +31,7 @@ module _ (h : Header) where
         (λ _. (ring_elsewhere h (passed h k r t) r q (Holds (number t + 1)) other ∙ passed_off t))
         (λ _. cond_both (is_trb_error c) fails stopped (λ l. l.ring q ≡ k.ring q)
         (λ _. (ring_elsewhere h (passed h k r t) r q (Holds (number t + 1)) other ∙ passed_off t))
-        (λ _. cond_both (is_stopping c) (stopped_at h k s i r t) k (λ l. l.ring q ≡ k.ring q) (λ _. stopped_off s i t) (λ _. refl))))
+        (λ _. cond_both (is_stopping c) (stopped_at h k s i r t) k (λ l. l.ring q ≡ k.ring q) (λ _. search (rules, on_ring, stopped_number, shape_of, k.ring, ring_elsewhere)) (λ _. refl))))
 
   at_off : (k : Known) (b : Block) (q : ℕ) (o : Option RingSpot) → ((at : RingSpot) → o ≡ Some at → q ≢ at.ring) → (transferred_at h k b o).ring q ≡ k.ring q
   unfolding transferred_at
@@ -57,14 +52,9 @@ module _ (h : Header) where
     pub was_bound : l.was_bound ≡ k.was_bound
     pub device : l.device ≡ k.device
 
-  transferred_slots : (k : Known) (c s i r : ℕ) (t : Spot) → LeavesSlots k (transferred h k c s i r t)
-  unfolding transferred passed broken_off stopped_at on_ring
-  transferred_slots k c s i r t =
-      search (rules, broken_off, put_pair, k.must_move, true, is_stopping, stopped_at, is_success, passed, is_halting, is_trb_error)
-
   at_slots : (k : Known) (b : Block) (o : Option RingSpot) → LeavesSlots k (transferred_at h k b o)
-  unfolding transferred_at
-  at_slots k b o = grind (arith, transferred_slots, code, slot, endpoint)
+  unfolding transferred_at transferred passed broken_off stopped_at on_ring
+  at_slots k b o = grind (arith, broken_off, put_pair, true, is_stopping, stopped_at, is_success, passed, is_halting, is_trb_error, code, slot, endpoint)
 
   pub transfer_slots : (k : Known) (b : Block) → LeavesSlots k (transfer_read h k b)
   unfolding transfer_read

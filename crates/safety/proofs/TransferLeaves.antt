@@ -1,7 +1,6 @@
 -- What a Transfer Event leaves as it is
-use Rattle.safety.proofs.Words.{◌≡◌, ◌≢◌, ℕ, true, false, rules, and_parts, or_left, or_right, or_from, false≢true, put_pair, Spot, EndpointState, is_off, is_running, Header, Known, on_ring, passed, broken_off, stopped_at, transferred, is_working, can_report}
+use Rattle.safety.proofs.LowerLaws.{◌≡◌, ◌≢◌, ℕ, true, false, rules, and_parts, or_left, or_right, or_from, false≢true, Spot, is_off, is_running, Header, Known, on_ring, passed, broken_off, stopped_at, transferred, is_working, can_report, at_pair}
 use Rattle.safety.proofs.DriverRows.{ring_here, ring_elsewhere}
-use Rattle.safety.proofs.EndpointPut.{at_pair}
 use Rattle.safety.proofs.Transfers.{chain}
 
 -- an event for the endpoint of slot s at index i, on ring r
@@ -18,24 +17,6 @@ pub record TransferLeaves (k l : Known) (s i r : ℕ) : Type 0 where
   pub rests : is_running (k.endpoint_state s i) ≡ false → (l.endpoint_state ≡ k.endpoint_state) × ((l.ring r).held ≡ (k.ring r).held)
 
 module _ (h : Header) (k : Known) (s i r : ℕ) where
-  idle_leaves : TransferLeaves k k s i r
-  idle_leaves = search rules
-
-  passed_leaves : (t : Spot) → TransferLeaves k (passed h k r t) s i r
-  unfolding passed on_ring
-  passed_leaves t = search (rules, ring_elsewhere, ring_here)
-
-  broken_leaves : (t : Spot) (state : EndpointState) → is_off state ≡ false → is_working k s i r ≡ true → TransferLeaves k (broken_off h k s i r t state) s i r
-  unfolding broken_off passed on_ring is_working
-  broken_leaves t state on works = search (rules, ring_elsewhere, on_ring, at_pair, is_off, false, false≢true, and_parts)
-
-  stopped_leaves : (t : Spot) → is_working k s i r ≡ true → TransferLeaves k (stopped_at h k s i r t) s i r
-  unfolding stopped_at on_ring is_working
-  stopped_leaves t works = search (rules, ring_elsewhere, on_ring, false≢true, and_parts)
-
-  must_leaves : (l : Known) → TransferLeaves k l s i r → TransferLeaves k (let m : Known = record l { must_move = put_pair k.must_move s i true } in m) s i r
-  must_leaves l leaves = search (rules, at_pair)
-
   pub transferred_leaves : (c : ℕ) (t : Spot) → can_report h k c s i r t ≡ true → TransferLeaves k (transferred h k c s i r t) s i r
-  unfolding transferred can_report
-  transferred_leaves c t can = search (rules, chain, passed_leaves, must_leaves, broken_leaves, and_parts, or_left, or_right, or_from, stopped_leaves, idle_leaves)
+  unfolding transferred can_report passed on_ring broken_off is_working stopped_at
+  transferred_leaves c t can = search (rules, chain, ring_elsewhere, ring_here, on_ring, at_pair, is_off, false, false≢true, and_parts, or_left, or_right, or_from)

@@ -1,6 +1,5 @@
 -- Behind an event the commands that stay unfinished were unfinished before, and the endpoints that they concern have the same rings
-use Rattle.safety.proofs.Words.{[], ◌≡◌, ◌≢◌, ◌==◌, if◌then◌else◌, ◌∷◌, ◌∙◌, ℕ, not, true, List, Option, None, Some, refl, sym, ap, inl, inr, rules, filter_map, cons_option, false≢true, and_parts, and_from, Block, BlockKind, TransferEvent, CommandCompletion, kind, code, slot, due_positions, due_from, Command, AddressDevice, EndpointState, Off, can_succeed, is_off, Header, Read, Config, IsHeader, command_id, is_ring, register_or_zero, Known, command_at, next_command, unfinished_positions, unfinished, completed, event_read, learned, was_stop_seen, moves_ring, is_being_moved, lenient, IsIn, some_of, any_of, from_filter, IsDriverRing, IsUnfinished, DriverKeeps, is_command_completion}
-use Rattle.safety.proofs.LowerLaws.{EventFacts, event_facts, command_is_ring, transfer_slots, Concerns, in_filter_map}
+use Rattle.safety.proofs.MiddleLaws.{[], ◌≡◌, ◌≢◌, ◌==◌, if◌then◌else◌, ◌∷◌, ◌∙◌, ℕ, not, true, List, Option, None, Some, refl, sym, ap, inl, inr, rules, filter_map, cons_option, false≢true, and_parts, and_from, Block, BlockKind, TransferEvent, CommandCompletion, kind, code, slot, due_positions, due_from, Command, AddressDevice, EndpointState, Off, can_succeed, is_off, Header, Read, Config, IsHeader, command_id, is_ring, register_or_zero, Known, command_at, next_command, unfinished_positions, unfinished, completed, event_read, learned, was_stop_seen, moves_ring, is_being_moved, lenient, IsIn, some_of, any_of, from_filter, IsDriverRing, IsUnfinished, DriverKeeps, is_command_completion, EventFacts, event_facts, command_is_ring, transfer_slots, Concerns, in_filter_map}
 use Rattle.safety.proofs.KeptRings.{CompletionFacts, completion_facts, next_unfinished}
 use Rattle.safety.proofs.CommandsFinished.{unfinished_before}
 use Rattle.safety.proofs.CommandsCompleted.{Changed, changed_by_code, may_answer}

@@ -1,7 +1,6 @@
 -- A Command Completion Event leaves an endpoint that no unfinished command touches
-use Rattle.safety.proofs.Words.{◌≡◌, ◌==◌, if◌then◌else◌, ◌∙◌, ℕ, true, false, Option, None, Some, refl, list_any, cond_both, Block, code, slot, Spot, after, Reaches, ContextSize, Command, changes, touches, Header, Config, IsHeader, shape_of, command_id, register_or_zero, Known, on_ring, command_at, next_command, succeeded, stop_ended, finished, completed, touches_endpoint, is_touched, can_finish, IsUnfinished, CommandKeeps, DriverKeeps, rules, arith}
-use Rattle.safety.proofs.LowerLaws.{endpoints_of, rings_of, endpoints_part, unfinished_fails}
-use Rattle.safety.proofs.MiddleLaws.{CompletionFacts, next_unfinished, command_holds, success_fits, reached_fields, reached_held, can_be, EndpointHolds, same_holds, both_hold, changes_hold}
+use Rattle.safety.proofs.UpperLaws.{◌≡◌, ◌==◌, if◌then◌else◌, ◌∙◌, ℕ, true, false, Option, None, Some, refl, list_any, cond_both, Block, code, slot, Spot, after, Reaches, ContextSize, Command, changes, Header, Config, IsHeader, shape_of, command_id, register_or_zero, Known, on_ring, command_at, next_command, succeeded, stop_ended, finished, completed, touches_endpoint, is_touched, can_finish, IsUnfinished, CommandKeeps, DriverKeeps, rules, arith, endpoints_of, rings_of, endpoints_part, unfinished_fails, CompletionFacts, next_unfinished, command_holds, success_fits, reached_fields, reached_held, can_be, EndpointHolds, same_holds, both_hold, changes_hold}
+use Rattle.commands.specs.Changes.{touches}
 
 -- which endpoints a command touches doesn't hang on the slot of its completion
 pub touches_any : (size : ContextSize) (memory : ℕ → ℕ) (n s i : ℕ) (c : Command) → list_any (touches s i) (changes size memory n c) ≡ list_any (touches s i) (changes size memory 0 c)

@@ -1,7 +1,6 @@
 -- The success of a command that doesn't touch an endpoint leaves its state, its ring, whether that must be moved, and where it is held
-use Rattle.safety.proofs.Words.{[], ◌≡◌, ◌≢◌, ◌==◌, ◌&&◌, ◌∷◌, ◌∙◌, ℕ, Bool, false, List, Option, Some, refl, sym, ap, inl, inr, eq-eqb, list_any, cases_Bool, false≢true, and_from, or_parts, ceiling, Command, EndpointState, Stopped, Change, Places, Stops, touches, is_off, Header, IsHeader, shape_of, Known, pointed, disabled, in_state, held_at_ceiling, changed_by, changed_by_all, EndpointsKeep, rules, arith}
-use Rattle.safety.proofs.LowerLaws.{ring_elsewhere, change_keeps, EndpointsStand, MayPlace, pointed_off, pointed_on, placed_is, is_off_of, some_ring, EndpointStays, untouched_stays}
-use Rattle.safety.proofs.StatesChanges.{Fits, FitAll, change_stands}
+use Rattle.safety.proofs.MiddleLaws.{[], ◌≡◌, ◌≢◌, ◌==◌, ◌&&◌, ◌∷◌, ◌∙◌, ℕ, Bool, false, List, Option, Some, refl, sym, ap, inl, inr, eq-eqb, list_any, cases_Bool, false≢true, and_from, or_parts, ceiling, Command, EndpointState, Stopped, Change, Places, Stops, is_off, Header, IsHeader, shape_of, Known, pointed, disabled, in_state, held_at_ceiling, changed_by, changed_by_all, EndpointsKeep, rules, arith, ring_elsewhere, change_keeps, EndpointsStand, MayPlace, pointed_off, pointed_on, placed_is, is_off_of, some_ring, EndpointStays, untouched_stays, Fits, FitAll, change_stands}
+use Rattle.commands.specs.Changes.{touches}
 
 -- the endpoint of slot s at index i is in its state, and its ring is held as before
 pub record EndpointHolds (k l : Known) (s i : ℕ) : Type 0 where

@@ -1,5 +1,6 @@
 -- A change that doesn't touch an endpoint leaves its state, which ring it has, and whether that must be moved
-use Rattle.safety.proofs.Words.{◌≡◌, ◌==◌, ◌&&◌, ◌∙◌, ℕ, Bool, false, Option, None, Some, refl, cond_both, cond-false, put_pair, Spot, target, Command, EndpointState, Off, Stopped, Change, Disables, Places, Stops, Resets, touches, is_off, Header, shape_of, ring_having, Known, on_ring, set_to, bound_to, moved_to, moved, pointed, disabled, in_state, held_at_ceiling, changed_by, arith}
+use Rattle.safety.proofs.Words.{◌≡◌, ◌==◌, ◌&&◌, ◌∙◌, ℕ, Bool, false, Option, None, Some, refl, cond_both, cond-false, put_pair, Command, EndpointState, Off, Stopped, Change, Disables, Places, Stops, Resets, is_off, Header, ring_having, Known, on_ring, set_to, bound_to, moved_to, moved, pointed, disabled, in_state, held_at_ceiling, changed_by, arith}
+use Rattle.commands.specs.Changes.{touches}
 
 pub record EndpointStays (k l : Known) (s i : ℕ) : Type 0 where
   pub state : l.endpoint_state s i ≡ k.endpoint_state s i
@@ -10,14 +11,10 @@ module _ (h : Header) (s i : ℕ) where
   stays : (k : Known) → EndpointStays k k s i
   stays k = record { state = refl; ring_of = refl; must_move = refl }
 
-  spot_stays : (k : Known) (r : ℕ) (o : Option Spot) → EndpointStays k (moved_to h k r o) s i
-  unfolding moved_to set_to on_ring
-  spot_stays k r o = grind arith
-
   moved_stays : (k : Known) (o : Option ℕ) (p : ℕ) (cycle : Bool) → EndpointStays k (moved h k o p cycle) s i
-  unfolding moved
+  unfolding moved moved_to set_to on_ring
   moved_stays k None p cycle = stays k
-  moved_stays k (Some r) p cycle = spot_stays k r (target (shape_of h r) (k.ring r) p cycle)
+  moved_stays k (Some r) p cycle = grind arith
 
   placed_stays : (k : Known) (t j : ℕ) (o : Option ℕ) (p : ℕ) (cycle : Bool) → (s == t && i == j) ≡ false → EndpointStays k (bound_to h k t j o p cycle) s i
   unfolding bound_to
@@ -39,20 +36,16 @@ module _ (h : Header) (s i : ℕ) where
   both_stay : (k l m : Known) → EndpointStays k l s i → EndpointStays l m s i → EndpointStays k m s i
   both_stay k l m a b = record { state = b.state ∙ a.state; ring_of = b.ring_of ∙ a.ring_of; must_move = b.must_move ∙ a.must_move }
 
-  held_stays : (k : Known) (o : Option ℕ) → EndpointStays k (held_at_ceiling h k o) s i
-  unfolding held_at_ceiling on_ring
-  held_stays k o = grind arith
-
   must_stays : (k l : Known) (t j : ℕ) (must : Bool) → (s == t && i == j) ≡ false → EndpointStays k l s i →
       EndpointStays k (let m : Known = record l { must_move = put_pair k.must_move t j must } in m) s i
   must_stays k l t j must apart a = record { state = a.state; ring_of = a.ring_of; must_move = cond-false (s == t && i == j) must (k.must_move s i) apart }
 
   pub untouched_stays : (c : Command) (k : Known) (change : Change) → touches s i change ≡ false → EndpointStays k (changed_by h c k change) s i
-  unfolding changed_by disabled
+  unfolding changed_by disabled held_at_ceiling on_ring
   untouched_stays c k (Disables t which) apart = record { state = cond-false (s == t && which i) Off (k.endpoint_state s i) apart; ring_of = cond-false (s == t && which i) None (k.ring_of s i) apart; must_move = refl }
   untouched_stays c k (Places t j p cycle e) apart =
       let l : Known = pointed h k t j p cycle in
       must_stays k (in_state h l t j e) t j false apart (both_stay k l (in_state h l t j e) (pointed_stays k t j p cycle apart) (in_state_stays l t j e apart))
-  untouched_stays c k (Stops t j) apart = both_stay k (in_state h k t j Stopped) (held_at_ceiling h (in_state h k t j Stopped) (k.ring_of t j)) (in_state_stays k t j Stopped apart) (held_stays (in_state h k t j Stopped) (k.ring_of t j))
+  untouched_stays c k (Stops t j) apart = both_stay k (in_state h k t j Stopped) (held_at_ceiling h (in_state h k t j Stopped) (k.ring_of t j)) (in_state_stays k t j Stopped apart) (grind arith)
   untouched_stays c k (Resets t j) apart = in_state_stays k t j Stopped apart
   untouched_stays c k _ apart = record { state = refl; ring_of = refl; must_move = refl }

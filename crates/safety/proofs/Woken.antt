@@ -1,7 +1,6 @@
 -- Two knowledges of which one is the other behind a doorbell of a ring that was held: the ring is open, the endpoints that have it run
-use Rattle.safety.proofs.Words.{◌≡◌, ◌≢◌, ℕ, Bool, true, false, rules, false≢true, put_pair, Spot, RingChange, Reaches, Opens, changed, EndpointState, Running, Header, shape_of, Known, on_ring}
+use Rattle.safety.proofs.LowerLaws.{◌≡◌, ◌≢◌, ℕ, Bool, true, false, rules, false≢true, put_pair, Spot, RingChange, Reaches, Opens, changed, EndpointState, Running, Header, shape_of, Known, on_ring, at_pair}
 use Rattle.safety.proofs.DriverRows.{ring_here, ring_elsewhere}
-use Rattle.safety.proofs.EndpointPut.{at_pair}
 
 -- r is the ring, S says which endpoints are woken with it
 pub record Woken (h : Header) (r : ℕ) (S : ℕ → ℕ → Bool) (k l : Known) : Type 0 where

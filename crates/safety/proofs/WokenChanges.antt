@@ -1,8 +1,7 @@
 -- What the success of a command changes, where it doesn't touch the endpoint that was woken: its ring stays woken
-use Rattle.safety.proofs.Words.{[], ◌≡◌, ◌≢◌, ◌==◌, ◌&&◌, if◌then◌else◌, ◌∷◌, ◌∙◌, ℕ, Bool, true, false, List, Option, None, Some, sym, ap, subst, eq-eqb, eqb-true, rules, list_any, false≢true, or_parts, and_parts, and_from, cond-false, same_Some, put, put_pair, Spot, number, ceiling, target, Command, EndpointState, Stopped, is_off, Change, SlotGoesOn, DeviceLeft, Disables, Places, Stops, Resets, slot_gone_on, touches, Header, IsHeader, shape_of, ring_having, Known, on_ring, set_to, bound_to, moved_to, moved, pointed, disabled, in_state, held_at_ceiling, changed_by, changed_by_all, EndpointsKeep}
+use Rattle.safety.proofs.MiddleLaws.{[], ◌≡◌, ◌≢◌, ◌==◌, ◌&&◌, if◌then◌else◌, ◌∷◌, ◌∙◌, ℕ, Bool, true, false, List, Option, None, Some, sym, ap, subst, eq-eqb, eqb-true, rules, list_any, false≢true, or_parts, and_parts, and_from, cond-false, same_Some, put, put_pair, Spot, number, ceiling, target, Command, EndpointState, Stopped, is_off, Change, SlotGoesOn, DeviceLeft, Disables, Places, Stops, Resets, slot_gone_on, Header, IsHeader, shape_of, ring_having, Known, on_ring, set_to, bound_to, moved_to, moved, pointed, disabled, in_state, held_at_ceiling, changed_by, changed_by_all, EndpointsKeep, change_keeps, EndpointsStand, MayPlace, untouched_stays, Woken, woken_reach, woken_elsewhere, woken_state, Fits, FitAll, change_stands}
+use Rattle.commands.specs.Changes.{touches}
 use Rattle.safety.proofs.AlikeChanges.{both_sides_if}
-use Rattle.safety.proofs.LowerLaws.{change_keeps, EndpointsStand, MayPlace, untouched_stays, Woken, woken_reach, woken_elsewhere, woken_state}
-use Rattle.safety.proofs.StatesChanges.{Fits, FitAll, change_stands}
 
 -- the endpoint of slot s at index i alone
 abbrev pub one_of : ℕ → ℕ → ℕ → ℕ → Bool
@@ -12,19 +11,15 @@ module _ (h : Header) (r s i : ℕ) where
   abbrev Awake : Known → Known → Type 0
   Awake k l = Woken h r (one_of s i) k l
 
-  set_woken : (k l : Known) → Awake k l → (q : ℕ) (t : Spot) → q ≢ r → Awake (set_to h k q t) (set_to h l q t)
-  unfolding set_to
-  set_woken k l w q t other = search (rules, woken_elsewhere, on_ring, woken_reach, number)
-
   bound_with : (m n : Known) → Awake m n → (t j q : ℕ) (f g : ℕ → ℕ → Option ℕ) (x y : ℕ → Bool) → g ≡ f → y ≡ x →
       Awake (let u : Known = record m { ring_of = put_pair f t j (Some q); was_bound = put x q true } in u)
       (let v : Known = record n { ring_of = put_pair g t j (Some q); was_bound = put y q true } in v)
   bound_with m n w t j q f g x y one two = search rules
 
   target_woken : (k l : Known) → Awake k l → (q : ℕ) (o : Option Spot) → q ≢ r → Awake (moved_to h k q o) (moved_to h l q o)
-  unfolding moved_to
+  unfolding moved_to set_to
   target_woken k l w q None other = w
-  target_woken k l w q (Some t) other = set_woken k l w q t other
+  target_woken k l w q (Some t) other = search (rules, woken_elsewhere, on_ring, woken_reach, number)
 
   moved_woken : (k l : Known) → Awake k l → (o : Option ℕ) (p : ℕ) (cycle : Bool) → ((q : ℕ) → o ≡ Some q → q ≢ r) → Awake (moved h k o p cycle) (moved h l o p cycle)
   unfolding moved
@@ -57,9 +52,6 @@ module _ (h : Header) (r s i : ℕ) where
   pub flipped : (t j : ℕ) → (s == t && i == j) ≡ false → one_of s i t j ≡ false
   flipped t j apart = search (rules, and_parts, false≢true, and_from, eq-eqb, eqb-true)
 
-  own_pair : (which : ℕ → Bool) (u t j : ℕ) → (s == u && which i) ≡ false → one_of s i t j ≡ true → (t == u && which j) ≡ false
-  own_pair which u t j apart same = search (rules, and_parts, eqb-true)
-
   pointed_woken : (k l : Known) → Awake k l → Owns k → (t j p : ℕ) (cycle : Bool) (e : EndpointState) → one_of s i t j ≡ false → MayPlace h k t j p e →
       Awake (pointed h k t j p cycle) (pointed h l t j p cycle)
   unfolding pointed
@@ -77,7 +69,7 @@ module _ (h : Header) (r s i : ℕ) where
   unfolding changed_by disabled in_state
   change_woken c k l w o (SlotGoesOn t) apart fits = search (rules, slot_gone_on)
   change_woken c k l w o (DeviceLeft t) apart fits = search (rules, put)
-  change_woken c k l w o (Disables u which) apart fits = search (rules, cond-false, own_pair)
+  change_woken c k l w o (Disables u which) apart fits = search (rules, cond-false, and_parts, eqb-true)
   change_woken c k l w o (Places t j p cycle e) apart fits =
       let x : Known = pointed h k t j p cycle in
       let y : Known = pointed h l t j p cycle in

@@ -1,8 +1,7 @@
 -- A Transfer Event that is possible where a ring is held: it is so where the ring was woken, and leaves it woken
-use Rattle.safety.proofs.Words.{◌≡◌, ◌≢◌, ◌≤◌, ◌&&◌, ◌||◌, if◌then◌else◌, ◌∙◌, ℕ, Bool, true, false, not, Option, None, Some, arith, refl, sym, ap, subst, ltb-true, lt-ltb, rules, false≢true, and_parts, and_from, or_parts, or_from, not-false, not_from_true, same_Some, option_map, Block, pointer, code, slot, endpoint, is_success, is_halting, is_trb_error, is_stopping, Spot, number, after, changed, given_count, ceiling, is_data_below, is_open, is_stop_spot, is_step_given, is_way_given, given_count_same, ceiling_open, EndpointState, Halted, Error, is_off, is_running, Header, shape_of, Known, RingSpot, on_ring, spot_on, event_at, passed, broken_off, stopped_at, transferred, transferred_at, transfer_read, is_in_profile, is_working, is_stopping_now, can_report, can_report_at, is_impossible_transfer}
-use Rattle.safety.proofs.AlikeTransfers.{both_sides, chain_from}
+use Rattle.safety.proofs.MiddleLaws.{◌≡◌, ◌≢◌, ◌≤◌, ◌&&◌, ◌||◌, if◌then◌else◌, ◌∙◌, ℕ, Bool, true, false, not, Option, None, Some, arith, refl, sym, ap, subst, ltb-true, lt-ltb, rules, false≢true, and_parts, and_from, or_parts, or_from, not-false, not_from_true, same_Some, option_map, Block, pointer, code, slot, endpoint, is_success, is_halting, is_trb_error, is_stopping, Spot, number, after, changed, given_count, ceiling, is_data_below, is_open, is_stop_spot, is_step_given, is_way_given, given_count_same, EndpointState, Halted, Error, is_off, is_running, Header, shape_of, Known, RingSpot, on_ring, spot_on, event_at, passed, broken_off, stopped_at, transferred, transferred_at, transfer_read, is_in_profile, is_working, is_stopping_now, can_report, can_report_at, is_impossible_transfer, both_sides, chain_from, SameDriver, event_ring_of, Woken, woken_floor, woken_reach, woken_elsewhere, woken_state, woken_move, woken_seen}
+use Rattle.segments.proofs.Named.{ceiling_open}
 use Rattle.safety.proofs.AlikeChanges.{both_sides_if}
-use Rattle.safety.proofs.LowerLaws.{SameDriver, event_ring_of, Woken, woken_floor, woken_reach, woken_elsewhere, woken_state, woken_move, woken_seen}
 use Rattle.safety.proofs.HeldFurther.{named_same}
 
 -- an event that is no success comes from an endpoint that works
@@ -36,22 +35,14 @@ module _ (h : Header) (r : ℕ) (S : ℕ → ℕ → Bool) (k l : Known) (w : Wo
 
   module _ (held : is_open (k.ring r) ≡ false) (within : ceiling (shape_of h r) (k.ring r) ≤ given_count (shape_of h r) (k.ring r))
       (mine : (s i : ℕ) → S s i ≡ true → k.ring_of s i ≡ Some r) (stopping : (s i : ℕ) → is_stopping_now h k s i ≡ true → is_stopping_now h l s i ≡ true) where
-    below_woken : (q : ℕ) (t : Spot) → is_data_below (ceiling (shape_of h q) (k.ring q)) t ≡ true → is_data_below (ceiling (shape_of h q) (l.ring q)) t ≡ true
-    unfolding is_step_given is_way_given is_data_below
-    below_woken q t below = search (rules, lt-ltb, ltb-true, ceiling_open, changed, given_count_same)
-
     -- an endpoint that works hasn't the ring that is held
     works_apart : (s i q : ℕ) → k.ring_of s i ≡ Some q → is_working k s i q ≡ true → (q ≢ r) × (S s i ≡ false)
     unfolding is_working
     works_apart s i q has works = search (rules, and_parts, false≢true, same_Some)
 
-    working_woken : (s i q : ℕ) → (q ≢ r) × (S s i ≡ false) → is_working k s i q ≡ true → is_working l s i q ≡ true
-    unfolding is_working
-    working_woken s i q apart works = search (rules, is_running, is_open, l.ring, w.state, k.endpoint_state, w.rings)
-
     report_woken : (c s i q : ℕ) (t : Spot) → k.ring_of s i ≡ Some q → can_report h k c s i q t ≡ true → can_report h l c s i q t ≡ true
-    unfolding can_report
-    report_woken c s i q t has can = search (rules, chain_from, below_woken, and_parts, and_from, working_woken, works_apart)
+    unfolding can_report is_step_given is_way_given is_data_below is_working
+    report_woken c s i q t has can = search (rules, chain_from, lt-ltb, ltb-true, ceiling_open, changed, given_count_same, and_parts, and_from, is_running, is_open, l.ring, w.state, k.endpoint_state, w.rings, works_apart)
 
     report_apart : (c s i q : ℕ) (t : Spot) → k.ring_of s i ≡ Some q → can_report h k c s i q t ≡ true → is_success c ≡ false → (q ≢ r) × (S s i ≡ false)
     unfolding can_report

@@ -1,5 +1,5 @@
 -- The words of std, of the crates below and of this crate's own definitions that its proofs cite, passed on by one file
-pub use Rattle.commands.specs.Changes.{Change, DeviceLeft, Disables, Places, Resets, SlotGoesOn, Stops, is_above_control, placed_by_context, slot_gone_on, touches}
+pub use Rattle.commands.specs.Changes.{Change, DeviceLeft, Disables, Places, Resets, SlotGoesOn, Stops, is_above_control, placed_by_context, slot_gone_on}
 unfoldable pub use Rattle.commands.specs.Changes.{changes}
 pub use Rattle.commands.specs.Command.{command_by_kind, command_of, exclude, is_stop_of, may_answer_slot, named_context, named_endpoint, named_slot, other_endpoint, same_slot}
 pub use Rattle.commands.specs.States.{endpoint_meant, endpoint_success, is_at_rest, is_disabled, is_off, is_running, is_slot_enabled, is_stopped, slot_meant, slot_success}
@@ -14,50 +14,75 @@ pub use Rattle.contexts.specs.Contexts.{context_cycle, context_pointer, device_c
 unfoldable pub use Rattle.contexts.specs.Contexts.{added_endpoints}
 pub use Rattle.contexts.specs.declared.size.ContextSize.{ContextSize}
 pub use Rattle.contexts.specs.declared.size.ContextSize.TheVariants.{Bytes32, Bytes64}
+pub use Rattle.controller_model.proofs.EndpointLemmas.{put_pair_same}
 pub use Rattle.controller_model.proofs.FirstFound.{first_at-found}
-unfoldable pub use Rattle.controller_model.specs.Bindings.{inactive, is_had_by_another, placed, placed_on, effect}
-unfoldable pub use Rattle.controller_model.specs.Looks.{command_begun, crossed, looked, looked_at, may_scribble, seen_by_look, taken, taken_on}
-unfoldable pub use Rattle.controller_model.specs.Posts.{can_post, is_last, is_stop_under_way, other_posted, posted, report_code, report_error, report_stop, report_success, reported, reported_on, stopped_with, with_reported, with_stopped}
-unfoldable pub use Rattle.controller_model.specs.Steps.{counted, is_scribbled, scribbled}
+pub use Rattle.controller_model.proofs.ReadLemmas.{read_made}
+pub use Rattle.controller_model.proofs.ScribbleLemmas.{any_in_range}
+unfoldable pub use Rattle.controller_model.specs.Bindings.{changed_by as world_changed_by, changed_by_all as world_changed_by_all, disabled as world_disabled, effect, effect as bindings_effect, has_one_of, in_state as world_in_state, inactive, is_had_by_another, placed, placed_on}
+pub use Rattle.controller_model.specs.DriverRows.{event_read as driver_event_read}
+unfoldable pub use Rattle.controller_model.specs.DriverRows.{activated, bell_row, declared as driver_declared, endpoint_bell, endpoint_bell as driver_endpoint_bell, register_row, row_done, run_or_stop as driver_run_or_stop, started_with, valued as driver_valued, with_dequeue}
+unfoldable pub use Rattle.controller_model.specs.Finishes.{ended, ended_with, finished as finish_finished, finished_as, passes_end, succeeded as finish_succeeded}
+unfoldable pub use Rattle.controller_model.specs.Looks.{command_begun, crossed, looked, looked_at, may_scribble, seen_by_look, taken as looks_taken, taken_on}
+unfoldable pub use Rattle.controller_model.specs.OnLiterals.{model_on_literals}
+unfoldable pub use Rattle.controller_model.specs.Posts.{can_post, is_last, is_stop_under_way, other_posted, posted, posted as posts_posted, report_code, report_error, report_stop, report_success, reported, reported_on, stopped_with, with_reported, with_stopped}
+pub use Rattle.controller_model.specs.Scenes.{scene_replayed}
+pub use Rattle.controller_model.specs.Steps.{NoHarm}
+unfoldable pub use Rattle.controller_model.specs.Steps.{counted, is_scribbled, made, made as steps_made, scribbled, while_running}
 pub use Rattle.event_ring.proofs.CountLemmas.{posted_in_order}
 pub use Rattle.event_ring.specs.EventRing.{AreInOrder, erdp_address, has_room, is_event_place, is_reached_within, position_from, table_bytes}
 pub use Rattle.guest_memory.specs.Memory.{put, put_pair}
 pub use Rattle.ownership_rules.proofs.Among.{IsIn, any_of, both_ways, from_filter, in_filter, some_of}
 unfoldable pub use Rattle.ownership_rules.specs.Areas.{is_bad_area, is_in_range_lease, is_soiled}
 pub use Rattle.ownership_rules.specs.Clean.{IsClean, IsLenient}
-unfoldable pub use Rattle.ownership_rules.specs.Commands.{has_bad_content, has_bad_context, is_bad_command, names_disabled_endpoint, names_disabled_slot, adds_streams, has_bad_entry, is_bad_added, is_bad_device, is_busy, streams_in, takes_bad_device, type_in}
+unfoldable pub use Rattle.ownership_rules.specs.Commands.{adds_streams, has_bad_content, has_bad_context, has_bad_entry, is_bad_added, is_bad_command, is_bad_device, is_busy, names_disabled_endpoint, names_disabled_slot, streams_in, takes_bad_device, type_in}
 unfoldable pub use Rattle.ownership_rules.specs.Declarations.{declaration_tests, is_driver_ring}
 unfoldable pub use Rattle.ownership_rules.specs.Doorbells.{doorbell_tests, is_bad_bell, is_bad_doorbell, is_touched, touches_endpoint}
 unfoldable pub use Rattle.ownership_rules.specs.Events.{can_finish, can_report, can_report_at, event_tests, is_impossible, is_impossible_by_kind, is_impossible_completion, is_impossible_transfer, is_in_profile, is_past_room, is_stopping_now, is_working, may_be_taken, was_stop_seen}
 pub use Rattle.ownership_rules.specs.Moves.{Binding}
-unfoldable pub use Rattle.ownership_rules.specs.Moves.{binding_in, binds, binds_ring, has_repeats, is_among, is_bad_binding, is_bad_dequeue, awaits_binding, drops, is_bad_move, is_bad_place, is_bad_stay, is_being_bound, is_being_moved, is_kept, is_placed, is_taken, moves_ring, ring_bound}
+unfoldable pub use Rattle.ownership_rules.specs.Moves.{awaits_binding, binding_in, binds, binds_ring, drops, has_repeats, is_among, is_bad_binding, is_bad_dequeue, is_bad_move, is_bad_place, is_bad_stay, is_being_bound, is_being_moved, is_kept, is_placed, is_taken, moves_ring, ring_bound}
+pub use Rattle.ownership_rules.specs.Older.{stricter}
+unfoldable pub use Rattle.ownership_rules.specs.OnLiterals.{rules_on_literals}
 pub use Rattle.ownership_rules.specs.OpenLeases.{DeviceContext, InputContext, Leased, Range, SegmentTable, SlotEntry, Use}
 unfoldable pub use Rattle.ownership_rules.specs.OpenLeases.{context_ranges, covers, device_ranges, entry_ranges, is_leased, is_the_controllers, lease_bytes, lease_start, open_leases, open_on, open_ranges, range_of_command, range_of_context, range_of_device, range_of_entry, segment_ranges, slots, table_range}
 pub use Rattle.ownership_rules.specs.Refusal.{Test, broken_of}
-unfoldable pub use Rattle.ownership_rules.specs.Registers.{is_bad_crcr, is_bad_erdp, is_bad_register, is_wrong_start, names_no_place, is_early_start, is_late_reset, is_no_first_block, is_unwritten, may_pass, register_tests}
+unfoldable pub use Rattle.ownership_rules.specs.Registers.{is_bad_crcr, is_bad_erdp, is_bad_register, is_early_start, is_late_reset, is_no_first_block, is_unwritten, is_wrong_start, may_pass, names_no_place, register_tests}
 unfoldable pub use Rattle.ownership_rules.specs.Rules.{broken, lenient, lenient_tests, tests}
 unfoldable pub use Rattle.ownership_rules.specs.Writes.{changes_owned, holds_of, on_crossing, on_position, some_command, some_crossed, some_given, write_tests}
 pub use Rattle.ownership_rules.specs.declared.refusal.Refusal.{Refusal}
-pub use Rattle.ownership_rules.specs.declared.refusal.Refusal.TheVariants.{AfterStop, BadDescriptor, BadErdp, BadRegister, ImpossibleEvent, NotDeclared, NotInProfile, RingFull}
-unfoldable pub use Rattle.ring_knowledge.specs.Completions.{bound_to, changed_by, changed_by_all, completed, disabled, finished, held_at_ceiling, in_state, moved, moved_to, pointed, set_to, stop_ended, succeeded}
+pub use Rattle.ownership_rules.specs.declared.refusal.Refusal.TheVariants.{AfterStop, BadErdp, BadRegister, NotDeclared, NotInProfile}
+pub use Rattle.ring_knowledge.proofs.Ranges.{none_each}
+pub use Rattle.ring_knowledge.proofs.StopSpots.{way_without}
+unfoldable pub use Rattle.ring_knowledge.specs.Completions.{bound_to, changed_by, changed_by as known_changed_by, changed_by_all, changed_by_all as known_changed_by_all, completed, disabled, disabled as known_disabled, finished, finished as known_finished, held_at_ceiling, in_state, in_state as known_in_state, moved, moved_to, pointed, set_to, stop_ended, succeeded, succeeded as known_succeeded}
 pub use Rattle.ring_knowledge.specs.Known.{Known}
 unfoldable pub use Rattle.ring_knowledge.specs.Known.{nothing}
 unfoldable pub use Rattle.ring_knowledge.specs.Learned.{event_read, known, learned}
 unfoldable pub use Rattle.ring_knowledge.specs.Registers.{endpoint_rung, register_written, run_or_stop, rung, valued}
 pub use Rattle.ring_knowledge.specs.Rings.{Crossing, Given, Position, RingSpot}
 unfoldable pub use Rattle.ring_knowledge.specs.Rings.{command_at, event_at, given_by, given_of, next_command, on_ring, spot_on, unfinished, unfinished_positions}
-unfoldable pub use Rattle.ring_knowledge.specs.Transfers.{broken_off, passed, stopped_at, transfer_read, transferred, transferred_at}
+unfoldable pub use Rattle.ring_knowledge.specs.Transfers.{broken_off, passed, passed as transfers_passed, stopped_at, transfer_read, transferred, transferred_at}
 unfoldable pub use Rattle.ring_knowledge.specs.Writes.{command_given, device_named, entry_of, no_device, taken_device, with_device, with_word, written}
-pub use Rattle.safety.specs.Beneath.{HeldMore, IsHeldMore, IsIdleEndpoint, MayRing, MoreLaw, RingHeldMore, Square, SquareLaw, is_idle, is_open_if}
-pub use Rattle.safety.specs.EndpointsKeep.{EndpointsKeep, is_transfer_ring}
+pub use Rattle.safety.specs.Beneath.{HeldMore, IsHeldMore, IsIdleEndpoint, MayRing, MoreLaw, Square, SquareLaw, is_idle, is_open_if}
+pub use Rattle.safety.specs.EndpointsKeep.{EndpointsKeep, IsTransferRing as IsTransferTest, is_transfer_ring}
 pub use Rattle.safety.specs.Headline.{Headline, IsHarmless}
 pub use Rattle.safety.specs.Invariant.{ArePossible, Ended, Runs, all_read}
 pub use Rattle.safety.specs.Keeps.{CommandKeeps, CommandRingKeeps, CommandRingNamed, DeviceKeeps, DriverKeeps, IsDriverRing, IsTransferRing, IsUnfinished, MovesIf, StatesKeep, Stays, StaysIf, Unstarted}
 pub use Rattle.safety.specs.KeptHistories.{IsDriverRow, MayRead, MayReadAll, StillReads}
 pub use Rattle.safety.specs.KeptStep.{CommandsKeep, DevicesKeep, KeptByRestoring, KeptByRows}
+pub use Rattle.safety.specs.LazyRuns.LateEvents.{IsTimely, is_late_row, is_report_of_success}
+unfoldable pub use Rattle.safety.specs.LazyRuns.LateEvents.{is_held_ring, is_late}
+pub use Rattle.safety.specs.LazyRuns.Law.{AllAreRead, AreAtFloors, ContainsAll, FewSteps, GoesSoFar, LazyLaw, scene_with}
+pub use Rattle.safety.specs.LazyRuns.Lazy.{further as lazy_further}
+unfoldable pub use Rattle.safety.specs.LazyRuns.Lazy.{behind_taken, brought, brought as lazy_brought, command_taken, further, goals, goals as lazy_goals, lazy_run, lazy_steps, looks_to, open_goals, pointers_after, pointers_at, pointers_for, post_of, report_goals, spots_before, steps_before, steps_for, stop_goal, stopped_goals, taken_up_to}
+unfoldable pub use Rattle.safety.specs.LazyRuns.Needs.{begins_anew, ends_need, is_placed_by, is_placed_by_all, need, number_behind, number_needed, number_reported, ring_placed}
+unfoldable pub use Rattle.safety.specs.LazyRuns.OnLiterals.{lazy_on_literals}
 pub use Rattle.safety.specs.Matches.{Agrees, BoundRing, CommandMatches, EndpointRing, FreeRing, IsUnchanged, Matches, Newest, NotStarted, RingMatches, RingState, TakenCommand, UnderWayMatches, Unreported, state_of}
 pub use Rattle.safety.specs.Placings.{AreFree, MayChange, MayChangeAll, MayFinish, MayPoint, MovesOn, StillHolds}
 pub use Rattle.safety.specs.Restoring.{AreRestored, EndpointRestored, IsRestoring, KeepsPassed, MayCome, MovesRestored}
+pub use Rattle.safety.specs.RingChanges.Changes.{IsComing}
+unfoldable pub use Rattle.safety.specs.RingChanges.Changes.{emptied, forgotten, is_bad_free, is_bad_ring, is_bad_segment, is_had, shows_first_lap, with_ring, without_ring}
+pub use Rattle.safety.specs.RingChanges.Histories.{AreKept, FitsFields, IsKept, RingsHeadline, Scene, header_after, header_now, known_after, known_now, row_made, row_next, scene_reached, step_made}
+pub use Rattle.safety.specs.RingChanges.Withdrawals.{restored}
+unfoldable pub use Rattle.safety.specs.RingChanges.Withdrawals.{has_stopped, is_bad_withdraw, is_left, restored_on, rests_with, ring_moved, ring_restored, some_flips, without_descriptor}
 pub use Rattle.safety.specs.RingsKeep.{PassesNoMore, RingKept, RingsKeep, RingsKept}
 pub use Rattle.safety.specs.Stands.{EventsStand, Stands, touches_events}
 pub use Rattle.segments.proofs.Crossings.{crossed_link, crosses, crossing_positive, cycle_of-crossed, is_crossing-lap, link_address-lap, link_address_is, link_target-crossed}
@@ -69,19 +94,21 @@ pub use Rattle.segments.proofs.GivenCount.{given_below, given_count_grows, given
 pub use Rattle.segments.proofs.Giving.{IsCrossingDue, crossing_due_from, crossing_due_is, due_from, due_is, gives_crossing_from, gives_crossing_is, gives_from, gives_is}
 pub use Rattle.segments.proofs.InsideLemmas.{rings_apart, touches-word}
 pub use Rattle.segments.proofs.MemoryWords.{put_elsewhere, put_here}
-pub use Rattle.segments.proofs.MoveTargets.{between, move_target}
+pub use Rattle.segments.proofs.MoveTargets.{move_target}
 pub use Rattle.segments.proofs.MovesStay.{is_border-push, move-declares, move-writes, move_more, placement_still}
-pub use Rattle.segments.proofs.Named.{IsAhead, below_is, ceiling_held, ceiling_open, ceiling_within, found_is, named_ahead, target_ahead}
+pub use Rattle.segments.proofs.Named.{IsAhead, below_is, ceiling_held, ceiling_within, found_is, named_ahead, target_ahead}
 pub use Rattle.segments.proofs.NamedSpots.{IsNamed, named_spot-Some, named_spot-is, named_spot-near}
 pub use Rattle.segments.proofs.NewRing.{new_ring_keeps}
 pub use Rattle.segments.proofs.OneGiving.{gives_one, positions_given-one}
+pub use Rattle.segments.proofs.PlaceAtLemmas.{is_in-parts}
 pub use Rattle.segments.proofs.Positions.{address_aligned, address_ends, address_of-lap, cycle_of-first, cycle_of_bit, cycle_of_flips, place_count_pos, same_in_lap, same_place_of}
 pub use Rattle.segments.proofs.ReachedSpots.{after_reached, move_reached, number-after, stop_spot_reached, stopped_within}
 pub use Rattle.segments.proofs.Reaching.{crossed_due, floor_given, given_count_declared, given_count_near, holds_and_reaches_keeps, holds_keeps, kept_cycle, opens_keeps, reached_given, reaches_and_holds_keeps, reaches_keeps}
-pub use Rattle.segments.proofs.Search.{cases_option}
+pub use Rattle.segments.proofs.Search.{cases_option, position-None}
 pub use Rattle.segments.proofs.ShapeFacts.{shape_facts}
-pub use Rattle.segments.proofs.SpotOrder.{next_is_spot, next_later, next_least, rank_least, rank_most, same_spot, spot_address-after, spot_cycle-after}
+pub use Rattle.segments.proofs.SpotOrder.{data_not_link, next_is_spot, next_later, next_least, rank_least, rank_most, same_rank, same_spot, spot_address-after, spot_cycle-after}
 pub use Rattle.segments.proofs.StepFacts.{GivesMore, step_is, step_more, whole_is, whole_more}
+pub use Rattle.segments.proofs.Withdrawing.{length-no_ops, restores_keeps, split_border, withdraws_keeps}
 pub use Rattle.segments.proofs.Writing.{given_count-writes, writes_keeps, writes_more}
 unfoldable pub use Rattle.segments.specs.Ceiling.{ceiling, given_count, is_data_below, is_open, is_step_given, is_stop_spot, is_way_given, named, stopped_number}
 pub use Rattle.segments.specs.Descriptors.{DeclaredBlock, no_ops, split_at}
@@ -89,19 +116,21 @@ unfoldable pub use Rattle.segments.specs.Descriptors.{declared_at, is_border, le
 pub use Rattle.segments.specs.Givings.{same}
 unfoldable pub use Rattle.segments.specs.Givings.{descriptor_length, flips_passed, has_no_room, interrupts, is_declared_as, is_not_declared, is_not_restored, is_not_whole, is_other_than_declared, is_wrong_link, leads_wrong, unrestored}
 unfoldable pub use Rattle.segments.specs.Moves.{is_move, is_placement, is_reached, is_target, may_move_to, spots_between, target}
-pub use Rattle.segments.specs.Places.{address_of, cycle_of, data_places, is_crossing, is_in, is_inside, link_address, link_crossed, link_target, overlap, place_count, segment_has, toggles}
+pub use Rattle.segments.specs.Places.{address_of, cycle_of, data_places, is_crossing, is_in, is_inside, link_address, link_crossed, link_target, overlap, place_count, segment_has, toggles, touches}
 pub use Rattle.segments.specs.RingKeeps.{IsRestored, IsShownTo, MayDeclare, MayReach, MayWrite, RingKeeps}
-pub use Rattle.segments.specs.RingView.{Declares, Holds, Opens, Reaches, Restores, RingChange, RingView, Withdraws, Writes, changed, declared, floor_number, gives, gives_crossing, is_crossing_due, is_due, is_handed_over, new_ring}
+pub use Rattle.segments.specs.RingView.{Declares, Holds, Opens, Reaches, Restores, RingChange, RingView, Withdraws, Withdraws as RingWithdraws, Writes, changed, declared, floor_number, gives, gives_crossing, is_crossing_due, is_due, is_handed_over, new_ring}
 unfoldable pub use Rattle.segments.specs.RingView.{crossings_given, due_crossings, due_positions, leased_crossings, leased_positions, positions_given}
 pub use Rattle.segments.specs.Shape.{IsShape, is_shape, rings_overlap, segments_overlap}
 pub use Rattle.segments.specs.ShapeValue.{Shape}
-pub use Rattle.segments.specs.Spots.{IsSpot, after, is_spot, named_spot, number, rank, spot_address, spot_cycle}
+pub use Rattle.segments.specs.Spots.{IsSpot, after, is_spot, named_spot, next, number, rank, spot_address, spot_cycle, spots_from}
+pub use Rattle.segments.specs.declared.segment.Segment.{Segment}
 pub use Rattle.segments.specs.declared.spot.Spot.{Spot}
 pub use Rattle.segments.specs.declared.spot.Spot.TheVariants.{Data, Link}
+pub use Rattle.std.proofs.Common.{All, Bool, Contains, List, None, Option, Some, [], add-zero, ap, append-nil, append_assoc, arith, cond, drop, drop-drop, eq-eqb, eqb-true, false, filter, find, get_or, if◌then◌else◌, inl, inr, is_none, is_some, le-leb, le-ltb, leb-false, leb-true, length, length-append, length-drop, lt-ltb, ltb-false, ltb-true, map, max, min, mod-lt, nat_le, nat_lt, ne_eqb, not, option_and_then, position, refl, reverse, rules, slice_get, slice_index, subst, suc, sum, sym, true, unwrap_or, zero, ℕ, ◌%◌, ◌&&◌, ◌*◌, ◌++◌, ◌+◌, ◌-◌, ◌/◌, ◌<◌, ◌==◌, ◌^◌, ◌||◌, ◌∙◌, ◌∷◌, ◌≡◌, ◌≢◌, ◌≤◌, ◌⊎◌}
 pub use Rattle.std.proofs.Math.Nat.{mod-eq_of_lt}
 pub use Rattle.std.proofs.Math.Path.{fun_ext}
 pub use Rattle.std.proofs.lemmas.Bool.{and_cases, and_from, and_left, and_parts, and_right, cases_Bool, cases_eq, cases_lt, cond-false, cond-true, cond_both, eqb-false, false_from_ne_true, false≢true, lt-leb, not-false, not-true, not_from_false, not_from_true, or_cases, or_from, or_left, or_parts, or_right}
-pub use Rattle.std.proofs.lemmas.List.{drop_all, get_or-append_right, get_or-map, length-map, reverse-append}
+pub use Rattle.std.proofs.lemmas.List.{drop_all, get_or-append_right, get_or-map, length-map, length-reverse, reverse-append, reverse-reverse}
 pub use Rattle.std.proofs.lemmas.List.Elements.{All-append, All-cons, All-contains, All-filter, All-get_or, All-head, All-nil, All-push, All-tail, All-weaker}
 pub use Rattle.std.proofs.lemmas.List.Folds.{Any-from_list_any, find-append, list_any-append, list_any_at}
 pub use Rattle.std.proofs.lemmas.List.FromFn.{get_or-map-range_with_len, length-map-range_with_len, map-range_with_len_more}
@@ -112,7 +141,7 @@ pub use Rattle.std.proofs.lemmas.Option.{cond_some, get_or_from_slice_get, none-
 pub use Rattle.std.specs.List.{cons_option, filter_map, flat_map, list_all, list_any, range_with_len}
 pub use Rattle.std.specs.Option.{option_map, option_or}
 pub use Rattle.traces.specs.Header.{IsHeader, clash, id_of, id_or_none, is_command_kind, is_driver_kind, is_event_kind, is_ring, is_transfer_kind, may_stand_together, ring_with, shape_or}
-unfoldable pub use Rattle.traces.specs.Header.{command_id, command_ring, driver_rings, event_ring, event_shape, event_size, ring_having, shape_of, some_ring, touches_ring}
+unfoldable pub use Rattle.traces.specs.Header.{command_id, command_ring, driver_rings, event_ring, event_shape, event_size, ring_having, shape_of, touches_ring}
 pub use Rattle.traces.specs.Register.{base_address, command_abort, command_stop, register_or_zero, reset_bit, ring_cycle_state, run_bit, same_register, with_register}
 pub use Rattle.traces.specs.Rows.{IsRow, IsStep}
 pub use Rattle.traces.specs.declared.header.Header.{Header}
@@ -123,12 +152,15 @@ pub use Rattle.traces.specs.declared.row.Row.{Row}
 pub use Rattle.traces.specs.declared.row.Row.TheVariants.{Bell, Read, Reg, Sub, Write}
 pub use Rattle.traces.specs.declared.step.Step.{Step}
 pub use Rattle.traces.specs.declared.step.Step.TheVariants.{Finish, Look, NextRow, Other, Report, Scribble}
+pub use Rattle.traces.specs.declared.trace_row.TraceRow.{TraceRow}
+pub use Rattle.traces.specs.declared.trace_row.TraceRow.TheVariants.{Comes, Goes, Plain}
+pub use Rattle.traces.specs.declared.version.Version.TheVariants.{One, Three}
 pub use Rattle.trb.proofs.BlockLemmas.{cycle-with_cycle, endpoint-with_cycle, is_set-with_cycle, kind-with_cycle, slot-with_cycle}
 pub use Rattle.trb.specs.Bits.{is_set}
 pub use Rattle.trb.specs.Block.{IsBlock, aligned, block_at, code, cycle, endpoint, kind, pointer, same_words, slot, with_cycle, word}
 pub use Rattle.trb.specs.CompletionCode.{is_halting, is_stopping, is_success, is_transfer_code, is_trb_error}
-pub use Rattle.trb.specs.Descriptor.{has_left_out_field, is_bad_descriptor, is_badly_formed, is_command_left_out, is_left_out, is_no_command}
-pub use Rattle.trb.specs.Kind.{is_command, is_command_completion, is_event, is_left_out_command, is_link, is_other_event, is_transfer, is_transfer_event}
+pub use Rattle.trb.specs.Descriptor.{is_bad_descriptor, is_badly_formed, is_command_left_out, is_left_out, is_no_command}
+pub use Rattle.trb.specs.Kind.{is_command_completion, is_event, is_link, is_other_event, is_transfer, is_transfer_event}
 pub use Rattle.trb.specs.declared.block.Block.{Block}
 pub use Rattle.trb.specs.declared.kind.BlockKind.{BlockKind}
 pub use Rattle.trb.specs.declared.kind.BlockKind.TheVariants.{CommandCompletion, TransferEvent}
@@ -136,25 +168,9 @@ pub use Rattle.trb.specs.declared.ring_kind.RingKind.{RingKind}
 pub use Rattle.trb.specs.declared.ring_kind.RingKind.TheVariants.{Cmd, Evt, Xfer}
 pub use Rattle.world_state.specs.Harms.{IsSafe}
 unfoldable pub use Rattle.world_state.specs.Harms.{harm_of, harms, has_changed_context, has_other_words, is_changed_since, is_context_changed, is_end, is_inside_descriptor, is_out_of_order, is_right_place, waits}
-unfoldable pub use Rattle.world_state.specs.Takes.{first_at, is_as_declared, is_place, next_take, takes_of, unreported, was_placed, declared_next}
+unfoldable pub use Rattle.world_state.specs.Takes.{declared_next, first_at, is_as_declared, is_place, next_take, takes_of, unreported, was_placed}
 pub use Rattle.world_state.specs.World.{Placed, RingEvent, Took, UnderWay, World}
 unfoldable pub use Rattle.world_state.specs.World.{opening, stored, stored_block}
 pub use Rattle.world_state.specs.declared.harm.Harm.{Harm}
 pub use Rattle.world_state.specs.declared.harm.Harm.TheVariants.{InputContextChanged, LooksOutside, PostsOverUnread, TakenOtherWords, TakenOutOfOrder, WaitsInsideDescriptor}
-pub use Rattle.std.proofs.Common.{All, Bool, Contains, List, None, Option, Some, [], add-zero, ap, append-nil, append_assoc, arith, cond, drop, drop-drop, eq-eqb, eqb-true, false, filter, find, get_or, if◌then◌else◌, inl, inr, is_none, is_some, le-leb, le-ltb, leb-false, leb-true, length, length-append, length-drop, lt-ltb, ltb-false, ltb-true, map, min, mod-lt, nat_le, nat_lt, ne_eqb, not, option_and_then, position, refl, reverse, rules, slice_get, slice_index, subst, suc, sum, sym, true, unwrap_or, zero, ℕ, ◌%◌, ◌&&◌, ◌*◌, ◌++◌, ◌+◌, ◌-◌, ◌/◌, ◌<◌, ◌==◌, ◌^◌, ◌||◌, ◌∙◌, ◌∷◌, ◌≡◌, ◌≢◌, ◌≤◌, ◌⊎◌}
-pub use Rattle.ring_knowledge.proofs.StopSpots.{way_without}
-pub use Rattle.ownership_rules.specs.Older.{stricter}
-pub use Rattle.controller_model.proofs.EndpointLemmas.{put_pair_same}
-pub use Rattle.ring_knowledge.proofs.Ranges.{none_each}
-pub use Rattle.segments.proofs.PlaceAtLemmas.{is_in-parts}
-pub use Rattle.controller_model.proofs.ScribbleLemmas.{any_in_range}
-pub use Rattle.segments.proofs.Withdrawing.{length-no_ops, restores_keeps, split_border, withdraws_keeps}
-pub use Rattle.safety.specs.RingChanges.Changes.{IsComing}
-unfoldable pub use Rattle.safety.specs.RingChanges.Changes.{emptied, forgotten, is_bad_free, is_bad_ring, is_bad_segment, is_had, shows_first_lap, with_ring, without_ring}
-pub use Rattle.safety.specs.RingChanges.Withdrawals.{restored}
-unfoldable pub use Rattle.safety.specs.RingChanges.Withdrawals.{has_stopped, is_bad_withdraw, is_left, restored_on, rests_with, ring_moved, ring_restored, some_flips, without_descriptor}
-pub use Rattle.segments.specs.declared.segment.Segment.{Segment}
-pub use Rattle.traces.specs.declared.trace_row.TraceRow.{TraceRow}
-pub use Rattle.safety.specs.RingChanges.Histories.{AreKept, FitsFields, IsKept, RingsHeadline, Scene, header_after, header_now, known_after, known_now, row_made, row_next, scene_reached, step_made}
-pub use Rattle.trb.specs.declared.kind.BlockKind.TheVariants.{BandwidthRequest, DeviceNotification, Doorbell, HostController, MfindexWrap, PortStatusChange}
-unfoldable pub use Rattle.controller_model.specs.DriverRows.{activated, bell_row, endpoint_bell, row_done}
+pub use native.Mathlib.Numerals.{unary_clauses}

@@ -1,7 +1,6 @@
 -- A write that gives no command and an event that isn't read yet may change places
-use Rattle.safety.proofs.Words.{[], ◌≡◌, ℕ, None, refl, sym, subst, inl, inr, rules, MayCome, none-some, fun_ext, Block, RingView, Writes, changed, Header, Write, Read, IsHeader, shape_of, Known, with_word, command_given, learned, lenient, DriverKeeps, HeldMore, Square}
-use Rattle.safety.proofs.LowerLaws.{event_facts, keeps_cycles, SameGiven, SameDriver, both_drivers}
-use Rattle.safety.proofs.MiddleLaws.{ReadAlike, EverySlot, SameStates, states_from, held_more, counted, read_same, given_same, crossed_same, Behind, written_word, word_read, event_behind, passed_behind}
+use Rattle.safety.proofs.UpperLaws.{[], ◌≡◌, ℕ, None, refl, sym, subst, inl, inr, rules, MayCome, none-some, fun_ext, Block, RingView, Writes, changed, Header, Write, Read, IsHeader, shape_of, Known, with_word, command_given, learned, lenient, DriverKeeps, HeldMore, Square, event_facts, keeps_cycles, SameGiven, SameDriver, both_drivers, ReadAlike, EverySlot, states_from, held_more, read_same, given_same, crossed_same, Behind, written_word, word_read, event_behind, passed_behind}
+use Rattle.safety.proofs.HeldFurther.{SameStates, counted}
 use Rattle.safety.proofs.WriteBehind.{command_behind, write_behind}
 
 module _ (h : Header) (is : IsHeader h) (k : Known) (d : DriverKeeps h k) (a w : ℕ) (e : Block) (clean : MayCome h k (Write a w))

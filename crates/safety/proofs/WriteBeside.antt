@@ -1,18 +1,7 @@
 -- A write leaves what unfinished commands read of contexts and device contexts
-use Rattle.safety.proofs.Words.{[], ◌≡◌, ◌≢◌, ◌+◌, ◌*◌, ◌/◌, ◌<◌, ◌≤◌, ◌==◌, ◌&&◌, ◌∙◌, ℕ, not, Bool, true, false, nat_le, nat_lt, Option, None, Some, option_and_then, arith, refl, sym, ap, inl, inr, lt-ltb, le-leb, rules, or_parts, or_from, and_left, and_from, false≢true, none-some, same_Some, is_in, is_inside, overlap, cases_option, address_inside, gives_is, put_elsewhere, Command, AddressDevice, named_context, is_disabled, is_off, device_context_bytes, input_context_bytes, Header, Write, IsHeader, shape_of, command_id, Known, learned, no_device, taken_device, device_named, command_given, is_bad_area, is_soiled, lenient, IsUnfinished, CommandKeeps, DriverKeeps, is_leased, has_bad_context, is_bad_command}
-use Rattle.safety.proofs.KeptWords.{put_same}
-use Rattle.safety.proofs.Writing.{free_or_same}
-use Rattle.safety.proofs.Headers.{ring_shape}
-use Rattle.safety.proofs.Areas.{clean_word}
-use Rattle.safety.proofs.AreaFacts.{AreaParts, area_parts, area_from, not_in_other, overlap_turned, word_elsewhere, is_soiled_from, device_apart, devices_apart, context_free, lease_free, word_free}
-use Rattle.safety.proofs.EndpointPut.{at_number}
+use Rattle.safety.proofs.MiddleLaws.{[], ◌≡◌, ◌≢◌, ◌+◌, ◌*◌, ◌/◌, ◌<◌, ◌≤◌, ◌==◌, ◌&&◌, ◌∙◌, ℕ, not, Bool, true, false, nat_le, nat_lt, Option, None, Some, option_and_then, arith, refl, sym, ap, inl, inr, lt-ltb, le-leb, rules, or_parts, or_from, and_left, and_from, false≢true, none-some, same_Some, is_in, is_inside, overlap, cases_option, address_inside, gives_is, put_elsewhere, Command, AddressDevice, named_context, is_disabled, is_off, device_context_bytes, input_context_bytes, Header, Write, IsHeader, shape_of, command_id, Known, learned, no_device, taken_device, device_named, command_given, is_bad_area, is_soiled, lenient, IsUnfinished, CommandKeeps, DriverKeeps, is_leased, has_bad_context, is_bad_command, put_same, free_or_same, ring_shape, clean_word, AreaParts, area_parts, area_from, not_in_other, overlap_turned, word_elsewhere, is_soiled_from, device_apart, devices_apart, context_free, lease_free, word_free, at_number, write_leaves, taken, written_memory, written_device, written_device_none, written_soiled, written_soiled_none, GivesCommand, AgreeIn, Beside, context_good}
 use Rattle.safety.proofs.KeptClean.{taking, not_in_area}
 use Rattle.safety.proofs.TakenDevices.{DeviceRules, taken_rules}
-use Rattle.safety.proofs.RowFrames.{write_leaves}
-use Rattle.safety.proofs.WrittenKnown.{taken, written_memory, written_device, written_device_none, written_soiled, written_soiled_none, GivesCommand}
-use Rattle.safety.proofs.ContextReads.{AgreeIn}
-use Rattle.safety.proofs.CommandsBeside.{Beside}
-use Rattle.safety.proofs.CommandsSame.{context_good}
 
 module _ (h : Header) (k : Known) where
   pub record ContextParts (n : ℕ) : Type 0 where
@@ -53,9 +42,6 @@ module _ (h : Header) (is : IsHeader h) (k : Known) (d : DriverKeeps h k) (a w :
     old_apart : (t e : ℕ) → k.device t ≡ Some e → overlap n (input_context_bytes h.context_size) e (device_context_bytes h.context_size) ≡ false
     old_apart t e at = let s = (d.devices t e at).slot in device_apart h k n (input_context_bytes h.context_size) t e areas s.0 s.1 at
 
-    now_apart : (t e : ℕ) → l.device t ≡ Some e → overlap n (input_context_bytes h.context_size) e (device_context_bytes h.context_size) ≡ false
-    now_apart t e at = search (rules, l, cases_option, taken, old_apart, written_device_none, at_number, overlap_turned, same_Some, written_device)
-
     now_clean : (i : ℕ) → i < input_context_bytes h.context_size / 4 → l.soiled (n + 4 * i) ≡ false
     now_clean i low =
         let kept = and_left (k.soiled (n + 4 * i)) (not (n + 4 * i == a)) (clean_word k n (input_context_bytes h.context_size) i parts.clean low) in
@@ -68,7 +54,7 @@ module _ (h : Header) (is : IsHeader h) (k : Known) (d : DriverKeeps h k) (a w :
         ]
 
     still_good : has_bad_context h l (Some n) ≡ false
-    still_good = search (rules, l, context_from, area_from, areas, devices_apart, now_apart, is_soiled_from, now_clean)
+    still_good = search (rules, l, context_from, area_from, areas, devices_apart, cases_option, taken, old_apart, written_device_none, at_number, overlap_turned, same_Some, written_device, is_soiled_from, now_clean)
 
   -- ---- device contexts under lease stay there
 

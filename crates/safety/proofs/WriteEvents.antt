@@ -1,7 +1,6 @@
 -- A write that gives no command leaves what an event reads, so that the event stays possible and does the same
-use Rattle.safety.proofs.Words.{[], ◌≡◌, ◌<◌, ◌&&◌, ◌∷◌, ◌∙◌, ℕ, true, false, map, nat_le, None, Some, option_and_then, arith, refl, ap, subst, ltb-true, fun_ext, put, Block, ceiling, writes_more, Command, AddressDevice, ConfigureEndpoint, Running, named_context, SlotGoesOn, Disables, Places, changes, placed_by_context, ContextSize, added_endpoints, is_dropped, context_pointer, context_cycle, Header, Write, Read, IsHeader, shape_of, command_id, Known, command_at, next_command, with_device, with_word, written, taken_device, command_given, learned, may_be_taken, lenient, DriverKeeps, IsUnfinished, rules}
+use Rattle.safety.proofs.MiddleLaws.{[], ◌≡◌, ◌<◌, ◌&&◌, ◌∷◌, ◌∙◌, ℕ, true, false, map, nat_le, None, Some, option_and_then, arith, refl, ap, subst, ltb-true, fun_ext, put, Block, ceiling, writes_more, Command, AddressDevice, ConfigureEndpoint, Running, named_context, SlotGoesOn, Disables, Places, changes, placed_by_context, ContextSize, added_endpoints, is_dropped, context_pointer, context_cycle, Header, Write, Read, IsHeader, shape_of, command_id, Known, command_at, next_command, with_device, with_word, written, taken_device, command_given, learned, may_be_taken, lenient, DriverKeeps, IsUnfinished, rules, AgreeIn, map_same, added_indices, added_same, drop_flag_same, pointer_same, cycle_same, written_memory, Alike, held_same}
 use Rattle.safety.proofs.KeptRings.{next_unfinished}
-use Rattle.safety.proofs.LowerLaws.{AgreeIn, map_same, added_indices, added_same, drop_flag_same, pointer_same, cycle_same, written_memory, Alike, held_same}
 use Rattle.safety.proofs.WriteBeside.{beside_old}
 use Rattle.safety.proofs.AlikeEvents.{EventAlike, ReadAlike, read_alike}
 use Rattle.safety.proofs.HeldFurther.{EverySlot, named_same, command_same, targets_are}

@@ -68,15 +68,7 @@ unfolding lenient_tests write_tests
 may_write h k a w may free r driver =
     let has = has_ring h r driver in
     let fails : AllFail (write_tests h k a w) = tests_fail h k (Write a w) may.0 in
-    record {
-      blocks = blocks_free h k a w r has free;
-      links = links_free h k a w r has free;
-      as_declared = none_given h k a w r has (λ r p. is_other_than_declared (shape_of h r) (k.ring r) k.memory a w p) fails.1.0;
-      declared = none_given h k a w r has (λ r p. is_not_declared (k.ring r) p) fails.1.1.0;
-      whole = none_given h k a w r has (λ r p. is_not_whole (shape_of h r) (k.ring r) p) fails.1.1.1.0;
-      leads = none_crossed h k a w r has (λ r q. leads_wrong (shape_of h r) k.memory a w q) fails.1.1.1.1.0;
-      flips = may.1.0 r driver;
-    }
+    search (rules, blocks_free, links_free, none_given, is_other_than_declared, shape_of, is_not_declared, is_not_whole, none_crossed, leads_wrong)
 
 -- each given block and Link keeps the Cycle bit that it shows
 pub keeps_cycles : (h : Header) → IsHeader h → (k : Known) (a w : ℕ) → MayCome h k (Write a w) → (r : ℕ) → IsDriverRing h r → RingKeeps (shape_of h r) k.memory (k.ring r) →

@@ -1,10 +1,7 @@
 -- Crossings: which Link is crossed on the way to a position, where it lies, where it leads, and how often: xHCI 4.11.5.1
-use Rattle.segments.proofs.Words.{◌≡◌, ◌≢◌, ◌+◌, ◌-◌, ◌*◌, ◌%◌, ◌<◌, ◌≤◌, ◌==◌, if◌then◌else◌, ◌∷◌, ◌∙◌, ℕ, suc, zero, true, false, List, [], length, slice_index, Some, position, is_some, unwrap_or, arith, sym, ap, refl, inl, inr, get_or, add-one, add-zero, eqb-true, eq-eqb, ne_eqb, rules, cases_lt, cases_eq, cases_order, false≢true, cond-true, cond-false, length-map, get_or-map, position-Some, none-some, add-mod_right, mod-lt, mod-eq_of_lt, mod_self, RingKind, Cmd, Evt, Xfer, Segment, Shape, data_count, data_places, place_count, address_of, cycle_of, links_of, links, ends_from, ends_of, ends, link_crossed, is_crossing, link_address, link_target, toggles, IsShape}
-use Rattle.segments.proofs.Blocks.{segment_at, places_of, before, before-next, before-all, before-zero}
-use Rattle.segments.proofs.ShapeFacts.{IsSegment, shape_facts}
+use Rattle.segments.proofs.LowerLaws.{◌≡◌, ◌≢◌, ◌+◌, ◌-◌, ◌%◌, ◌<◌, ◌≤◌, ◌==◌, if◌then◌else◌, ◌∷◌, ◌∙◌, ℕ, suc, zero, true, false, List, [], length, slice_index, Some, position, is_some, unwrap_or, arith, sym, ap, refl, inl, inr, get_or, add-one, add-zero, eqb-true, eq-eqb, ne_eqb, rules, cases_lt, cases_eq, cases_order, false≢true, cond-true, cond-false, length-map, get_or-map, position-Some, none-some, add-mod_right, mod-lt, mod-eq_of_lt, mod_self, RingKind, Cmd, Evt, Xfer, Segment, Shape, data_count, data_places, place_count, address_of, cycle_of, links_of, links, ends_from, ends_of, ends, link_crossed, is_crossing, link_address, link_target, toggles, IsShape, segment_at, before, before-next, before-all, before-zero, shape_facts, position_only}
 use Rattle.segments.proofs.DataPlaces.{block_is, IsPlace, link_is, same_link, length-links, place_is, segment_start}
 use Rattle.segments.proofs.Positions.{place_count_pos, place_below, next_within, next_at_end, same_in_lap, cycle_of-next, cycle_of-next_lap}
-use Rattle.segments.proofs.Search.{position_only}
 
 -- ---- after how many data places each Link is crossed
 
@@ -12,11 +9,8 @@ ends_at_from : (kind : RingKind) (ss : List Segment) (b j : ℕ) → ((s : Segme
     (length (ends_from b ss) ≡ length ss) × (get_or (ends_from b ss) j 0 ≡ b + before kind ss (suc j))
 ends_at_from kind [] b j one h = absurd (omega arith)
 ends_at_from kind (s ∷ []) b zero one h = (refl, omega (arith, one s))
-ends_at_from kind (s ∷ t ∷ rest) b zero one h =
-    (omega (arith, (ends_at_from kind (t ∷ rest) (b + (s.count - 1)) zero one (omega arith)).0), omega (arith, one s))
-ends_at_from kind (s ∷ rest) b (suc j) one h =
-    let inner = ends_at_from kind rest (b + (s.count - 1)) j one (omega arith) in
-    (omega (arith, inner.0), omega (arith, inner.1, one s))
+ends_at_from kind (s ∷ t ∷ rest) b zero one h = search (rules, ends_at_from kind (t ∷ rest) (b + (s.count - 1)) zero one (omega arith))
+ends_at_from kind (s ∷ rest) b (suc j) one h = search (rules, ends_at_from kind rest (b + (s.count - 1)) j one (omega arith))
 
 length-ends_from : (ss : List Segment) (b : ℕ) → length (ends_from b ss) ≡ length ss
 length-ends_from [] b = refl
@@ -25,17 +19,11 @@ length-ends_from (s ∷ rest) b = ap suc (length-ends_from rest (b + (s.count - 
 ends_at : (kind : RingKind) (ss : List Segment) (j : ℕ) → j < length (ends_of kind ss) →
     (j < length ss) × (get_or (ends_of kind ss) j 0 ≡ before kind ss (j + 1))
 ends_at Evt ss j h = absurd (omega arith)
-ends_at Cmd ss j h =
-    let inside : j < length ss = omega (arith, length-ends_from ss 0) in
-    (inside, rw add-one (omega (arith, (ends_at_from Cmd ss 0 j (λ s. refl) inside).1)))
-ends_at Xfer ss j h =
-    let inside : j < length ss = omega (arith, length-ends_from ss 0) in
-    (inside, rw add-one (omega (arith, (ends_at_from Xfer ss 0 j (λ s. refl) inside).1)))
+ends_at Cmd ss j h = search (rules, ends_at_from Cmd ss 0 j (λ s. refl), length-ends_from ss 0, add-one)
+ends_at Xfer ss j h = search (rules, ends_at_from Xfer ss 0 j (λ s. refl), length-ends_from ss 0, add-one)
 
 as_many : (kind : RingKind) (ss : List Segment) → length (ends_of kind ss) ≡ length (links_of kind ss)
-as_many Evt ss = search (rules, length-ends_from, length-map)
-as_many Cmd ss = search (rules, length-ends_from, length-map)
-as_many Xfer ss = search (rules, length-ends_from, length-map)
+as_many kind ss = search (rules, length-ends_from, length-map)
 
 -- one end for each Link
 pub length-ends : (shape : Shape) → length (ends shape) ≡ length (links shape)
@@ -49,33 +37,17 @@ before_grows : (shape : Shape) → IsShape shape → (i n : ℕ) → i + n ≤ l
     before shape.kind shape.segments i + n ≤ before shape.kind shape.segments (i + n)
 before_grows shape is i zero h = rw (add-zero, add-zero) (omega arith)
 before_grows shape is i (suc n) h =
-    let s : IsSegment shape.kind (segment_at shape.segments (i + n)) = (shape_facts shape is).each (i + n) (omega arith) in
-    let so_far : before shape.kind shape.segments i + n ≤ before shape.kind shape.segments (i + n) = before_grows shape is i n (omega arith) in
-    let more : before shape.kind shape.segments (i + n + 1) ≡ before shape.kind shape.segments (i + n) + data_count shape.kind (segment_at shape.segments (i + n)) =
-    before-next shape.kind shape.segments (i + n) (omega arith) in
-    search rules
+    search (rules, (shape_facts shape is).each (i + n) (omega arith), before_grows shape is i n (omega arith), before-next shape.kind shape.segments (i + n) (omega arith))
 
 -- a later segment has more data places before it
 pub before_below : (shape : Shape) → IsShape shape → (i j : ℕ) → i < j → j ≤ length shape.segments →
     before shape.kind shape.segments i < before shape.kind shape.segments j
-before_below shape is i j l h =
-    let apart : i + (j - i) ≡ j = omega arith in
-    search (rules, before_grows)
+before_below shape is i j l h = search (rules, before_grows shape is i (j - i))
 
 -- the ends lie in the lap, from 1 on
 pub end_in_lap : (shape : Shape) → IsShape shape → (j : ℕ) → j < length (links shape) →
     (0 < slice_index (ends shape) j) × (slice_index (ends shape) j ≤ place_count shape)
-end_in_lap shape is j h =
-    let link = link_is shape is j h in
-    let at = end_is shape j h in
-    let first = before_below shape is j (j + 1) (omega arith) (omega (arith, link.segment)) in
-    let all = before-all shape.kind shape.segments in (
-      omega arith,
-      elim (cases_lt (j + 1) (length shape.segments)) [
-        | inl below ↦ let later = before_below shape is (j + 1) (length shape.segments) below (omega arith) in omega arith
-        | inr last ↦ search (rules, length, before)
-      ],
-    )
+end_in_lap shape is j h = search (rules, link_is, end_is, before_below, before-all, cases_lt, link_is shape is j h, end_is shape j h, before_below shape is j (j + 1) (omega arith) (omega (arith, (link_is shape is j h).segment)), before-all shape.kind shape.segments)
 
 -- no two Links are crossed after one number of data places
 pub same_end : (shape : Shape) → IsShape shape → (i j : ℕ) → i < length (links shape) → j < length (links shape) →
@@ -85,8 +57,7 @@ same_end shape is i j hi hj e = search (rules, end_is shape i hi, end_is shape j
 -- ---- which Link is crossed on the way to a position
 
 link_crossed-pos : (shape : Shape) (q : ℕ) → 0 < q → link_crossed shape q ≡ position (λ n. n == (q - 1) % place_count shape + 1) (ends shape)
-link_crossed-pos shape zero h = search rules
-link_crossed-pos shape (suc q) h = search rules
+link_crossed-pos shape q h3 = search rules
 
 -- crossing q goes over Link i
 pub record Crosses (shape : Shape) (q i : ℕ) : Type 0 where
@@ -95,8 +66,7 @@ pub record Crosses (shape : Shape) (q i : ℕ) : Type 0 where
   pub end : slice_index (ends shape) i ≡ (q - 1) % place_count shape + 1
 
 pub crosses : (shape : Shape) (q i : ℕ) → link_crossed shape q ≡ Some i → Crosses shape q i
-crosses shape zero i h = search (rules, none-some, position-Some, length-ends, eqb-true)
-crosses shape (suc q) i h = search (rules, none-some, position-Some, length-ends, eqb-true)
+crosses shape q i h4 = search (rules, none-some, position-Some, length-ends, eqb-true)
 
 pub crosses-from : (shape : Shape) → IsShape shape → (q i : ℕ) → Crosses shape q i → link_crossed shape q ≡ Some i
 crosses-from shape is q i c = search (rules, link_crossed-pos, position_only, length-ends, eq-eqb, same_end, eqb-true)
@@ -119,12 +89,8 @@ link_address_is shape q i h = ap (λ o. slice_index (links shape) (unwrap_or o 0
 -- a lap later the same Link is crossed
 pub link_crossed-lap : (shape : Shape) (q : ℕ) → 0 < q → link_crossed shape (q + place_count shape) ≡ link_crossed shape q
 link_crossed-lap shape q h =
-    link_crossed-pos shape (q + place_count shape) (omega arith)
-    ∙ ap (λ n. position (λ m. m == n + 1) (ends shape)) (lap_later (q - 1) q (place_count shape) h)
-    ∙ sym (link_crossed-pos shape q h)
-  where
-    lap_later : (r q n : ℕ) → 0 < q → (q + n - 1) % n ≡ (q - 1) % n
-    lap_later r q n h = let e : q + n - 1 ≡ q - 1 + n = omega arith in rw e (add-mod_right (q - 1) n)
+    let e : q + place_count shape - 1 ≡ q - 1 + place_count shape = omega arith in
+    rw (link_crossed-pos shape (q + place_count shape) (omega arith), link_crossed-pos shape q h, e, add-mod_right (q - 1) (place_count shape)) refl
 
 -- the remainder one before, by the remainder
 before_zero : (n p : ℕ) → 0 < n → 0 < p → p % n ≡ 0 → (p - 1) % n + 1 ≡ n
@@ -137,12 +103,8 @@ before_more n p pos h more = search (rules, mod-lt, cases_lt, next_within, next_
 pub link_crossed-same : (shape : Shape) → IsShape shape → (p q : ℕ) → 0 < p → 0 < q → p % place_count shape ≡ q % place_count shape →
     link_crossed shape p ≡ link_crossed shape q
 link_crossed-same shape is p q hp hq same =
-    link_crossed-pos shape p hp
-    ∙ ap (λ n. position (λ m. m == n) (ends shape)) (one_before (place_count shape) p q (place_count_pos shape is) hp hq same)
-    ∙ sym (link_crossed-pos shape q hq)
-  where
-    one_before : (n p q : ℕ) → 0 < n → 0 < p → 0 < q → p % n ≡ q % n → (p - 1) % n + 1 ≡ (q - 1) % n + 1
-    one_before n p q pos hp hq same = search (rules, cases_eq, before_zero, before_more)
+    let e : (p - 1) % place_count shape + 1 ≡ (q - 1) % place_count shape + 1 = search (rules, cases_eq, before_zero, before_more, place_count_pos shape is) in
+    rw (link_crossed-pos shape p hp, link_crossed-pos shape q hq, e) refl
 
 pub is_crossing-lap : (shape : Shape) (q : ℕ) → 0 < q → is_crossing shape (q + place_count shape) ≡ is_crossing shape q
 is_crossing-lap shape q h = ap (λ o. is_some o) (link_crossed-lap shape q h)
@@ -153,29 +115,12 @@ link_address-lap shape q h = ap (λ o. slice_index (links shape) (unwrap_or o 0)
 -- the crossing of Link i in the first lap: after the data places of the segments up to it
 pub first_crossing : (shape : Shape) → IsShape shape → (i : ℕ) → i < length (links shape) →
     link_crossed shape (before shape.kind shape.segments (i + 1)) ≡ Some i
-first_crossing shape is i h =
-    let at = end_is shape i h in
-    let lap = end_in_lap shape is i h in
-    crosses-from shape is (before shape.kind shape.segments (i + 1)) i (record {
-      positive = omega arith;
-      link = h;
-      end = at ∙ in_first_lap (before shape.kind shape.segments (i + 1)) (place_count shape) (omega arith) (omega arith);
-    })
-  where
-    in_first_lap : (q n : ℕ) → 0 < q → q ≤ n → q ≡ (q - 1) % n + 1
-    in_first_lap q n pos le = let low : (q - 1) % n ≡ q - 1 = mod-eq_of_lt (omega arith) in omega arith
+first_crossing shape is i h = search (rules, end_is, end_in_lap, crosses-from, mod-eq_of_lt, end_is shape i h, end_in_lap shape is i h)
 
 -- at a lap's end the last Link is crossed
 pub last_crossing : (shape : Shape) → IsShape shape → (shape.kind ≡ Evt → ⊥) → link_crossed shape (place_count shape) ≡ Some (length shape.segments - 1)
 last_crossing shape is other =
-    let some : 0 < length shape.segments = some_segment shape.kind shape.segments (place_count_pos shape is) in
-    let all : length shape.segments - 1 + 1 ≡ length shape.segments = omega arith in
-    let at : before shape.kind shape.segments (length shape.segments - 1 + 1) ≡ place_count shape = ap (λ n. before shape.kind shape.segments n) all ∙ before-all shape.kind shape.segments in
-    rw at at (first_crossing shape is (length shape.segments - 1) (omega (arith, length-links shape other)))
-  where
-    some_segment : (kind : RingKind) (ss : List Segment) → 0 < length (places_of kind ss) → 0 < length ss
-    some_segment kind [] h = absurd (omega arith)
-    some_segment kind (s ∷ rest) h = omega arith
+    search (rules, (place_is shape is 0 (place_count_pos shape is)).2.segment, before-all shape.kind shape.segments, first_crossing shape is (length shape.segments - 1), length-links shape other)
 
 -- at every lap's end a Link is crossed
 pub crossing_at_end : (shape : Shape) → IsShape shape → (shape.kind ≡ Evt → ⊥) → (q : ℕ) → 0 < q → q % place_count shape ≡ 0 → is_crossing shape q ≡ true
@@ -201,92 +146,43 @@ same_crossing_at shape is p q le near first second same =
 
 -- the Link of a crossing toggles the cycle exactly where the crossing ends a lap
 pub toggles-crossed : (shape : Shape) → IsShape shape → (q i : ℕ) → link_crossed shape q ≡ Some i → toggles shape i ≡ (q % place_count shape == 0)
-toggles-crossed shape is q i h =
-    let c = crosses shape q i h in
-    let link = link_is shape is i c.link in
-    let at = end_is shape i c.link in
-    let all = before-all shape.kind shape.segments in
-    search (rules, cases_eq, length, before, place_count, at_end, place_count_pos, eq-eqb, before_below, inside, ne_eqb)
-  where
-    at_end : (q n : ℕ) → 0 < n → 0 < q → (q - 1) % n + 1 ≡ n → q % n ≡ 0
-    at_end q n pos h e = let one : q - 1 + 1 ≡ q = omega arith in rw one at (next_at_end n (q - 1) pos e).1
-
-    inside : (q n : ℕ) → 0 < q → (q - 1) % n + 1 < n → q % n ≡ (q - 1) % n + 1
-    inside q n h l = let one : q - 1 + 1 ≡ q = omega arith in rw one at (next_within n (q - 1) l).1
+toggles-crossed shape is q i h = search (rules, crosses, link_is, end_is, before-all, cases_eq, place_count_pos, eq-eqb, before_below, ne_eqb, next_at_end, next_within, crosses shape q i h, link_is shape is i (crosses shape q i h).link, end_is shape i (crosses shape q i h).link, before-all shape.kind shape.segments)
 
 -- the position behind a crossed Link is the first of a segment
 pub position_behind : (shape : Shape) → IsShape shape → (q i : ℕ) → link_crossed shape q ≡ Some i →
     q % place_count shape ≡ before shape.kind shape.segments ((i + 1) % length shape.segments)
 position_behind shape is q i h =
     let c = crosses shape q i h in
-    let at = end_is shape i c.link in
-    let turn = toggles-crossed shape is q i h in
-    elim (cases_eq (i + 1) (length shape.segments)) [
-      | inl last ↦ search (rules, place_count, eqb-true, eq-eqb, length, mod_self, before-zero, before)
-      | inr inner ↦
-          let more : q % place_count shape ≢ 0 = λ e. inner (eqb-true (i + 1) (length shape.segments) (turn ∙ eq-eqb (q % place_count shape) 0 e)) in
-          let low : (i + 1) % length shape.segments ≡ i + 1 = mod-eq_of_lt (omega (arith, (link_is shape is i c.link).segment)) in
-          within q (place_count shape) (place_count_pos shape is) c.positive more ∙ sym c.end ∙ at ∙ ap (λ n. before shape.kind shape.segments n) (sym low)
-    ]
-  where
-    within : (q n : ℕ) → 0 < n → 0 < q → q % n ≢ 0 → q % n ≡ (q - 1) % n + 1
-    within q n pos h more = search (rules, mod-lt, cases_lt, next_within, next_at_end)
+    search (rules, cases_eq (i + 1) (length shape.segments), end_is shape i c.link, toggles-crossed shape is q i h, place_count, eqb-true, eq-eqb, length, mod_self, before-zero, before, mod-eq_of_lt, before_more, place_count_pos, link_is shape is i c.link)
 
 -- the position behind a crossed Link lies where the Link leads
 pub link_target-crossed : (shape : Shape) → IsShape shape → (q i : ℕ) → link_crossed shape q ≡ Some i → address_of shape q ≡ link_target shape i
 link_target-crossed shape is q i h =
-    let some : 0 < length shape.segments = omega (arith, (link_is shape is i (crosses shape q i h).link).segment) in
-    let next : (i + 1) % length shape.segments < length shape.segments = mod-lt (i + 1) some in
-    ap (λ n. slice_index (data_places shape) n) (position_behind shape is q i h) ∙ (segment_start shape is ((i + 1) % length shape.segments) next).1
-    ∙ sym (get_or-map (λ s. s.base) shape.segments ((i + 1) % length shape.segments) (record { base = 0; count = 0 }) 0 next)
+    search (rules, position_behind shape is q i h, segment_start shape is ((i + 1) % length shape.segments), get_or-map, mod-lt (i + 1), link_is shape is i (crosses shape q i h).link)
 
 -- a crossed Link lies right behind the place of the position before
 pub link_address-behind : (shape : Shape) → IsShape shape → (q : ℕ) → is_crossing shape (q + 1) ≡ true → link_address shape (q + 1) ≡ address_of shape q + 16
 link_address-behind shape is q h =
     let found = crossed_link shape (q + 1) h in
-    let i : ℕ = found.0 in
-    let c = crosses shape (q + 1) i found.1 in
-    let link = link_is shape is i c.link in
-    let at = end_is shape i c.link in
-    let more = before-next shape.kind shape.segments i link.segment in
-    let some = link.is_segment.some_data in
-    let last = block_is shape is i (data_count shape.kind (segment_at shape.segments i) - 1) link.segment (omega arith) in
-    search (rules, slice_index, ends, place_count, before, data_count, segment_at, address_of, data_places, link_address_is, one_on)
-  where
-    one_on : (a n x : ℕ) → 1 ≤ n → x ≡ a + 16 * (n - 1) → a + 16 * n ≡ x + 16
-    one_on a n x h e = omega arith
+    let c = crosses shape (q + 1) found.0 found.1 in
+    let link = link_is shape is found.0 c.link in
+    search (rules, slice_index, segment_at, link_address_is, end_is shape found.0 c.link, before-next shape.kind shape.segments found.0 link.segment, block_is shape is found.0 (data_count shape.kind (segment_at shape.segments found.0) - 1) link.segment (omega (arith, link.is_segment.some_data)))
 
 -- where no Link is crossed and the lap goes on, the next place lies right behind
 pub address_of-behind : (shape : Shape) → IsShape shape → (shape.kind ≡ Evt → ⊥) → (q : ℕ) → is_crossing shape (q + 1) ≡ false →
     address_of shape (q + 1) ≡ address_of shape q + 16
 address_of-behind shape is other q h =
     let found = place_is shape is (q % place_count shape) (place_below shape is q) in
-    let j : ℕ = found.0 in
-    let k : ℕ = found.1 in
-    let place : IsPlace shape (q % place_count shape) j k = found.2 in
-    elim (cases_lt (k + 1) (data_count shape.kind (segment_at shape.segments j))) [
-      | inl inner ↦
-          search (rules, block_is shape is j (k + 1) place.segment inner, block_is, place_count, before, next_within, slice_index, data_places, one_on)
+    let place : IsPlace shape (q % place_count shape) found.0 found.1 = found.2 in
+    elim (cases_lt (found.1 + 1) (data_count shape.kind (segment_at shape.segments found.0))) [
+      | inl inner ↦ search (rules, block_is shape is found.0 (found.1 + 1) place.segment inner, block_is, place_count, before, next_within, slice_index, data_places)
       | inr last ↦
-          let link : j < length (links shape) = omega (arith, length-links shape other, place.segment) in
-          let more = before-next shape.kind shape.segments j place.segment in
-          let end = end_is shape j link in
-          let one : q + 1 - 1 ≡ q = omega arith in
-          let at : slice_index (ends shape) j ≡ (q + 1 - 1) % place_count shape + 1 = rw one (omega (arith, place.number, place.block)) in
-          absurd (false≢true (sym h ∙ is_crossing-from shape (q + 1) j (crosses-from shape is (q + 1) j (record { positive = omega arith; link = link; end = at }))))
+          let link : found.0 < length (links shape) = omega (arith, length-links shape other, place.segment) in
+          search (rules, false≢true, is_crossing-from shape (q + 1) found.0, crosses-from shape is (q + 1) found.0, end_is shape found.0 link, before-next shape.kind shape.segments found.0 place.segment)
     ]
-  where
-    one_on : (a k x : ℕ) → x ≡ a + 16 * k → a + 16 * (k + 1) ≡ x + 16
-    one_on a k x e = omega arith
 
 -- the Cycle bit behind a crossed Link: flipped where the Link toggles it
 pub cycle_of-crossed : (shape : Shape) → IsShape shape → (q i : ℕ) → link_crossed shape q ≡ Some i →
     cycle_of shape q ≡ (if toggles shape i then 1 - cycle_of shape (q - 1) else cycle_of shape (q - 1))
 cycle_of-crossed shape is q i h =
-    let c = crosses shape q i h in
-    let turn = toggles-crossed shape is q i h in
-    let one : q - 1 + 1 ≡ q = omega (arith, c.positive) in
-    elim (cases_eq (q % place_count shape) 0) [
-      | inl end ↦ search (rules, cycle_of, cycle_of-next_lap, before_zero, place_count, place_count_pos, end, cond-true, toggles, eq-eqb)
-      | inr inner ↦ search (rules, place_count, before_more, place_count_pos, cycle_of, cycle_of-next, place_below, cond-false, toggles, ne_eqb)
-    ]
+    search (rules, crosses shape q i h, toggles-crossed shape is q i h, cases_eq, cycle_of-next_lap, before_zero, place_count_pos, cond-true, eq-eqb, before_more, cycle_of-next, place_below, cond-false, ne_eqb)

@@ -1,7 +1,5 @@
 -- Where data places and Links of a ring lie: on 16 byte boundaries, inside its segments, and apart
-use Rattle.segments.proofs.Words.{◌≡◌, ◌+◌, ◌*◌, ◌%◌, ◌^◌, ◌<◌, ◌≤◌, ◌∷◌, ◌∙◌, ℕ, suc, true, List, [], length, slice_index, arith, get_or, add-zero, le-leb, lt-ltb, cases_lt, and_from, length-map, get_or-map, list_any_at, RingKind, Cmd, Evt, Xfer, Segment, Shape, data_count, data_places, place_count, links_of, links, segment_has, is_inside, IsShape, are_apart, rules}
-use Rattle.segments.proofs.Blocks.{segment_at, places_of, before, LiesAt, place_lies, block_lies, same_segment, length-places_of-cons}
-use Rattle.segments.proofs.ShapeFacts.{IsSegment, shape_facts}
+use Rattle.segments.proofs.LowerLaws.{◌≡◌, ◌+◌, ◌*◌, ◌%◌, ◌^◌, ◌<◌, ◌≤◌, ◌∷◌, ℕ, suc, true, List, [], length, slice_index, arith, get_or, add-zero, le-leb, lt-ltb, cases_lt, and_from, length-map, get_or-map, list_any_at, RingKind, Evt, Segment, Shape, data_count, data_places, place_count, links_of, links, segment_has, is_inside, IsShape, are_apart, rules, segment_at, places_of, before, LiesAt, place_lies, block_lies, same_segment, length-places_of-cons, IsSegment, shape_facts}
 
 one_segment : (ss : List Segment) → are_apart ss ≡ true → (i j k l : ℕ) → i < length ss → j < length ss →
     k < (segment_at ss i).count → l < (segment_at ss j).count →
@@ -9,16 +7,13 @@ one_segment : (ss : List Segment) → are_apart ss ≡ true → (i j k l : ℕ) 
     (segment_at ss j).base + 16 * l < (segment_at ss i).base + 16 * k + 16 → i ≡ j
 one_segment ss apart i j k l hi hj hk hl near far = search (rules, length, cases_lt, same_segment)
 
-same_offset : (a b k l : ℕ) → a ≡ b → a + 16 * k < b + 16 * l + 16 → b + 16 * l < a + 16 * k + 16 → k ≡ l
-same_offset a b k l e near far = omega arith
-
 -- two blocks with a byte in common are one
 pub same_block : (shape : Shape) → IsShape shape → (i j k l : ℕ) → i < length shape.segments → j < length shape.segments →
     k < (segment_at shape.segments i).count → l < (segment_at shape.segments j).count →
     (segment_at shape.segments i).base + 16 * k < (segment_at shape.segments j).base + 16 * l + 16 →
     (segment_at shape.segments j).base + 16 * l < (segment_at shape.segments i).base + 16 * k + 16 → (i ≡ j) × (k ≡ l)
 same_block shape is i j k l hi hj hk hl near far =
-    search (rules, one_segment shape.segments (shape_facts shape is).apart i j k l hi hj hk hl near far, shape_facts, same_offset, segment_at, shape.segments)
+    search (rules, one_segment shape.segments (shape_facts shape is).apart i j k l hi hj hk hl near far, shape_facts, segment_at, shape.segments)
 
 -- a data place: block k of segment j
 pub record IsPlace (shape : Shape) (i j k : ℕ) : Type 0 where
@@ -41,33 +36,21 @@ place_is shape is i h =
 -- every block that holds data is a data place
 pub block_is : (shape : Shape) → IsShape shape → (j k : ℕ) → j < length shape.segments → k < data_count shape.kind (segment_at shape.segments j) →
     (before shape.kind shape.segments j + k < place_count shape) × IsPlace shape (before shape.kind shape.segments j + k) j k
-block_is shape is j k hj hk = search (rules, block_lies shape.kind shape.segments j k hj hk, from_lies, before, shape.kind, shape.segments)
+block_is shape is j k hj hk = search (rules, block_lies shape.kind shape.segments j k hj hk, from_lies)
 
 -- the first data place of a segment lies at its base
 pub segment_start : (shape : Shape) → IsShape shape → (j : ℕ) → j < length shape.segments →
     (before shape.kind shape.segments j < place_count shape)
     × (slice_index (data_places shape) (before shape.kind shape.segments j) ≡ (segment_at shape.segments j).base)
-segment_start shape is j h =
-    let s : IsSegment shape.kind (segment_at shape.segments j) = (shape_facts shape is).each j h in
-    let first = block_is shape is j 0 h (omega (arith, s.some_data)) in
-    (rw add-zero at first.0, (rw add-zero at first.1.address) ∙ omega arith)
-
-on_boundary : (a k x : ℕ) → a % 16 ≡ 0 → x ≡ a + 16 * k → x % 16 ≡ 0
-on_boundary a k x h e = omega arith
-
-block_ends : (a n k x : ℕ) → a + 16 * n ≤ 2 ^ 64 → k < n → x ≡ a + 16 * k → x + 16 ≤ 2 ^ 64
-block_ends a n k x h l e = omega arith
+segment_start shape is j h = search (rules, IsSegment, segment_at, shape_facts, block_is, add-zero, (shape_facts shape is).each j h, block_is shape is j 0 h (omega (arith, ((shape_facts shape is).each j h).some_data)))
 
 -- data places lie on 16 byte boundaries
 pub place_aligned : (shape : Shape) → IsShape shape → (i : ℕ) → i < place_count shape → slice_index (data_places shape) i % 16 ≡ 0
-place_aligned shape is i h = search (rules, place_is shape is i h, (place_is shape is i h).2, on_boundary)
+place_aligned shape is i h = search (rules, place_is shape is i h, (place_is shape is i h).2)
 
 -- and end at or below 2^64
 pub place_ends : (shape : Shape) → IsShape shape → (i : ℕ) → i < place_count shape → slice_index (data_places shape) i + 16 ≤ 2 ^ 64
-place_ends shape is i h = search (rules, place_is shape is i h, (place_is shape is i h).2, block_ends)
-
-segment_has_byte : (a n k x b : ℕ) → x ≡ a + 16 * k → k < n → b < 16 → (a ≤ x + b) × (x + b < a + 16 * n)
-segment_has_byte a n k x b e l h = (omega arith, omega arith)
+place_ends shape is i h = search (rules, place_is shape is i h, (place_is shape is i h).2)
 
 -- an address in a segment is inside the ring
 pub byte_inside : (shape : Shape) (j x : ℕ) → j < length shape.segments → (segment_at shape.segments j).base ≤ x →
@@ -77,10 +60,7 @@ byte_inside shape j x h low high = search (rules, list_any_at, segment_has, and_
 -- each of its bytes is inside the ring's segments
 pub place_inside : (shape : Shape) → IsShape shape → (i b : ℕ) → i < place_count shape → b < 16 →
     is_inside shape (slice_index (data_places shape) i + b) ≡ true
-place_inside shape is i b h l = search (rules, place_is shape is i h, (place_is shape is i h).2, segment_has_byte, byte_inside)
-
-same_number : (a b c j k l : ℕ) (f : ℕ → ℕ) → a ≡ f j + k → b ≡ f c + l → j ≡ c → k ≡ l → a ≡ b
-same_number a b c j k l f p q e s = cc
+place_inside shape is i b h l = search (rules, place_is shape is i h, (place_is shape is i h).2, byte_inside)
 
 -- two data places with a byte in common are one
 pub places_apart : (shape : Shape) → IsShape shape → (i j : ℕ) → i < place_count shape → j < place_count shape →
@@ -88,12 +68,8 @@ pub places_apart : (shape : Shape) → IsShape shape → (i j : ℕ) → i < pla
     slice_index (data_places shape) j < slice_index (data_places shape) i + 16 → i ≡ j
 places_apart shape is i j hi hj near far =
     let a = place_is shape is i hi in
-    let here : IsPlace shape i a.0 a.1 = a.2 in
     let b = place_is shape is j hj in
-    let there : IsPlace shape j b.0 b.1 = b.2 in
-    let one = same_block shape is a.0 b.0 a.1 b.1 here.segment there.segment here.inside there.inside
-    (rw (here.address, there.address) at near) (rw (here.address, there.address) at far) in
-    same_number i j b.0 a.0 a.1 b.1 (before shape.kind shape.segments) here.number there.number one.0 one.1
+    search (rules, a.2, b.2, same_block shape is a.0 b.0 a.1 b.1)
 
 -- a Link: the block behind the data of segment j
 pub record IsLink (shape : Shape) (j : ℕ) : Type 0 where
@@ -105,15 +81,10 @@ pub record IsLink (shape : Shape) (j : ℕ) : Type 0 where
 link_lies : (kind : RingKind) (ss : List Segment) (j : ℕ) → j < length (links_of kind ss) → ((n : ℕ) → n < length ss → 2 ≤ (segment_at ss n).count) →
     (j < length ss) × (get_or (links_of kind ss) j 0 ≡ (segment_at ss j).base + 16 * data_count kind (segment_at ss j))
     × (data_count kind (segment_at ss j) < (segment_at ss j).count)
-link_lies Evt ss j h counts = search (rules, length, get_or, length-map, get_or-map)
-link_lies Cmd ss j h counts = search (rules, length, get_or, length-map, get_or-map)
-link_lies Xfer ss j h counts = search (rules, length, get_or, length-map, get_or-map)
+link_lies kind ss j h4 h5 = search (rules, length-map, get_or-map)
 
 pub link_is : (shape : Shape) → IsShape shape → (j : ℕ) → j < length (links shape) → IsLink shape j
-link_is shape is j h =
-    let facts = shape_facts shape is in
-    let lies = link_lies shape.kind shape.segments j h (λ n l. (facts.each n l).blocks) in
-    record { segment = lies.0; address = lies.1; inside = lies.2; is_segment = facts.each j lies.0 }
+link_is shape is j h = search (rules, shape_facts, link_lies, shape_facts shape is, link_lies shape.kind shape.segments j h (λ n l. ((shape_facts shape is).each n l).blocks))
 
 -- a command or transfer ring has a Link in each segment
 pub length-links : (shape : Shape) → (shape.kind ≡ Evt → ⊥) → length (links shape) ≡ length shape.segments
@@ -121,16 +92,16 @@ length-links shape other = search (rules, length, length-map)
 
 -- Links lie on 16 byte boundaries
 pub link_aligned : (shape : Shape) → IsShape shape → (j : ℕ) → j < length (links shape) → slice_index (links shape) j % 16 ≡ 0
-link_aligned shape is j h = search (rules, link_is, on_boundary)
+link_aligned shape is j h = search (rules, link_is)
 
 -- and end at or below 2^64
 pub link_ends : (shape : Shape) → IsShape shape → (j : ℕ) → j < length (links shape) → slice_index (links shape) j + 16 ≤ 2 ^ 64
-link_ends shape is j h = search (rules, link_is, block_ends)
+link_ends shape is j h = search (rules, link_is)
 
 -- each of their bytes is inside the ring's segments
 pub link_inside : (shape : Shape) → IsShape shape → (j b : ℕ) → j < length (links shape) → b < 16 →
     is_inside shape (slice_index (links shape) j + b) ≡ true
-link_inside shape is j b h l = search (rules, link_is, segment_has_byte, byte_inside)
+link_inside shape is j b h l = search (rules, link_is, byte_inside)
 
 -- two Links with a byte in common are one
 pub links_apart : (shape : Shape) → IsShape shape → (i j : ℕ) → i < length (links shape) → j < length (links shape) →
@@ -151,22 +122,15 @@ place_not_link shape is i j hi hj near far =
     let a = place_is shape is i hi in
     let here : IsPlace shape i a.0 a.1 = a.2 in
     let there = link_is shape is j hj in
-    let one = same_block shape is a.0 j a.1 _ here.segment there.segment here.inside there.inside
-    (rw (here.address, there.address) at near) (rw (here.address, there.address) at far) in
-    not_data shape.kind shape.segments a.0 j a.1 here.block one.0 one.1
-  where
-    not_data : (kind : RingKind) (ss : List Segment) (i j k : ℕ) → k < data_count kind (segment_at ss i) → i ≡ j → k ≡ data_count kind (segment_at ss j) → ⊥
-    not_data kind ss i j k l same all = search (rules, data_count, segment_at)
+    let one = same_block shape is a.0 j a.1 _ here.segment there.segment here.inside there.inside (omega (arith, here.address, there.address)) (omega (arith, here.address, there.address)) in
+    search (rules, here.block, one, data_count, segment_at)
 
 -- there are at most 64 times 4,096 of them
 pub place_count_most : (shape : Shape) → IsShape shape → place_count shape ≤ 64 * 4096
 place_count_most shape is =
-    let facts = shape_facts shape is in
-    let each : (j : ℕ) → j < length shape.segments → data_count shape.kind (segment_at shape.segments j) ≤ 4096 = search rules in
-    omega (arith, at_most shape.kind shape.segments each, facts.few)
+    let each : (j : ℕ) → j < length shape.segments → data_count shape.kind (segment_at shape.segments j) ≤ 4096 = search (rules, shape_facts shape is) in
+    omega (arith, at_most shape.kind shape.segments each, (shape_facts shape is).few)
   where
-    at_most : (kind : RingKind) (ss : List Segment) → ((j : ℕ) → j < length ss → data_count kind (segment_at ss j) ≤ 4096) →
-        length (places_of kind ss) ≤ length ss * 4096
+    at_most : (kind : RingKind) (ss : List Segment) → ((j : ℕ) → j < length ss → data_count kind (segment_at ss j) ≤ 4096) → length (places_of kind ss) ≤ length ss * 4096
     at_most kind [] each = omega arith
-    at_most kind (s ∷ rest) each =
-        omega (arith, length-places_of-cons kind s rest, each 0 (omega arith), at_most kind rest (λ j h. each (suc j) (omega arith)))
+    at_most kind (s ∷ rest) each = omega (arith, length-places_of-cons kind s rest, each 0 (omega arith), at_most kind rest (λ j h. each (suc j) (omega arith)))

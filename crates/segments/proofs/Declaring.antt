@@ -1,8 +1,6 @@
 -- A declaration keeps the rules of a ring
-use Rattle.segments.proofs.Words.{unwrap_or, ceiling, ◌≡◌, ◌+◌, ◌-◌, ◌<◌, ◌≤◌, ◌∷◌, ◌++◌, ◌∙◌, ℕ, false, List, [], length, sum, Some, slice_get, All, arith, refl, sym, ap, subst, inl, inr, get_or, length-append, ltb-false, cases_lt, slice_get-get_or, slice_get_within, get_or_from_slice_get, get_or_append_left, get_or-append_right, All-push, All-get_or, sum_by_push, Block, kind, is_link, Shape, place_count, IsShape, RingView, Declares, changed, declared, floor_number, is_step_given, is_way_given, given_count, has_no_room, descriptor_length, RingKeeps, MayDeclare, MayHold}
+use Rattle.segments.proofs.LowerLaws.{unwrap_or, ceiling, ◌≡◌, ◌+◌, ◌-◌, ◌<◌, ◌≤◌, ◌∷◌, ◌++◌, ◌∙◌, ℕ, false, List, [], length, sum, Some, slice_get, All, arith, refl, sym, ap, subst, inl, inr, get_or, length-append, ltb-false, cases_lt, slice_get-get_or, slice_get_within, get_or_from_slice_get, get_or_append_left, get_or-append_right, All-push, All-get_or, sum_by_push, Block, kind, is_link, Shape, place_count, IsShape, RingView, Declares, changed, declared, floor_number, is_step_given, is_way_given, given_count, has_no_room, descriptor_length, RingKeeps, MayDeclare, MayHold, given_count_same, whole_more, length_from-push, rules, true, is_not_whole, address_of, cycle_of, ◌%◌}
 use Rattle.segments.proofs.Positions.{place_count_pos}
-use Rattle.segments.proofs.GivenCount.{given_count_same}
-use Rattle.segments.proofs.StepFacts.{whole_more, length_from-push}
 
 has_room : (shape : Shape) (v : RingView) (n : ℕ) → has_no_room shape v n ≡ false → declared v + n ≤ place_count shape - 1 + floor_number v
 unfolding has_no_room
@@ -45,29 +43,15 @@ pub declares_keeps : (shape : Shape) → IsShape shape → (memory : ℕ → ℕ
     RingKeeps shape memory (changed shape v (Declares blocks))
 declares_keeps shape is memory v blocks k may =
     let more : length (v.queue ++ blocks) ≡ declared v + length blocks = length-append v.queue blocks in
-    let fits = has_room shape v (length blocks) may.room in
-    let pos = place_count_pos shape is in
-    let adds : sum (v.lengths ++ length blocks ∷ []) ≡ sum v.lengths + length blocks = sum_by_push (λ n. n) v.lengths (length blocks) in
-    record {
-      is_spot = k.is_spot;
-      room = omega (arith, more, fits, pos);
-      passed = k.passed;
-      passed_links = k.passed_links;
-      given_within = k.given_within;
-      given_declared = λ p g. omega (arith, more, k.given_declared p g);
-      crossed_is_crossing = k.crossed_is_crossing;
-      crossed_within = k.crossed_within;
-      kept = λ p d low g kept at. k.kept p d low g kept (sym (slice_get-append v.queue blocks p (k.given_declared p g)) ∙ at);
-      not_yet = k.not_yet;
-      kept_link = k.kept_link;
-      not_yet_link = k.not_yet_link;
-      whole = λ p g. whole_more shape v (changed shape v (Declares blocks)) p (record { given = λ q h. h; crossed = λ q h. h })
-          (length_kept shape v blocks p k.descriptors (k.given_declared p g)) (k.whole p g);
-      lengths = All-push (λ n. 0 < n) v.lengths (length blocks) k.lengths may.some;
-      descriptors = adds ∙ ap (λ n. n + length blocks) k.descriptors ∙ sym more;
-      blocks = λ p d at. declared_now (λ b. is_link (kind b) ≡ false) v.queue blocks p d k.blocks may.no_link at;
-      held = λ m at. let may_hold : MayHold shape v m = k.held m at in record { from = may_hold.from; to = omega (arith, may_hold.to, given_count-declares shape v blocks) };
-      free_given = k.free_given;
-      free_shows = λ p low high free. k.free_shows p low (omega (arith, ceiling-declares shape v blocks)) free;
-      open_restored = k.open_restored;
-    }
+    let within : (p : ℕ) → v.given p ≡ true → p < length (v.queue ++ blocks) = λ p g. omega (arith, more, k.given_declared p g) in
+    let kept : (p : ℕ) (d : Block) → v.given p ≡ true → slice_get (v.queue ++ blocks) p ≡ Some d → slice_get v.queue p ≡ Some d = λ p d g at.
+    sym (slice_get-append v.queue blocks p (k.given_declared p g)) ∙ at in
+    let whole : (p : ℕ) → v.given p ≡ true → is_not_whole shape (changed shape v (Declares blocks)) p ≡ false = λ p g.
+    whole_more shape v (changed shape v (Declares blocks)) p (record { given = λ q h. h; crossed = λ q h. h }) (length_kept shape v blocks p k.descriptors (k.given_declared p g)) (k.whole p g) in
+    let sums : sum (v.lengths ++ length blocks ∷ []) ≡ length (v.queue ++ blocks) =
+    sum_by_push (λ n. n) v.lengths (length blocks) ∙ ap (λ n. n + length blocks) k.descriptors ∙ sym more in
+    let held_by : (m : ℕ) → v.held ≡ Some m → MayHold shape (changed shape v (Declares blocks)) m = λ m at.
+    record { from = (k.held m at).from; to = omega (arith, (k.held m at).to, given_count-declares shape v blocks) } in
+    let shows : (p : ℕ) → floor_number v ≤ p → p < ceiling shape (changed shape v (Declares blocks)) → v.free p ≡ true → memory (address_of shape p + 12) % 2 ≡ cycle_of shape p =
+    λ p low high free. k.free_shows p low (omega (arith, ceiling-declares shape v blocks)) free in
+    search (rules, k, has_room shape v (length blocks) may.room, place_count_pos shape is, more, within, kept, whole, sums, All-push (λ n. 0 < n) v.lengths (length blocks) k.lengths may.some, declared_now (λ b. is_link (kind b) ≡ false) v.queue blocks, may, held_by, k.kept, shows)

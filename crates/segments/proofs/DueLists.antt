@@ -1,6 +1,5 @@
 -- Which numbers stand in the lists of due, given and leased positions and crossings
-use Rattle.std.proofs.Common.{rules}
-use Rattle.segments.proofs.Words.{is_handed_over, IsShownTo, IsRestored, unrestored, flips_passed, ceiling, address_of, cycle_of, nat_lt, ◌==◌, ◌%◌, list_any, list_any_at, false_from_ne_true, false≢true, ◌≡◌, ◌+◌, ◌-◌, ◌<◌, ◌≤◌, ◌&&◌, ◌∷◌, ◌∙◌, ℕ, not, Bool, true, false, List, [], length, Contains, filter, suc, zero, arith, refl, sym, subst, inl, inr, get_or, range_with_len, cases_Bool, and_parts, and_from, not-true, not_from_false, cond-true, cond-false, All-contains, All-filter, All-contains_itself, filter_passes, Contains-append_right, length-range_with_len, get_or-range_with_len, Shape, place_count, is_crossing, RingView, floor_number, is_due, is_crossing_due, gives, gives_crossing, due_positions, due_crossings, positions_given, crossings_given, leased_positions, leased_crossings}
+use Rattle.segments.proofs.Words.{rules, is_handed_over, IsShownTo, IsRestored, unrestored, flips_passed, ceiling, address_of, cycle_of, nat_lt, ◌==◌, ◌%◌, list_any, list_any_at, false_from_ne_true, false≢true, ◌≡◌, ◌+◌, ◌-◌, ◌<◌, ◌≤◌, ◌&&◌, ◌∷◌, ◌∙◌, ℕ, not, Bool, true, false, List, [], length, Contains, filter, suc, zero, arith, refl, sym, get_or, range_with_len, cases_Bool, and_parts, and_from, not-true, not_from_false, cond-true, cond-false, All-contains, All-filter, All-contains_itself, filter_passes, Contains-append_right, length-range_with_len, get_or-range_with_len, Shape, place_count, is_crossing, RingView, floor_number, is_due, is_crossing_due, gives, gives_crossing, due_positions, due_crossings, positions_given, crossings_given, leased_positions, leased_crossings}
 use Rattle.segments.proofs.Giving.{due_is, due_from, crossing_due_is, gives_is, gives_crossing_is}
 
 -- ---- a range, and a filter
@@ -16,23 +15,17 @@ cons_contains : (y : ℕ) (ys : List ℕ) (x : ℕ) → Contains ys x → Contai
 cons_contains y ys x c = Contains-append_right (y ∷ []) ys x c
 
 pub filter_contains : (test : ℕ → Bool) (xs : List ℕ) (x : ℕ) → Contains xs x → test x ≡ true → Contains (filter test xs) x
-filter_contains test xs x c passes = subst (λ ys. Contains ys x) refl (from_place test xs c.0 x c.1 c.2 passes)
+filter_contains test xs x c passes = from_place test xs c.0 x c.1 c.2 passes
   where
     from_place : (test : ℕ → Bool) (xs : List ℕ) (k x : ℕ) → k < length xs → get_or xs k x ≡ x → test x ≡ true → Contains (filter test xs) x
     from_place test [] k x h at passes = absurd (omega arith)
     from_place test (y ∷ ys) zero x h at passes = search (rules, filter, cond-true, Contains)
     from_place test (y ∷ ys) (suc k) x h at passes =
-        let rest : Contains (filter test ys) x = from_place test ys k x (omega arith) at passes in
-        elim (cases_Bool (test y)) [
-          | inl keeps ↦ subst (λ zs. Contains zs x) (sym (cond-true (test y) (y ∷ filter test ys) (filter test ys) keeps)) (cons_contains y (filter test ys) x rest)
-          | inr drops ↦ subst (λ zs. Contains zs x) (sym (cond-false (test y) (y ∷ filter test ys) (filter test ys) drops)) rest
-        ]
+        search (rules, filter, cases_Bool (test y), cons_contains y (filter test ys) x (from_place test ys k x (omega arith) at passes), from_place test ys k x (omega arith) at passes)
 
 pub filter_contained : (test : ℕ → Bool) (xs : List ℕ) (x : ℕ) → Contains (filter test xs) x → Contains xs x × (test x ≡ true)
-filter_contained test xs x c = (
-  All-contains (Contains xs) (filter test xs) x (All-filter test (Contains xs) xs (All-contains_itself xs)) c,
-  All-contains (λ y. test y ≡ true) (filter test xs) x (filter_passes test xs) c,
-)
+filter_contained test xs x c =
+    (All-contains (Contains xs) _ x (All-filter test (Contains xs) xs (All-contains_itself xs)) c, All-contains (λ y. test y ≡ true) _ x (filter_passes test xs) c)
 
 -- ---- positions
 
@@ -42,17 +35,15 @@ due_position shape v p due = search (rules, due_is, range_contains, floor_number
 
 pub due_position_is : (shape : Shape) (v : RingView) (p : ℕ) → Contains (due_positions shape v) p → is_due shape v.floor p ≡ true
 unfolding due_positions
-due_position_is shape v p c = search (rules, range_contained (floor_number v) (place_count shape) p c, floor_number, place_count, due_from, v.floor)
+due_position_is shape v p c = search (rules, range_contained (floor_number v) (place_count shape) p c, due_from)
 
 pub leased_position : (shape : Shape) (v : RingView) (p : ℕ) → is_due shape v.floor p ≡ true → v.given p ≡ true → v.free p ≡ false → Contains (leased_positions shape v) p
 unfolding leased_positions
-leased_position shape v p due given kept = search (rules, filter_contains, is_handed_over, due_positions, due_position, and_from, not, not_from_false)
+leased_position shape v p due given kept = search (rules, filter_contains, due_position, and_from, not_from_false)
 
 pub leased_position_is : (shape : Shape) (v : RingView) (p : ℕ) → Contains (leased_positions shape v) p → (is_due shape v.floor p ≡ true) × (v.given p ≡ true)
 unfolding leased_positions
-leased_position_is shape v p c =
-    let is = filter_contained (is_handed_over v) (due_positions shape v) p c in
-    (due_position_is shape v p is.0, (and_parts (v.given p) (not (v.free p)) is.1).0)
+leased_position_is shape v p c = search (rules, filter_contained, due_position_is, and_parts, filter_contained (is_handed_over v) (due_positions shape v) p c)
 
 -- what is free and due isn't restored
 pub unrestored_position : (shape : Shape) (v : RingView) (p : ℕ) → is_due shape v.floor p ≡ true → v.free p ≡ true → Contains (unrestored shape v) p
@@ -82,9 +73,7 @@ position_given shape v a w p wasn't now = search (rules, filter_contains, not, g
 
 pub position_given_is : (shape : Shape) (v : RingView) (a w p : ℕ) → Contains (positions_given shape v a w) p → (v.given p ≡ false) × (gives shape v.floor p a w ≡ true)
 unfolding positions_given
-position_given_is shape v a w p c =
-    let is = filter_contained (λ p. not (v.given p) && gives shape v.floor p a w) (due_positions shape v) p c in
-    search (rules, and_parts (not (v.given p)) (gives shape v.floor p a w) is.1, and_parts, not, gives, not-true)
+position_given_is shape v a w p c = search (rules, filter_contained, and_parts, not-true, filter_contained (λ p. not (v.given p) && gives shape v.floor p a w) (due_positions shape v) p c)
 
 -- ---- crossings
 
@@ -99,17 +88,12 @@ leased_crossing shape v q due given = search (rules, filter_contains, is_crossin
 pub leased_crossing_is : (shape : Shape) (v : RingView) (q : ℕ) → Contains (leased_crossings shape v) q → (is_crossing shape q ≡ true) × (v.crossed q ≡ true) × (floor_number v ≤ q)
 unfolding leased_crossings due_crossings
 leased_crossing_is shape v q c =
-    let is = filter_contained (λ q. is_crossing shape q && v.crossed q) (due_crossings shape v) q c in
-    let parts = and_parts (is_crossing shape q) (v.crossed q) is.1 in
-    (parts.0, parts.1, (range_contained (floor_number v) (place_count shape + 1) q is.0).0)
+    search (rules, filter_contained (λ q. is_crossing shape q && v.crossed q) (due_crossings shape v) q c, and_parts, range_contained (floor_number v) (place_count shape + 1) q)
 
 pub crossing_given : (shape : Shape) (v : RingView) (a w q : ℕ) → v.crossed q ≡ false → gives_crossing shape v.floor q a w ≡ true → Contains (crossings_given shape v a w) q
 unfolding crossings_given
-crossing_given shape v a w q wasn't now =
-    search (rules, filter_contains, not, gives_crossing, due_crossings, due_crossing, gives_crossing_is, is_due, and_from, not_from_false)
+crossing_given shape v a w q wasn't now = grind (arith, filter_contains, due_crossing, gives_crossing_is, and_from, not_from_false)
 
 pub crossing_given_is : (shape : Shape) (v : RingView) (a w q : ℕ) → Contains (crossings_given shape v a w) q → (v.crossed q ≡ false) × (gives_crossing shape v.floor q a w ≡ true)
 unfolding crossings_given
-crossing_given_is shape v a w q c =
-    let is = filter_contained (λ q. not (v.crossed q) && gives_crossing shape v.floor q a w) (due_crossings shape v) q c in
-    search (rules, and_parts (not (v.crossed q)) (gives_crossing shape v.floor q a w) is.1, and_parts, not, gives_crossing, not-true)
+crossing_given_is shape v a w q c = search (rules, filter_contained, and_parts, not-true, filter_contained (λ q. not (v.crossed q) && gives_crossing shape v.floor q a w) (due_crossings shape v) q c)

@@ -1,8 +1,5 @@
 -- What happens outside a ring's segments changes nothing of what the rules keep of it
-use Rattle.segments.proofs.Words.{◌≡◌, ◌+◌, ◌%◌, ◌<◌, ◌∙◌, ℕ, true, ap, Shape, place_count, address_of, is_crossing, link_address, is_inside, IsShape}
-use Rattle.segments.proofs.DataPlaces.{place_inside, link_inside}
-use Rattle.segments.proofs.Positions.{place_below}
-use Rattle.segments.proofs.Crossings.{crosses, crossed_link, link_address_is}
+use Rattle.segments.proofs.MiddleLaws.{◌≡◌, ◌+◌, ◌%◌, ◌<◌, ◌∙◌, ℕ, true, ap, Shape, place_count, address_of, is_crossing, link_address, is_inside, IsShape, place_inside, link_inside, place_below, crosses, crossed_link, link_address_is}
 
 -- ---- the bytes of places and Links are the ring's
 

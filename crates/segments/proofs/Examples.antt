@@ -1,6 +1,5 @@
 -- Small rings, place by place
-use Rattle.segments.proofs.Words.{range_with_len, Cmd, Evt, Xfer, Data, Link, Shape, shape_of, data_places, place_count, address_of, cycle_of, links, ends, link_crossed, link_address, link_target, toggles, is_inside, touches, place_at, is_shape, spot_address, spot_cycle, spots_from, named_spot, Writes, changed, is_due, is_crossing_due, new_ring, ◌≡◌, true, false, [], ◌∷◌, Some, None, map, refl}
-use Rattle.segments.specs.declared.place.Place.TheVariants.{Data as DataWord, Link as LinkWord}
+use Rattle.segments.proofs.Words.{range_with_len, Cmd, Evt, Xfer, Data, Link, Shape, shape_of, data_places, place_count, address_of, cycle_of, links, ends, link_crossed, link_address, link_target, toggles, is_inside, touches, place_at, is_shape, spot_address, spot_cycle, spots_from, named_spot, Writes, changed, is_due, is_crossing_due, new_ring, ◌≡◌, true, false, [], ◌∷◌, Some, None, map, refl, DataWord, LinkWord}
 
 -- two segments of three blocks
 abbrev two : Shape

@@ -1,51 +1,29 @@
 -- How much of a ring is given: the number below which all steps are given, and the first that isn't
-use Rattle.segments.proofs.Words.{rules, Some, None, unwrap_or, ceiling, ◌≡◌, ◌+◌, ◌<◌, ◌≤◌, ◌∙◌, ℕ, suc, zero, true, false, arith, refl, sym, ap, inl, inr, cases_Bool, cases_lt, cases_eq, cases_order, cond-true, cond-false, false≢true, Shape, place_count, RingView, floor_number, is_step_given, first_not_given, given_count}
+use Rattle.segments.proofs.Words.{rules, Some, None, unwrap_or, ceiling, ◌≡◌, ◌+◌, ◌<◌, ◌≤◌, ℕ, suc, zero, true, false, arith, refl, ap, cases_Bool, cases_lt, cases_eq, cases_order, false≢true, Shape, place_count, RingView, floor_number, is_step_given, first_not_given, given_count}
 
 -- ---- the first step that isn't given, of n from q on
 
-first_none : (shape : Shape) (v : RingView) (q : ℕ) → first_not_given shape v zero q ≡ q
-unfolding first_not_given
-first_none shape v q = refl
-
-first_on : (shape : Shape) (v : RingView) (n q : ℕ) → is_step_given shape v q ≡ true → first_not_given shape v (suc n) q ≡ first_not_given shape v n (q + 1)
-unfolding first_not_given
-first_on shape v n q given = cond-true (is_step_given shape v q) (first_not_given shape v n (q + 1)) q given
-
-first_here : (shape : Shape) (v : RingView) (n q : ℕ) → is_step_given shape v q ≡ false → first_not_given shape v (suc n) q ≡ q
-unfolding first_not_given
-first_here shape v n q missing = cond-false (is_step_given shape v q) (first_not_given shape v n (q + 1)) q missing
-
 first_high : (shape : Shape) (v : RingView) (n q : ℕ) → first_not_given shape v n q ≤ q + n
-first_high shape v zero q = omega (arith, first_none shape v q)
-first_high shape v (suc n) q = search (rules, cases_Bool, is_step_given, first_on, first_here, first_high shape v n (q + 1))
+unfolding first_not_given
+first_high shape v zero q = omega arith
+first_high shape v (suc n) q = search (rules, cases_Bool (is_step_given shape v q), first_high shape v n (q + 1))
 
 first_below : (shape : Shape) (v : RingView) (n q p : ℕ) → q ≤ p → p < first_not_given shape v n q → is_step_given shape v p ≡ true
-first_below shape v zero q p low high = absurd (omega (arith, first_none shape v q))
-first_below shape v (suc n) q p low high = elim (cases_Bool (is_step_given shape v q)) [
-  | inl given ↦ elim (cases_eq q p) [
-    | inl here ↦ ap (λ m. is_step_given shape v m) (sym here) ∙ given
-    | inr past ↦ first_below shape v n (q + 1) p (omega arith) (omega (arith, first_on shape v n q given))
-  ]
-  | inr missing ↦ absurd (omega (arith, first_here shape v n q missing))
-]
+unfolding first_not_given
+first_below shape v zero q p low high = absurd (omega arith)
+first_below shape v (suc n) q p low high = search (rules, cases_Bool (is_step_given shape v q), cases_eq q p, first_below shape v n (q + 1) p)
 
 first_stops : (shape : Shape) (v : RingView) (n q : ℕ) → first_not_given shape v n q < q + n → is_step_given shape v (first_not_given shape v n q) ≡ false
-first_stops shape v zero q h = absurd (omega (arith, first_none shape v q))
-first_stops shape v (suc n) q h = elim (cases_Bool (is_step_given shape v q)) [
-  | inl given ↦
-      let on = first_on shape v n q given in
-      ap (λ m. is_step_given shape v m) on ∙ first_stops shape v n (q + 1) (omega arith)
-  | inr missing ↦ ap (λ m. is_step_given shape v m) (first_here shape v n q missing) ∙ missing
-]
+unfolding first_not_given
+first_stops shape v zero q h = absurd (omega arith)
+first_stops shape v (suc n) q h = search (rules, cases_Bool (is_step_given shape v q), first_stops shape v n (q + 1))
 
 -- two views in which the same steps are given
 first_same : (shape : Shape) (v w : RingView) (n q : ℕ) → ((p : ℕ) → is_step_given shape v p ≡ is_step_given shape w p) →
     first_not_given shape v n q ≡ first_not_given shape w n q
-first_same shape v w zero q same = first_none shape v q ∙ sym (first_none shape w q)
-first_same shape v w (suc n) q same = elim (cases_Bool (is_step_given shape v q)) [
-  | inl given ↦ first_on shape v n q given ∙ first_same shape v w n (q + 1) same ∙ sym (first_on shape w n q (sym (same q) ∙ given))
-  | inr missing ↦ first_here shape v n q missing ∙ sym (first_here shape w n q (sym (same q) ∙ missing))
-]
+unfolding first_not_given
+first_same shape v w zero q same = refl
+first_same shape v w (suc n) q same = search (rules, cases_Bool (is_step_given shape v q), same q, first_same shape v w n (q + 1) same)
 
 -- ---- the count
 
@@ -68,10 +46,7 @@ given_count_stops shape v h = search (rules, is_step_given, count_is, first_stop
 -- it isn't below a number below which all is given
 pub given_count_least : (shape : Shape) (v : RingView) (m : ℕ) → m ≤ floor_number v + place_count shape → ((p : ℕ) → p < m → is_step_given shape v p ≡ true) →
     m ≤ given_count shape v
-given_count_least shape v m near given = elim (cases_lt (given_count shape v) m) [
-  | inl below ↦ absurd (false≢true (sym (given_count_stops shape v (omega arith)) ∙ given (given_count shape v) below))
-  | inr least ↦ least
-]
+given_count_least shape v m near given = search (rules, cases_lt (given_count shape v) m, given_count_stops shape v, given (given_count shape v), false≢true)
 
 -- with the floor's number and the steps that are given it stays
 pub given_count_same : (shape : Shape) (v w : RingView) → floor_number v ≡ floor_number w → ((p : ℕ) → is_step_given shape v p ≡ is_step_given shape w p) →
@@ -81,13 +56,8 @@ given_count_same shape v w floor same = search (rules, count_is, first_same, flo
 -- where the floor moves on too, so long as neither count is a lap ahead
 pub given_count_still : (shape : Shape) (v w : RingView) → ((p : ℕ) → is_step_given shape v p ≡ is_step_given shape w p) →
     given_count shape v < floor_number v + place_count shape → given_count shape w < floor_number w + place_count shape → given_count shape v ≡ given_count shape w
-given_count_still shape v w same near far = elim (cases_order (given_count shape v) (given_count shape w)) [
-  | inl one ↦ one
-  | inr apart ↦ elim apart [
-    | inl lower ↦ absurd (false≢true (sym (given_count_stops shape v near) ∙ same (given_count shape v) ∙ given_below shape w (given_count shape v) lower))
-    | inr upper ↦ absurd (false≢true (sym (given_count_stops shape w far) ∙ sym (same (given_count shape w)) ∙ given_below shape v (given_count shape w) upper))
-  ]
-]
+given_count_still shape v w same near far =
+    search (rules, cases_order (given_count shape v) (given_count shape w), given_count_stops shape v near, given_count_stops shape w far, given_below shape v (given_count shape w), given_below shape w (given_count shape v), same (given_count shape v), same (given_count shape w), false≢true)
 
 -- with more given it grows
 pub given_count_grows : (shape : Shape) (v w : RingView) → floor_number v ≤ floor_number w → ((p : ℕ) → is_step_given shape v p ≡ true → is_step_given shape w p ≡ true) →

@@ -1,6 +1,6 @@
 -- A segment is found by a search through how many data places lie before each, or through where each starts
-use Rattle.segments.proofs.Words.{AreFirsts, AreStarts, IsIndex, IsLastOf, IsLastStart, IsSegmentOf, IsStart, SegmentIndex, Start, ◌≡◌, ◌+◌, ◌-◌, ◌<◌, ◌≤◌, ◌==◌, ◌∷◌, ◌∙◌, ℕ, suc, zero, true, false, List, [], Some, None, length, get_or, ap, sym, arith, inl, inr, leb-true, leb-false, eqb-true, leb, cases_lt, list_any, list_any_at, Any-from_list_any, get_or_from_slice_get, slice_get-get_or, get_or_append_left, get_or-append_right, length-append, ◌++◌, nat_tests, All, All-permutation, list_any-IsPermutation, IsPermutation, IsNonDecreasingBy, IsNonDecreasingBy-from_default, IsPartitionPoint, RingKind, Segment, rules}
-use Rattle.segments.proofs.Blocks.{segment_at, before, before-zero}
+use Rattle.segments.proofs.Words.{AreFirsts, AreStarts, IsIndex, IsLastOf, IsLastStart, IsSegmentOf, IsStart, SegmentIndex, Start, ◌≡◌, ◌+◌, ◌-◌, ◌<◌, ◌≤◌, ◌==◌, ◌∷◌, ◌∙◌, ℕ, suc, zero, true, false, List, [], Some, None, length, get_or, ap, sym, arith, leb-true, leb-false, eqb-true, leb, cases_lt, list_any, list_any_at, Any-from_list_any, get_or_from_slice_get, slice_get-get_or, get_or_append_left, get_or-append_right, length-append, ◌++◌, nat_tests, All, All-permutation, list_any-IsPermutation, IsPermutation, IsNonDecreasingBy, IsNonDecreasingBy-from_default, IsPartitionPoint, RingKind, Segment, rules, before}
+use Rattle.segments.proofs.Blocks.{segment_at, before-zero}
 
 -- more segments have no fewer data places before them
 pub before_rises : (kind : RingKind) (ss : List Segment) (i j : ℕ) → i ≤ j → before kind ss i ≤ before kind ss j
@@ -20,18 +20,7 @@ module _ (kind : RingKind) (segments : List Segment) (firsts : List ℕ) (are : 
   module _ (place after : ℕ) (point : IsPartitionPoint (λ first. leb first place ≡ true) (λ first. leb first place ≡ false) firsts after)
       (bound : after ≤ length firsts) (within : place < before kind segments (length segments)) where
     some_before : 0 < after
-    some_before = elim (cases_lt 0 after) [
-      | inl some ↦ some
-      | inr none ↦
-          let one : 0 < length segments = elim (cases_lt 0 (length segments)) [
-            | inl more ↦ more
-            | inr empty ↦
-                let end : length segments ≡ 0 = omega arith in
-                absurd (omega (arith, ap (λ n. before kind segments n) end, before-zero kind segments))
-          ] in
-          let high : leb (get_or firsts 0 0) place ≡ false = point.1 0 0 (omega arith) (omega (arith, are.many)) in
-          absurd (omega (arith, leb-false (get_or firsts 0 0) place high, first_at 0 one, before-zero kind segments))
-    ]
+    some_before = grind (arith, nat_tests, before-zero kind segments, point.1 0 0, first_at 0, are.many)
 
     -- the last segment with no more data places before it has the place
     pub segment_found : IsSegmentOf kind segments place (after - 1)
@@ -55,7 +44,7 @@ same_number : (n : ℕ) → (n == n) ≡ true
 same_number n = grind (arith, nat_tests)
 
 pub all_starts : (segments : List Segment) (starts sorted : List Start) → AreStarts segments (length segments) starts → IsPermutation starts sorted → All (IsStart segments) sorted
-all_starts segments starts sorted are moved = search (rules, All-permutation, IsStart, length, are.many, are.each)
+all_starts segments starts sorted are moved = search (rules, All-permutation, length, are.many, are.each)
 
 pub each_starts : (segments : List Segment) (starts sorted : List Start) → AreStarts segments (length segments) starts → IsPermutation starts sorted →
     (j : ℕ) → j < length segments → list_any (λ start. start.segment == j) sorted ≡ true
@@ -72,49 +61,26 @@ record Stands (segments : List Segment) (starts : List Start) (number : ℕ) : T
 
 module _ (kind : RingKind) (segments : List Segment) (index : SegmentIndex) (is : IsIndex kind segments index) where
   stands : (j : ℕ) → j < length segments → Stands segments index.starts.items j
-  stands j below =
-      let some = Any-from_list_any (λ (start : Start). start.segment == j) index.starts.items (is.each j below) in
-      record {
-        at = some.0;
-        below = some.2;
-        base = λ d.
-            let here : get_or index.starts.items some.0 d ≡ some.1 = search (rules, get_or_from_slice_get, slice_get-get_or, Some) in
-            let number : (get_or index.starts.items some.0 d).segment ≡ j = ap (λ (x : Start). x.segment) here ∙ eqb-true some.1.segment j some.4 in
-            (is.starts some.0 d some.2).base ∙ ap (λ n. (segment_at segments n).base) number;
-      }
+  stands j below = search (rules, Any-from_list_any, get_or_from_slice_get, slice_get-get_or, eqb-true, segment_at, Any-from_list_any (λ (start : Start). start.segment == j) index.starts.items (is.each j below))
 
   module _ (address after : ℕ)
       (point : IsPartitionPoint (λ start. leb start.base address ≡ true) (λ start. leb start.base address ≡ false) index.starts.items after) where
     -- a segment that starts at or before the address stands before the border
     early : (j : ℕ) (below : j < length segments) → (segment_at segments j).base ≤ address → (stands j below).at < after
-    early j below low = elim (cases_lt (stands j below).at after) [
-      | inl before_it ↦ before_it
-      | inr late ↦
-          let s : Stands segments index.starts.items j = stands j below in
-          let d : Start = record { base = 0; segment = 0 } in
-          let high : leb (get_or index.starts.items s.at d).base address ≡ false = point.1 s.at d late s.below in
-          absurd (omega (arith, leb-false (get_or index.starts.items s.at d).base address high, s.base d))
-    ]
+    early j below low =
+        grind (arith, nat_tests, point.1 (stands j below).at (record { base = 0; segment = 0 }), (stands j below).below, (stands j below).base (record { base = 0; segment = 0 }))
 
     pub nothing_starts : after ≡ 0 → IsLastStart segments address None
-    nothing_starts zero_of j below = elim (cases_lt address (segment_at segments j).base) [
-      | inl above ↦ above
-      | inr low ↦ absurd (omega (arith, early j below low))
-    ]
+    nothing_starts zero_of j below = grind (arith, early j below)
 
     pub last_found : 0 < after → after ≤ length index.starts.items → (d : Start) → IsLastStart segments address (Some (get_or index.starts.items (after - 1) d).segment)
     last_found some bound d =
         let here : IsStart segments (get_or index.starts.items (after - 1) d) = is.starts (after - 1) d (omega arith) in
-        let low : (get_or index.starts.items (after - 1) d).base ≤ address =
-        leb-true (get_or index.starts.items (after - 1) d).base address (point.0 (after - 1) d (omega arith) (omega arith)) in
+        let low = leb-true (get_or index.starts.items (after - 1) d).base address (point.0 (after - 1) d (omega arith) (omega arith)) in
         record {
           number = here.number;
-          start = omega (arith, here.base);
-          last = λ j below before_it.
-              let s : Stands segments index.starts.items j = stands j below in
-              let first : s.at < after = early j below before_it in
-              let rising : (get_or index.starts.items s.at d).base ≤ (get_or index.starts.items (after - 1) d).base = is.sorted s.at (after - 1) d (omega arith) (omega arith) in
-              omega (arith, rising, s.base d, here.base);
+          start = omega (arith, here.base, low);
+          last = λ j below before_it. grind (arith, is.sorted (stands j below).at (after - 1) d, early j below before_it, (stands j below).base d, here.base);
         }
 
   -- a start at or before the address, with the next one behind it, is that of the last segment
@@ -122,19 +88,11 @@ module _ (kind : RingKind) (segments : List Segment) (index : SegmentIndex) (is 
       (at + 1 < length xs → address < (get_or xs (at + 1) d).base) → IsLastOf segments address (get_or xs at d).segment
   last_here address at xs d same inside low high =
       let here : IsStart segments (get_or xs at d) = rw same (is.starts at d (omega (arith, inside, ap length same))) in
+      let long = ap length same in
       record {
         number = here.number;
         start = omega (arith, here.base, low);
         last = λ j below before_it.
             let s : Stands segments index.starts.items j = stands j below in
-            let long = ap length same in
-            let next = ap (λ ys. (get_or ys (at + 1) d).base) same in
-            elim (cases_lt at s.at) [
-              | inl behind ↦
-                  let rising : (get_or index.starts.items (at + 1) d).base ≤ (get_or index.starts.items s.at d).base = is.sorted (at + 1) s.at d (omega (arith, behind)) s.below in
-                  absurd (omega (arith, rising, s.base d, before_it, next, high (omega (arith, behind, s.below, long))))
-              | inr early ↦
-                  let rising : (get_or index.starts.items s.at d).base ≤ (get_or index.starts.items at d).base = is.sorted s.at at d (omega (arith, early)) (omega (arith, inside, long)) in
-                  omega (arith, rising, s.base d, here.base, ap (λ ys. (get_or ys at d).base) same)
-            ];
+            grind (arith, same, cases_lt at s.at, is.sorted (at + 1) s.at d, is.sorted s.at at d, s.below, s.base d, here.base, long, high, ap (λ ys. (get_or ys at d).base) same, ap (λ ys. (get_or ys (at + 1) d).base) same);
       }

@@ -1,14 +1,10 @@
 -- Bytes and words inside a ring's segments, and rings that are apart
-use Rattle.segments.proofs.Words.{◌≡◌, ◌-◌, ◌*◌, ◌%◌, ◌<◌, ◌||◌, ◌∷◌, ◌∙◌, ℕ, suc, Bool, true, false, List, [], length, nat_lt, is_some, arith, ap, refl, get_or, lt-ltb, list_any, cases_Bool, false≢true, or_parts, and_from, nat_tests, Segment, Shape, overlap, segment_has, is_in, is_inside, touches, place_at, IsShape, segments_overlap, rings_overlap, rules}
-use Rattle.segments.proofs.Blocks.{segment_at}
-use Rattle.segments.proofs.ShapeFacts.{shape_facts}
-use Rattle.segments.proofs.PlaceAtLemmas.{is_in-parts, place_at-inside, is_inside-place_at}
-use Rattle.segments.proofs.Search.{cases_option}
+use Rattle.segments.proofs.MiddleLaws.{◌≡◌, ◌-◌, ◌*◌, ◌%◌, ◌<◌, ◌||◌, ◌∷◌, ◌∙◌, ℕ, suc, Bool, true, false, List, [], length, is_some, arith, ap, refl, get_or, list_any, cases_Bool, false≢true, or_parts, nat_tests, Shape, overlap, segment_has, is_in, is_inside, touches, place_at, IsShape, segments_overlap, rings_overlap, rules, segment_at, shape_facts, cases_option}
+use Rattle.segments.proofs.PlaceAtLemmas.{place_at-inside, is_inside-place_at}
 
 same_any : {X : Type 0} (p q : X → Bool) (xs : List X) (d : X) → ((k : ℕ) → k < length xs → p (get_or xs k d) ≡ q (get_or xs k d)) → list_any p xs ≡ list_any q xs
 same_any p q [] d same = refl
-same_any p q (x ∷ xs) d same =
-    ap (λ b. b || list_any p xs) (same 0 (omega arith)) ∙ ap (λ b. q x || b) (same_any p q xs d (λ k h. same (suc k) (omega arith)))
+same_any p q (x ∷ xs) d same = cc (ap (λ b. b || list_any p xs) (same 0 (omega arith)), ap (λ b. q x || b) (same_any p q xs d (λ k h. same (suc k) (omega arith))))
 
 word_in : (x a n : ℕ) → a % 16 ≡ 0 → overlap (x - x % 4) 4 a (16 * n) ≡ is_in x a (16 * n)
 word_in x a n low = grind (arith, nat_tests, low)
@@ -30,9 +26,6 @@ in_any : {X : Type 0} (p : X → Bool) (xs : List X) → list_any p xs ≡ true 
 in_any p [] h q none = absurd (false≢true h)
 in_any p (x ∷ xs) h q none = search (rules, cases_Bool, or_parts, list_any, in_any p xs)
 
-both_have : (x : ℕ) (s t : Segment) → segment_has x s ≡ true → segment_has x t ≡ true → segments_overlap s t ≡ true
-both_have x s t a b = search (rules, is_in-parts, and_from, nat_lt, lt-ltb)
-
 -- then no byte is inside both
 pub rings_apart : (a b : Shape) (x : ℕ) → rings_overlap a b ≡ false → is_inside a x ≡ true → is_inside b x ≡ true → ⊥
-rings_apart a b x apart ina inb = search (rules, in_any, segment_has, list_any, segments_overlap, false≢true, both_have)
+rings_apart a b x apart ina inb = search (rules, in_any, segment_has, list_any, segments_overlap, false≢true)

@@ -36,3 +36,6 @@ mod WithdrawnExamples
 pub mod MoveTargets
 pub mod MovesStay
 pub mod Words
+pub mod LowerLaws
+pub mod MiddleLaws
+pub mod UpperLaws

@@ -1,12 +1,6 @@
 -- What is looked up on a ring once the segment is found. The look-ups see the segments as a list of their own
-use Rattle.segments.proofs.Words.{IsIndex, SegmentIndex, get_or, get_or_read, mod-lt, add-mod-mod, add-mul-mod_self_left, mod-add-div, mul_assoc, AreMultiples, IsLastStart, IsNear, IsSegmentOf, ◌≡◌, ◌≢◌, ◌+◌, ◌-◌, ◌*◌, ◌/◌, ◌%◌, ◌<◌, ◌≤◌, if◌then◌else◌, ◌∙◌, ℕ, suc, zero, nat_lt, true, false, List, length, slice_index, Option, Some, None, arith, add-zero, mod-eq_of_lt, refl, sym, ap, inl, inr, false≢true, false_from_ne_true, cases_lt, RingKind, Evt, Segment, Shape, data_count, place_count, address_of, links, ends, link_crossed, is_in, place_at, IsShape, rules}
+use Rattle.segments.proofs.MiddleLaws.{IsIndex, SegmentIndex, get_or, get_or_read, mod-lt, add-mod-mod, add-mul-mod_self_left, mod-add-div, mul_assoc, AreMultiples, IsLastStart, IsNear, IsSegmentOf, ◌≡◌, ◌≢◌, ◌+◌, ◌-◌, ◌*◌, ◌/◌, ◌%◌, ◌<◌, ◌≤◌, if◌then◌else◌, ◌∙◌, ℕ, suc, zero, nat_lt, true, false, List, length, Option, Some, None, arith, mod-eq_of_lt, refl, sym, ap, inl, inr, false≢true, false_from_ne_true, cases_lt, RingKind, Evt, Segment, Shape, data_count, place_count, address_of, links, link_crossed, is_in, place_at, IsShape, rules, segment_at, places_of, before, before-next, before-all, before-zero, before_within, block_lies, same_segment, link_is, length-links, end_is, crosses, crosses-from, cases_option, before_rises, shape_facts}
 use Rattle.segments.specs.declared.place.Place.TheVariants.{Data, Link}
-use Rattle.segments.proofs.Blocks.{segment_at, places_of, before, before-next, before-all, before-zero, before_within, block_lies, same_segment}
-use Rattle.segments.proofs.DataPlaces.{link_is, length-links}
-use Rattle.segments.proofs.Crossings.{end_is, crosses, crosses-from}
-use Rattle.segments.proofs.Search.{cases_option}
-use Rattle.segments.proofs.IndexSearch.{before_rises}
-use Rattle.segments.proofs.ShapeFacts.{shape_facts}
 use Rattle.segments.proofs.PlaceAtLemmas.{is_in-true, is_in-parts, place_at-block, place_at-outside}
 
 -- the shape that a slice of segments stands for
@@ -48,22 +42,16 @@ pub crossed_here : (shape : Shape) → IsShape shape → (kind : RingKind) (segm
     (kind ≡ Evt → ⊥) → q ≢ 0 → j < length segments → IsPast kind segments j end ((q - 1) % places + 1) → n ≡ data_count kind (segment_at segments j) →
     end + n ≡ (q - 1) % places + 1 → link_crossed shape q ≡ Some j
 crossed_here shape is kind segments places j end n q sees other some h past e here =
-    let all : length (links shape) ≡ length shape.segments = length-links shape (λ event. other (sym sees.kind_is ∙ event)) in
-    let many : length shape.segments ≡ length segments = ap length sees.segments_are in
-    let link : j < length (links shape) = omega arith in
-    let at : slice_index (ends shape) j ≡ before kind segments (j + 1) = search (rules, end_is, before) in
-    search (rules, before, before-next, crosses-from)
+    let link : j < length (links shape) = omega (arith, length-links shape (λ event. other (sym sees.kind_is ∙ event)), ap length sees.segments_are) in
+    search (rules, end_is shape j link, link, before, before-next, crosses-from)
 
 pub crossed_nowhere : (shape : Shape) → IsShape shape → (kind : RingKind) (segments : List Segment) (places j end q : ℕ) → Sees shape kind segments places →
     q ≢ 0 → length segments ≤ j → IsPast kind segments j end ((q - 1) % places + 1) → link_crossed shape q ≡ None
 crossed_nowhere shape is kind segments places j end q sees some all past = elim (cases_option (link_crossed shape q)) [
   | inl none ↦ none
   | inr found ↦
-      let i : ℕ = found.0 in
-      let c = crosses shape q i found.1 in
-      let many : length shape.segments ≡ length segments = ap length sees.segments_are in
-      let at : slice_index (ends shape) i ≡ before kind segments (i + 1) = search (rules, end_is, before) in
-      absurd (past.missed i (omega (arith, (link_is shape is i c.link).segment)) (sym at ∙ c.end ∙ ap (λ n. (q - 1) % n + 1) (sym sees.places_are)))
+      let c = crosses shape q found.0 found.1 in
+      search (rules, past.missed found.0, c.end, end_is shape found.0 c.link, (link_is shape is found.0 c.link).segment, ap length sees.segments_are)
 ]
 
 -- ---- the word with an address
@@ -101,10 +89,7 @@ segment_is segments j s h read = get_or_read segments j s h read (record { base 
 
 -- no Link before the segment of a data place comes right behind that place
 pub past_before : (kind : RingKind) (segments : List Segment) (last j : ℕ) → IsSegmentOf kind segments last j → IsPast kind segments j (before kind segments j) (last + 1)
-past_before kind segments last j of = record {
-  counted = refl;
-  missed = λ k l same. absurd (omega (arith, same, of.first, before_rises kind segments (k + 1) j (omega arith)));
-}
+past_before kind segments last j of = grind (arith, before_rises)
 
 -- and if its own doesn't, none does
 pub past_all : (kind : RingKind) (segments : List Segment) (last j : ℕ) → IsSegmentOf kind segments last j → before kind segments (j + 1) ≢ last + 1 →
@@ -115,13 +100,11 @@ past_all kind segments last j of other = search (rules, length, cases_lt, before
 pub near_from_last : (kind : RingKind) (segments : List Segment) → IsShape (record { kind = kind; segments = segments }) → (address : ℕ) (o : Option ℕ) →
     IsLastStart segments address o → IsNear segments address o
 near_from_last kind segments is address None above = search (rules, false_from_ne_true, is_in-parts, segment_at)
-near_from_last kind segments is address (Some j) of = (
-  of.number,
-  λ k l has.
-      let facts = shape_facts (record { kind = kind; segments = segments }) is in
-      let parts = is_in-parts address (segment_at segments k).base (16 * (segment_at segments k).count) has in
-      search (rules, of.last k l parts.0, (facts.each j of.number).blocks, of.start, segment_at, same_segment),
-)
+near_from_last kind segments is address (Some j) of =
+    let facts = shape_facts (record { kind = kind; segments = segments }) is in (
+      of.number,
+      λ k l has. search (rules, is_in-parts address (segment_at segments k).base (16 * (segment_at segments k).count) has, of.last k l, (facts.each j of.number).blocks, of.start, segment_at, same_segment, facts),
+    )
 
 -- no segment may have the address
 pub outside_none : (kind : RingKind) (segments : List Segment) (address : ℕ) → IsNear segments address None →
@@ -138,32 +121,23 @@ outside_near kind segments address j near misses = search (rules, length, false_
 before_multiple : (kind : RingKind) (ss : List Segment) (step : ℕ) → AreMultiples kind ss step → (j : ℕ) → j ≤ length ss → before kind ss j % step ≡ 0
 before_multiple kind ss step are zero h = search (rules, before-zero, mod-eq_of_lt)
 before_multiple kind ss step are (suc j) h =
-    let next = before-next kind ss j (omega arith) in
-    let one : suc j ≡ j + 1 = omega arith in
-    rw (one, next) (sum_multiple (before kind ss j) (data_count kind (segment_at ss j)) step (before_multiple kind ss step are j (omega arith)) (are.each j (omega arith)))
-  where
-    sum_multiple : (a b s : ℕ) → a % s ≡ 0 → b % s ≡ 0 → (a + b) % s ≡ 0
-    sum_multiple a b s ha hb = sym (add-mod-mod a b s) ∙ ap (λ n. (a + n) % s) hb ∙ ap (λ n. n % s) (add-zero a) ∙ ha
+    search (rules, before-next kind ss j (omega arith), add-mod-mod (before kind ss j) (data_count kind (segment_at ss j)) step, are.each j (omega arith), before_multiple kind ss step are j (omega arith))
 
 -- and no Link is crossed where the position isn't such a multiple
 pub crossed_between : (shape : Shape) → IsShape shape → (step q : ℕ) → AreMultiples shape.kind shape.segments step → q % step ≢ 0 → link_crossed shape q ≡ None
 crossed_between shape is step q are between = elim (cases_option (link_crossed shape q)) [
   | inl none ↦ none
   | inr found ↦
-      let i : ℕ = found.0 in
-      let c = crosses shape q i found.1 in
-      let link = link_is shape is i c.link in
-      let end : (q - 1) % place_count shape + 1 ≡ before shape.kind shape.segments (i + 1) = sym c.end ∙ end_is shape i c.link in
-      let here : before shape.kind shape.segments (i + 1) % step ≡ 0 = before_multiple shape.kind shape.segments step are (i + 1) (omega (arith, link.segment)) in
+      let c = crosses shape q found.0 found.1 in
+      let link = link_is shape is found.0 c.link in
+      let end : (q - 1) % place_count shape + 1 ≡ before shape.kind shape.segments (found.0 + 1) = sym c.end ∙ end_is shape found.0 c.link in
       let lap : place_count shape % step ≡ 0 = rw (← before-all shape.kind shape.segments) (before_multiple shape.kind shape.segments step are (length shape.segments) (omega arith)) in
-      absurd (between (multiple_behind (place_count shape) q step c.positive lap (ap (λ n. n % step) end ∙ here)))
+      absurd (between (multiple_behind (place_count shape) q step c.positive lap (rw end (before_multiple shape.kind shape.segments step are (found.0 + 1) (omega (arith, link.segment))))))
 ]
   where
     multiple_behind : (p q s : ℕ) → 0 < q → p % s ≡ 0 → ((q - 1) % p + 1) % s ≡ 0 → q % s ≡ 0
     multiple_behind p q s some hp he =
-        let laps : (q - 1) % p + p * ((q - 1) / p) ≡ q - 1 = mod-add-div (q - 1) p in
-        let times : p % s + s * (p / s) ≡ p = mod-add-div p s in
-        let whole : s * (p / s) ≡ p = omega (arith, times, hp) in
+        let whole : s * (p / s) ≡ p = omega (arith, mod-add-div p s, hp) in
         let product : s * (p / s * ((q - 1) / p)) ≡ p * ((q - 1) / p) = sym (mul_assoc s (p / s) ((q - 1) / p)) ∙ ap (λ n. n * ((q - 1) / p)) whole in
-        let all : q ≡ (q - 1) % p + 1 + s * (p / s * ((q - 1) / p)) = omega (arith, laps, product, some) in
+        let all : q ≡ (q - 1) % p + 1 + s * (p / s * ((q - 1) / p)) = omega (arith, mod-add-div (q - 1) p, product, some) in
         ap (λ n. n % s) all ∙ add-mul-mod_self_left ((q - 1) % p + 1) s (p / s * ((q - 1) / p)) ∙ he

@@ -1,6 +1,5 @@
 -- The spot that a pointer and a cycle state name is the one to which the ring may be moved
-use Rattle.segments.proofs.Words.{◌≡◌, ◌+◌, ◌-◌, ◌≤◌, ◌==◌, ◌&&◌, if◌then◌else◌, ◌∷◌, ◌∙◌, ℕ, suc, zero, Bool, true, List, [], All, Some, arith, sym, ap, inl, inr, eqb-true, range_with_len, flat_map, cases_lt, and_parts, All-nil, All-cons, All-get_or, Any-from_list_any, Spot, Data, Link, Shape, IsSpot, is_spot, number, spot_address, spot_cycle, IsShape, RingView, declared, floor_number, is_border, is_target, spots_between, target, is_reached, may_move_to, is_move, RingKeeps, rules}
-use Rattle.segments.proofs.SpotOrder.{rank_least, rank_most, same_spot}
+use Rattle.segments.proofs.UpperLaws.{◌≡◌, ◌+◌, ◌-◌, ◌≤◌, ◌&&◌, ◌∷◌, ◌∙◌, ℕ, suc, zero, Bool, true, [], All, Some, arith, sym, ap, eqb-true, range_with_len, flat_map, cases_lt, and_parts, All-nil, All-cons, All-get_or, Any-from_list_any, Spot, Data, Link, Shape, IsSpot, is_spot, number, spot_address, IsShape, RingView, declared, floor_number, is_border, is_target, spots_between, target, is_reached, may_move_to, is_move, RingKeeps, rules, rank_least, rank_most, same_spot}
 use Rattle.segments.proofs.Named.{found_is}
 
 -- a spot at an address, with a number from least to most
@@ -12,26 +11,16 @@ record IsAt (shape : Shape) (address least most : ℕ) (t : Spot) : Type 0 where
 
 spots_within : (least most a n : ℕ) → least ≤ a → a + n ≤ most + 1 → All (λ t. (least ≤ number t) × (number t ≤ most)) (flat_map (λ q. Link q ∷ Data q ∷ []) (range_with_len a n))
 spots_within least most a zero low high = All-nil (λ t. (least ≤ number t) × (number t ≤ most))
-spots_within least most a (suc n) low high =
-    let P = λ (t : Spot). (least ≤ number t) × (number t ≤ most) in
-    let rest : List Spot = flat_map (λ q. Link q ∷ Data q ∷ []) (range_with_len (a + 1) n) in
-    All-cons P (Link a) (Data a ∷ rest) (low, omega arith)
-    (All-cons P (Data a) rest (low, omega arith) (spots_within least most (a + 1) n (omega arith) (omega arith)))
+spots_within least most a (suc n) low high = search (rules, spots_within least most (a + 1) n (omega arith) (omega arith), All-cons, flat_map, range_with_len)
 
 pub between : (least most : ℕ) → All (λ t. (least ≤ number t) × (number t ≤ most)) (spots_between least most)
 unfolding spots_between
-between least most = elim (cases_lt most least) [
-  | inl none ↦ search (rules, All, number, flat_map, Link, Data, range_with_len, All-nil)
-  | inr some ↦ spots_within least most least (most + 1 - least) (omega arith) (omega arith)
-]
+between least most = grind (arith, cases_lt most least, spots_within least most least (most + 1 - least))
 
 target_at : (shape : Shape) (address : ℕ) (cycle : Bool) (least most : ℕ) (t : Spot) → is_target shape address cycle t ≡ true → (least ≤ number t) × (number t ≤ most) →
     IsAt shape address least most t
 unfolding is_target
-target_at shape address cycle least most t is bounds =
-    let parts = and_parts (is_spot shape t) (spot_address shape t == address)
-    (and_parts (is_spot shape t && spot_address shape t == address) (spot_cycle shape t == (if cycle then 1 else 0)) is).0 in
-    record { is_spot = parts.0; at = eqb-true (spot_address shape t) address parts.1; from = bounds.0; to = bounds.1 }
+target_at shape address cycle least most t is bounds = grind (arith, and_parts, eqb-true)
 
 -- two spots at one address from the floor's number up to what is declared are one
 one_at : (shape : Shape) → IsShape shape → (memory : ℕ → ℕ) (v : RingView) → RingKeeps shape memory v → (address : ℕ) (s t : Spot) →

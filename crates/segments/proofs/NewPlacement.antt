@@ -1,6 +1,5 @@
 -- A ring on which nothing happened stands still at its first block with cycle state 1, and nowhere else
-use Rattle.std.proofs.Common.{rules}
-use Rattle.segments.proofs.Words.{◌≡◌, ◌==◌, ◌&&◌, ◌||◌, if◌then◌else◌, ◌∷◌, ℕ, Bool, true, false, List, [], Some, refl, Data, Shape, number, address_of, cycle_of, IsShape, RingView, floor_number, given_count, ceiling, is_border, is_target, spots_between, are_given, are_ways_given, is_reached, may_move_to, is_move, is_placement, unwrap_or}
+use Rattle.segments.proofs.Words.{rules, ◌≡◌, ◌==◌, ◌&&◌, ◌∷◌, ℕ, Bool, true, List, [], Some, refl, Data, Shape, number, address_of, cycle_of, IsShape, RingView, floor_number, given_count, ceiling, is_border, is_target, spots_between, are_given, are_ways_given, is_reached, may_move_to, is_move, is_placement, unwrap_or}
 use Rattle.segments.proofs.Positions.{place_count_pos, cycle_of-first}
 
 border_first : (lengths : List ℕ) → is_border lengths 0 0 ≡ true
@@ -8,15 +7,10 @@ unfolding is_border
 border_first [] = refl
 border_first (n ∷ rest) = refl
 
-first_alone : (a b c : Bool) (n : ℕ) → n ≡ 1 → b ≡ true → (((a && n == (if c then 1 else 0)) && (b && true)) || false) ≡ (a && c)
-first_alone true b true n one there = rw (one, there) refl
-first_alone true b false n one there = rw one refl
-first_alone false b c n one there = refl
-
 module _ (shape : Shape) (is : IsShape shape) (v : RingView) (p : ℕ) (cycle : Bool) where
   first_move : is_move shape v p cycle 0 0 ≡ (address_of shape 0 == p && cycle)
   unfolding is_move spots_between is_target may_move_to is_reached are_given are_ways_given
-  first_move = search (rules, place_count_pos, first_alone, address_of, is_border, cycle_of, cycle_of-first, border_first)
+  first_move = search (rules, place_count_pos, address_of, is_border, cycle_of, cycle_of-first, border_first)
 
   pub placement_new : v.floor ≡ Data 0 → v.held ≡ Some 0 → is_placement shape v p cycle ≡ (address_of shape 0 == p && cycle)
   unfolding is_placement ceiling

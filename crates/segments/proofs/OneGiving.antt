@@ -1,8 +1,6 @@
 -- A word gives one position or one crossing at most: a place has one due position, a Link one due crossing
-use Rattle.std.proofs.Common.{rules}
-use Rattle.segments.proofs.Words.{◌≡◌, ◌+◌, ◌≤◌, ◌⊎◌, ◌∷◌, ◌∙◌, ℕ, suc, zero, not, Bool, true, [], filter, arith, refl, inl, range_with_len, cases_Bool, cond-true, cond-false, and_parts, false_from_ne_true, Spot, Shape, place_count, IsShape, RingView, floor_number, gives, due_positions, positions_given}
+use Rattle.segments.proofs.LowerLaws.{rules, ◌≡◌, ◌+◌, ◌≤◌, ◌⊎◌, ◌∷◌, ℕ, suc, zero, not, Bool, true, [], filter, arith, refl, inl, range_with_len, cases_Bool, cond-true, cond-false, and_parts, false_from_ne_true, Spot, Shape, place_count, IsShape, RingView, floor_number, gives, due_positions, positions_given, gives_is}
 use Rattle.segments.proofs.Positions.{same_position_near}
-use Rattle.segments.proofs.Giving.{gives_is}
 
 module _ (shape : Shape) (is : IsShape shape) (floor : Spot) (a w : ℕ) where
   pub gives_one : (p q : ℕ) → gives shape floor p a w ≡ true → gives shape floor q a w ≡ true → p ≡ q
@@ -12,9 +10,7 @@ module _ (shape : Shape) (is : IsShape shape) (floor : Spot) (a w : ℕ) where
 
 none_from : (test : ℕ → Bool) (a n : ℕ) → ((q : ℕ) → a ≤ q → test q ≡ true → ⊥) → filter test (range_with_len a n) ≡ []
 none_from test a zero none = refl
-none_from test a (suc n) none =
-    cond-false (test a) (a ∷ filter test (range_with_len (a + 1) n)) (filter test (range_with_len (a + 1) n)) (false_from_ne_true (test a) (none a (omega arith)))
-    ∙ none_from test (a + 1) n (λ q h. none q (omega arith))
+none_from test a (suc n) none = search (rules, cond-false, false_from_ne_true, none_from test (a + 1) n (λ q h. none q (omega arith)))
 
 -- of a range at most one number passes
 one_from : (test : ℕ → Bool) (a n : ℕ) → ((p q : ℕ) → test p ≡ true → test q ≡ true → p ≡ q) →

@@ -1,11 +1,6 @@
 -- Which word of a ring's blocks has an address: each word has one answer, and each answer is of such a word
-use Rattle.segments.proofs.Words.{◌≡◌, ◌≢◌, ◌+◌, ◌-◌, ◌*◌, ◌/◌, ◌%◌, ◌<◌, ◌≤◌, ◌==◌, if◌then◌else◌, ◌∙◌, ℕ, true, length, slice_index, nat_le, nat_lt, Some, None, is_some, arith, ap, inl, inr, eq-eqb, ne_eqb, le-leb, lt-ltb, le-ltb, leb-true, ltb-true, option_map, option_or, none-some, same_Some, cases_lt, and_parts, and_from, cond-true, cond-false, false_from_ne_true, get_or_default, Any-from_list_any, position-Some, Place, RingKind, Cmd, Evt, Xfer, Segment, Shape, data_count, segment_has, data_places, place_count, address_of, links, link_crossed, link_address, is_in, is_inside, data_place_at, link_at, place_at, IsShape, rules}
+use Rattle.segments.proofs.MiddleLaws.{◌≡◌, ◌≢◌, ◌+◌, ◌-◌, ◌*◌, ◌/◌, ◌%◌, ◌<◌, ◌≤◌, ◌==◌, if◌then◌else◌, ◌∙◌, ℕ, true, length, slice_index, nat_le, nat_lt, Some, None, is_some, arith, ap, inl, inr, ne_eqb, le-leb, lt-ltb, le-ltb, leb-true, ltb-true, option_map, option_or, none-some, same_Some, cases_lt, and_parts, and_from, cond-false, false_from_ne_true, get_or_default, Any-from_list_any, position-Some, Place, RingKind, Evt, Segment, Shape, data_count, segment_has, data_places, place_count, address_of, links, link_crossed, link_address, is_in, is_inside, data_place_at, link_at, place_at, IsShape, rules, IsPlace, place_is, block_is, link_is, length-links, byte_inside, places_apart, place_aligned, place_not_link, links_apart, link_aligned, place_below, address_of-first, crosses, link_address_is, segment_at, before, position_only, position_nowhere, cases_option}
 use Rattle.segments.specs.declared.place.Place.TheVariants.{Data, Link}
-use Rattle.segments.proofs.DataPlaces.{IsPlace, place_is, block_is, link_is, length-links, byte_inside, places_apart, place_aligned, place_not_link, links_apart, link_aligned}
-use Rattle.segments.proofs.Positions.{place_below, address_of-first}
-use Rattle.segments.proofs.Crossings.{crosses, link_address_is}
-use Rattle.segments.proofs.Blocks.{segment_at, before}
-use Rattle.segments.proofs.Search.{position_only, position_nowhere, cases_option}
 
 pub is_in-true : (x a n : ℕ) → a ≤ x → x < a + n → is_in x a n ≡ true
 is_in-true x a n low high = and_from (nat_le a x) (nat_lt x (a + n)) (le-leb a x low) (lt-ltb x (a + n) high)
@@ -30,19 +25,15 @@ link_at-byte : (shape : Shape) → IsShape shape → (j x : ℕ) → j < length 
     slice_index (links shape) j ≤ x → x < slice_index (links shape) j + 16 → link_at shape x ≡ Some j
 link_at-byte shape is j x h low high = search (rules, position_only, is_in, links, is_in-true, is_in-parts, slice_index, links_apart)
 
-at_word : (shape : Shape) (x : ℕ) → x % 4 ≡ 0 →
-    place_at shape x ≡ option_or (option_map (λ i. Data i (x % 16 / 4)) (data_place_at shape x)) (option_map (λ j. Link j (x % 16 / 4)) (link_at shape x))
-at_word shape x h = cond-true (x % 4 == 0) _ None (eq-eqb (x % 4) 0 h)
-
 -- a word of a data place
 pub place_at-data : (shape : Shape) → IsShape shape → (i x : ℕ) → i < place_count shape → x % 4 ≡ 0 →
     slice_index (data_places shape) i ≤ x → x < slice_index (data_places shape) i + 16 → place_at shape x ≡ Some (Data i (x % 16 / 4))
-place_at-data shape is i x h word low high = search (rules, at_word, option_or, option_map, Data, Link, link_at, data_place_at-byte)
+place_at-data shape is i x h word low high = search (rules, option_or, option_map, Data, Link, link_at, data_place_at-byte)
 
 -- a word of a Link
 pub place_at-link : (shape : Shape) → IsShape shape → (j x : ℕ) → j < length (links shape) → x % 4 ≡ 0 →
     slice_index (links shape) j ≤ x → x < slice_index (links shape) j + 16 → place_at shape x ≡ Some (Link j (x % 16 / 4))
-place_at-link shape is j x h word low high = search (rules, at_word, option_or, option_map, Data, Link, link_at, data_place_at-link, link_at-byte)
+place_at-link shape is j x h word low high = search (rules, option_or, option_map, Data, Link, link_at, data_place_at-link, link_at-byte)
 
 -- an address that is no multiple of 4 is none of a word
 pub place_at-odd : (shape : Shape) (x : ℕ) → x % 4 ≢ 0 → place_at shape x ≡ None
@@ -64,8 +55,7 @@ place_at-link_word shape is j w inside l = search (rules, word_of, slice_index, 
 -- word w of the Link that crossing q goes over
 pub place_at-link_address : (shape : Shape) → IsShape shape → (q i w : ℕ) → link_crossed shape q ≡ Some i → w < 4 →
     place_at shape (link_address shape q + 4 * w) ≡ Some (Link i w)
-place_at-link_address shape is q i w h l =
-    ap (λ a. place_at shape (a + 4 * w)) (link_address_is shape q i h) ∙ (place_at-link_word shape is i w (crosses shape q i h).link l)
+place_at-link_address shape is q i w h l = cc (ap (λ a. place_at shape (a + 4 * w)) (link_address_is shape q i h), (place_at-link_word shape is i w (crosses shape q i h).link l))
 
 -- what an answer says of the address
 abbrev pub IsAnswer : Shape → ℕ → Place → Type 0
@@ -79,19 +69,17 @@ data_answer : (shape : Shape) → IsShape shape → (x i : ℕ) → x % 4 ≡ 0 
 data_answer shape is x i word h =
     let found = position-Some (λ a. is_in x a 16) (data_places shape) i 0 h in
     let bytes = is_in-parts x (slice_index (data_places shape) i) 16 found.1 in
-    let back = word_back (slice_index (data_places shape) i) x (place_aligned shape is i found.0) word bytes.0 bytes.1 in
-    (found.0, back.0, back.1)
+    search (rules, found, word_back (slice_index (data_places shape) i) x (place_aligned shape is i found.0) word bytes.0 bytes.1)
 
 link_answer : (shape : Shape) → IsShape shape → (x j : ℕ) → x % 4 ≡ 0 → link_at shape x ≡ Some j → IsAnswer shape x (Link j (x % 16 / 4))
 link_answer shape is x j word h =
     let found = position-Some (λ a. is_in x a 16) (links shape) j 0 h in
     let bytes = is_in-parts x (slice_index (links shape) j) 16 found.1 in
-    let back = word_back (slice_index (links shape) j) x (link_aligned shape is j found.0) word bytes.0 bytes.1 in
-    (found.0, back.0, back.1)
+    search (rules, found, word_back (slice_index (links shape) j) x (link_aligned shape is j found.0) word bytes.0 bytes.1)
 
 -- every answer is of a word with this address
 pub place_at-Some : (shape : Shape) → IsShape shape → (x : ℕ) (place : Place) → place_at shape x ≡ Some place → IsAnswer shape x place
-place_at-Some shape is x place h = search (rules, none-some, place_at-odd, cases_option, at_word, same_Some, data_answer, link_answer)
+place_at-Some shape is x place h = search (rules, none-some, place_at-odd, cases_option, same_Some, data_answer, link_answer)
 
 pub place_at-Data : (shape : Shape) → IsShape shape → (x i w : ℕ) → place_at shape x ≡ Some (Data i w) →
     (i < place_count shape) × (w < 4) × (x ≡ address_of shape i + 4 * w)
@@ -115,32 +103,33 @@ has_link : (kind : RingKind) (s : Segment) → data_count kind s < s.count → k
 has_link kind s l event = let same : data_count kind s ≡ s.count = ap (λ k. data_count k s) event in omega arith
 
 link_last : (kind : RingKind) (s : Segment) (k : ℕ) → k < s.count → data_count kind s ≤ k → k ≡ data_count kind s
-link_last Evt s k h l = absurd (omega arith)
-link_last Cmd s k h l = omega arith
-link_last Xfer s k h l = omega arith
+link_last kind s k h4 h5 = search rules
 
 -- a word of block k of segment j
 pub place_at-block : (shape : Shape) → IsShape shape → (j k x : ℕ) → j < length shape.segments → k < (segment_at shape.segments j).count →
     x % 4 ≡ 0 → (segment_at shape.segments j).base + 16 * k ≤ x → x < (segment_at shape.segments j).base + 16 * k + 16 →
     place_at shape x ≡ Some (if nat_lt k (data_count shape.kind (segment_at shape.segments j))
     then Data (before shape.kind shape.segments j + k) (x % 16 / 4) else Link j (x % 16 / 4))
-place_at-block shape is j k x hj hk word low high = elim (cases_lt k (data_count shape.kind (segment_at shape.segments j))) [
-  | inl holds ↦ search (rules, block_is shape is j k hj holds, block_is, place_at-data, before, Some, cond-true, nat_lt, data_count, segment_at, lt-ltb)
-  | inr last ↦
-      let links_all = length-links shape (has_link shape.kind (segment_at shape.segments j) (omega arith)) in
-      let link = link_is shape is j (omega arith) in
-      let end : k ≡ data_count shape.kind (segment_at shape.segments j) = link_last shape.kind (segment_at shape.segments j) k hk last in
-      search (rules, place_at-link, Some, cond-false, nat_lt, data_count, segment_at, le-ltb)
-]
-
-within_segment : (a n k w x : ℕ) → k < n → w < 4 → x ≡ a + 16 * k + 4 * w → (a ≤ x) × (x < a + 16 * n)
-within_segment a n k w x h l e = (omega arith, omega arith)
+place_at-block shape is j k x hj hk word low high =
+    search (
+      rules,
+      cases_lt k (data_count shape.kind (segment_at shape.segments j)),
+      block_is shape is j k hj,
+      place_at-data,
+      lt-ltb,
+      le-ltb,
+      length-links shape,
+      has_link shape.kind (segment_at shape.segments j),
+      link_is shape is j,
+      link_last shape.kind (segment_at shape.segments j) k hk,
+      place_at-link,
+    )
 
 answer_inside : (shape : Shape) → IsShape shape → (x : ℕ) (place : Place) → IsAnswer shape x place →
     (j : ℕ) × (j < length shape.segments) × ((segment_at shape.segments j).base ≤ x) × (x < (segment_at shape.segments j).base + 16 * (segment_at shape.segments j).count)
 answer_inside shape is x (Data i w) answer =
-    search (rules, place_is shape is i answer.0, (place_is shape is i answer.0).2, place_is, IsPlace, within_segment, segment_at)
-answer_inside shape is x (Link j w) answer = search (rules, link_is, within_segment, segment_at)
+    search (rules, place_is shape is i answer.0, (place_is shape is i answer.0).2, place_is, IsPlace, segment_at)
+answer_inside shape is x (Link j w) answer = search (rules, link_is, segment_at)
 
 -- an address outside each segment
 pub place_at-outside : (shape : Shape) → IsShape shape → (x : ℕ) →
@@ -155,15 +144,10 @@ place_at-outside shape is x outside = elim (cases_option (place_at shape x)) [
 pub place_at-inside : (shape : Shape) → IsShape shape → (x : ℕ) → x % 4 ≡ 0 → is_inside shape x ≡ true → is_some (place_at shape x) ≡ true
 place_at-inside shape is x word inside =
     let found = Any-from_list_any (segment_has x) shape.segments inside in
-    let j : ℕ = found.0 in
-    let at : segment_at shape.segments j ≡ found.1 = get_or_default shape.segments j (record { base = 0; count = 0 }) found.1 found.2 ∙ found.3 in
-    let bytes = is_in-parts x (segment_at shape.segments j).base (16 * (segment_at shape.segments j).count) (ap (λ s. segment_has x s) at ∙ found.4) in
-    let k : ℕ = (x - (segment_at shape.segments j).base) / 16 in
-    let block = block_number (segment_at shape.segments j).base (segment_at shape.segments j).count x bytes.0 bytes.1 in
-    ap (λ o. is_some o) (place_at-block shape is j k x found.2 block.0 word block.1 block.2)
-  where
-    block_number : (a n x : ℕ) → a ≤ x → x < a + 16 * n → ((x - a) / 16 < n) × (a + 16 * ((x - a) / 16) ≤ x) × (x < a + 16 * ((x - a) / 16) + 16)
-    block_number a n x low high = (omega arith, omega arith, omega arith)
+    let at : segment_at shape.segments found.0 ≡ found.1 = get_or_default shape.segments found.0 (record { base = 0; count = 0 }) found.1 found.2 ∙ found.3 in
+    let bytes = is_in-parts x (segment_at shape.segments found.0).base (16 * (segment_at shape.segments found.0).count) (ap (λ s. segment_has x s) at ∙ found.4) in
+    ap (λ o. is_some o) (place_at-block shape is found.0 ((x - (segment_at shape.segments found.0).base) / 16) x found.2 (omega (arith, bytes.1)) word (omega (arith, bytes.0))
+    (omega (arith, bytes.0)))
 
 -- outside its segments no word has an answer
 pub is_inside-place_at : (shape : Shape) → IsShape shape → (x : ℕ) (place : Place) → place_at shape x ≡ Some place → is_inside shape x ≡ true

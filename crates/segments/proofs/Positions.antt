@@ -1,13 +1,10 @@
 -- Positions from lap to lap: their addresses and Cycle bits, xHCI 4.9.2
-use Rattle.segments.proofs.Words.{◌≡◌, ◌≢◌, ◌+◌, ◌-◌, ◌*◌, ◌/◌, ◌%◌, ◌^◌, ◌<◌, ◌≤◌, ℕ, slice_index, arith, ap, refl, inl, inr, rules, cases_order, cases_lt, mul-le, div-mul-add, mod-mul-add, add-mod_right, add-div_right, mod-lt, mod-eq_of_lt, div-eq_of_lt, div-add-mod, div-add-mod', Shape, data_places, place_count, address_of, cycle_of, IsShape}
-use Rattle.segments.proofs.ShapeFacts.{shape_facts}
+use Rattle.segments.proofs.LowerLaws.{◌≡◌, ◌≢◌, ◌+◌, ◌-◌, ◌*◌, ◌/◌, ◌%◌, ◌^◌, ◌<◌, ◌≤◌, ℕ, slice_index, arith, ap, refl, rules, cases_order, cases_lt, mul-le, div-mul-add, mod-mul-add, add-mod_right, add-div_right, mod-lt, mod-eq_of_lt, div-eq_of_lt, div-add-mod, div-add-mod', Shape, data_places, place_count, address_of, cycle_of, IsShape, shape_facts}
 use Rattle.segments.proofs.DataPlaces.{places_apart, place_aligned, place_ends}
 
 -- the quotient and the remainder one further on, within n and at its end
 pub next_within : (n p : ℕ) → p % n + 1 < n → ((p + 1) / n ≡ p / n) × ((p + 1) % n ≡ p % n + 1)
-next_within n p h =
-    let split : p + 1 ≡ p / n * n + (p % n + 1) = omega (arith, div-add-mod' p n) in
-    (rw split (div-mul-add (p / n) n (p % n + 1) h), rw split (mod-mul-add (p / n) n (p % n + 1) h))
+next_within n p h = grind (arith, div-add-mod, div-mul-add, mod-mul-add)
 
 pub next_at_end : (n p : ℕ) → 0 < n → p % n + 1 ≡ n → ((p + 1) / n ≡ p / n + 1) × ((p + 1) % n ≡ 0)
 next_at_end n p pos h =
@@ -16,17 +13,7 @@ next_at_end n p pos h =
 
 -- numbers less than n apart with one remainder are equal
 pub same_in_lap : (n p q : ℕ) → 0 < n → p ≤ q → q < p + n → p % n ≡ q % n → p ≡ q
-same_in_lap n p q pos le near same =
-    search (rules, div-add-mod p n, div-add-mod q n, div-add-mod, same_quotient)
-  where
-    same_quotient : (n p q a b r s : ℕ) → p ≤ q → q < p + n → r ≡ s → n * a + r ≡ p → n * b + s ≡ q → p ≡ q
-    same_quotient n p q a b r s le near same e f = elim (cases_order a b) [
-      | inl one ↦ let products : n * a ≡ n * b = ap (λ k. n * k) one in omega arith
-      | inr apart ↦ elim apart [
-        | inl lower ↦ let step : n * (a + 1) ≤ n * b = mul-le n (a + 1) n b (omega arith) (omega arith) in absurd (omega arith)
-        | inr upper ↦ let step : n * (b + 1) ≤ n * a = mul-le n (b + 1) n a (omega arith) (omega arith) in absurd (omega arith)
-      ]
-    ]
+same_in_lap n p q pos le near same = grind (arith, div-add-mod, cases_order, mul-le)
 
 pub place_count_pos : (shape : Shape) → IsShape shape → 0 < place_count shape
 place_count_pos shape is = omega (arith, (shape_facts shape is).several)

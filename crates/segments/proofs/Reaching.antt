@@ -1,11 +1,6 @@
 -- A spot that is reached, a ring that is opened or held: what the rules keep of a ring stays
-use Rattle.segments.proofs.Words.{cases_Bool, ceiling, IsRestored, IsShownTo, ◌≡◌, ◌≢◌, ◌+◌, ◌-◌, ◌%◌, ◌<◌, ◌≤◌, ◌∙◌, ℕ, true, false, [], Option, None, Some, arith, refl, sym, ap, inl, inr, get_or, cases_lt, cases_eq, false≢true, none-some, same_Some, slice_get-get_or, Block, word, with_cycle, Spot, Shape, place_count, address_of, cycle_of, is_crossing, link_address, number, IsShape, RingView, Reaches, Opens, Holds, changed, declared, floor_number, is_due, is_crossing_due, is_step_given, is_way_given, given_count, descriptor_length, RingKeeps, MayReach, MayHold, rules}
-use Rattle.segments.proofs.Positions.{place_count_pos, address_of-lap, cycle_of_bit, cycle_of_flips}
-use Rattle.segments.proofs.Crossings.{crossed_link, is_crossing-lap, link_address-lap}
+use Rattle.segments.proofs.MiddleLaws.{cases_Bool, ceiling, IsRestored, IsShownTo, ◌≡◌, ◌≢◌, ◌+◌, ◌-◌, ◌%◌, ◌<◌, ◌≤◌, ◌∙◌, ℕ, true, false, [], Option, None, Some, arith, refl, sym, inl, inr, get_or, cases_lt, cases_eq, false≢true, none-some, same_Some, slice_get-get_or, Block, word, with_cycle, Spot, Shape, place_count, address_of, cycle_of, link_address, number, IsShape, RingView, Reaches, Opens, Holds, changed, declared, floor_number, is_due, is_crossing_due, is_step_given, is_way_given, given_count, descriptor_length, RingKeeps, MayReach, MayHold, rules, place_count_pos, address_of-lap, cycle_of_bit, cycle_of_flips, crossed_link, is_crossing-lap, link_address-lap, due_is, due_from, crossing_due_is, crossing_due_from, given_below, given_count_least, given_count_stops, given_count_still, ceiling_held, step_is, step_from, whole_more, cases_option, ◌⊎◌, is_wrong_link, block_at, link_crossed, is_not_whole}
 use Rattle.segments.proofs.SpotOrder.{rank_least}
-use Rattle.segments.proofs.Giving.{due_is, due_from, crossing_due_is, crossing_due_from}
-use Rattle.segments.proofs.GivenCount.{given_below, given_count_least, given_count_stops, given_count_still, ceiling_held}
-use Rattle.segments.proofs.StepFacts.{step_is, step_from, whole_more}
 
 -- the view with another floor and another number at which the ring is held
 abbrev pub moved : RingView → Spot → Option ℕ → RingView
@@ -15,11 +10,7 @@ module _ (shape : Shape) (is : IsShape shape) (memory : ℕ → ℕ) (v : RingVi
   -- ---- what is given
 
   pub given_count_declared : given_count shape v ≤ declared v
-  given_count_declared = elim (cases_lt (declared v) (given_count shape v)) [
-    | inl above ↦
-        absurd (omega (arith, k.given_declared (declared v) (step_is shape v (declared v) (given_below shape v (declared v) above)).0))
-    | inr within ↦ within
-  ]
+  given_count_declared = search (rules, cases_lt (declared v) (given_count shape v), k.given_declared (declared v), step_is shape v (declared v), given_below shape v (declared v))
 
   -- a place stays empty, so what is given ends less than a lap ahead of the floor
   pub given_count_near : given_count shape v < floor_number v + place_count shape
@@ -34,23 +25,17 @@ module _ (shape : Shape) (is : IsShape shape) (memory : ℕ → ℕ) (v : RingVi
 
   -- a spot that may be reached isn't ahead of what is given
   pub reached_given : (t : Spot) → MayReach shape v t → number t ≤ given_count shape v
-  reached_given t may = elim (cases_lt (given_count shape v) (number t)) [
-    | inl above ↦
-        let n : ℕ = given_count shape v in
-        let given : is_step_given shape v n ≡ true = step_from shape v n (may.passed n above) (λ crossing. may.passed_links n crossing (omega (arith, rank_least t))) in
-        absurd (false≢true (sym (given_count_stops shape v given_count_near) ∙ given))
-    | inr within ↦ within
-  ]
+  reached_given t may =
+      search (rules, cases_lt (given_count shape v) (number t), step_from shape v (given_count shape v), may.passed (given_count shape v), may.passed_links (given_count shape v), rank_least t, given_count_stops shape v given_count_near, false≢true)
 
   -- ---- what is free
 
   -- a ring of which something is free is held, at its ceiling
   held_if_free : (p : ℕ) → v.free p ≡ true → (m : ℕ) × (v.held ≡ Some m) × (p < m → p < ceiling shape v)
-  held_if_free p free = by v.held refl
-    where
-      by : (o : Option ℕ) → v.held ≡ o → (m : ℕ) × (v.held ≡ Some m) × (p < m → p < ceiling shape v)
-      by None at = absurd (false≢true (sym (k.open_restored at p) ∙ free))
-      by (Some m) at = (m, at, λ below. omega (arith, ceiling_held shape v m at))
+  held_if_free p free = elim (cases_option v.held) [
+    | inl none ↦ absurd (false≢true (sym (k.open_restored none p) ∙ free))
+    | inr some ↦ (some.0, some.1, λ below. omega (arith, ceiling_held shape v some.0 some.1))
+  ]
 
   -- ---- a lap behind
 
@@ -62,7 +47,7 @@ module _ (shape : Shape) (is : IsShape shape) (memory : ℕ → ℕ) (v : RingVi
   kept_cycle p low g kept =
       let none : Block = record { w = [] } in
       let d : Block = get_or v.queue p none in
-      ap (λ b. word b 3 % 2) (k.kept p d low g kept (slice_get-get_or v.queue p none (k.given_declared p g))) ∙ cycle_bit d (cycle_of shape p) (cycle_of_bit shape p)
+      search (rules, slice_get-get_or v.queue p none (k.given_declared p g), k.kept p d low g kept, cycle_bit d (cycle_of shape p) (cycle_of_bit shape p))
 
   -- and so does one that is free, below the ceiling
   given_cycle : (p : ℕ) → floor_number v ≤ p → v.given p ≡ true → (v.free p ≡ true → p < ceiling shape v) → memory (address_of shape p + 12) % 2 ≡ cycle_of shape p
@@ -83,42 +68,19 @@ module _ (shape : Shape) (is : IsShape shape) (memory : ℕ → ℕ) (v : RingVi
       let lap : q - place_count shape + place_count shape ≡ q = omega arith in
       let one : q - place_count shape - 1 + place_count shape ≡ q - 1 = omega arith in
       let found = crossed_link shape (q - place_count shape) (k.crossed_is_crossing (q - place_count shape) g) in
-      let stands = k.kept_link (q - place_count shape) found.0 (crossed_due (q - place_count shape) (omega arith) g) g found.1 in
-      let place : link_address shape q ≡ link_address shape (q - place_count shape) =
-      ap (λ n. link_address shape n) (sym lap) ∙ link_address-lap shape (q - place_count shape) some in
-      λ same. cycle_of_flips shape is (q - place_count shape - 1) (ap (λ n. cycle_of shape n) one ∙ sym same ∙ ap (λ a. memory (a + 12) % 2) place ∙ stands.1)
+      search (rules, k.kept_link (q - place_count shape) found.0 (crossed_due (q - place_count shape) (omega arith) g) g found.1, link_address-lap, cycle_of_flips)
 
   -- ---- from a later floor
 
   module _ (t : Spot) (may : MayReach shape v t) where
     not_yet_from : IsShownTo shape v (number t) → (p : ℕ) → is_due shape t p ≡ true → v.given p ≡ false → memory (address_of shape p + 12) % 2 ≢ cycle_of shape p
     not_yet_from shown p due g =
-        let pos = place_count_pos shape is in
-        let is_due = due_is shape t p due in
-        elim (cases_lt p (floor_number v + place_count shape)) [
-          | inl near ↦ k.not_yet p (due_from shape v.floor p (omega (arith, may.later)) near) g
-          | inr far ↦
-              let behind : p - place_count shape < number t = omega arith in
-              behind_given p far (may.passed (p - place_count shape) behind) (λ free. shown (p - place_count shape) free behind)
-        ]
+        search (rules, cases_lt p (floor_number v + place_count shape), place_count_pos shape is, due_is shape t p due, k.not_yet p, due_from shape v.floor p, behind_given p, may.passed (p - place_count shape), shown (p - place_count shape), may.later)
 
     not_yet_link_from : (q : ℕ) → is_crossing_due shape t q ≡ true → v.crossed q ≡ false → memory (link_address shape q + 12) % 2 ≢ cycle_of shape (q - 1)
     not_yet_link_from q is_due g =
         let due = crossing_due_is shape t q is_due in
-        let low : floor_number v ≤ q = omega (arith, may.later, due.from) in
-        elim (cases_lt q (floor_number v + place_count shape)) [
-          | inl near ↦ k.not_yet_link q (crossing_due_from shape v.floor q (record { crossing = due.crossing; from = low; within = inl near })) g
-          | inr far ↦ elim (cases_eq q (place_count shape)) [
-            | inl first ↦ k.not_yet_link q (crossing_due_from shape v.floor q (record { crossing = due.crossing; from = low; within = inr (first, omega arith) })) g
-            | inr more ↦
-                let below : q < number t + place_count shape = elim due.within [ inl below ↦ below | inr end ↦ absurd (more end.0) ] in
-                let some : 0 < q - place_count shape = omega arith in
-                let lap : q - place_count shape + place_count shape ≡ q = omega arith in
-                let crossing : is_crossing shape (q - place_count shape) ≡ true =
-                sym (is_crossing-lap shape (q - place_count shape) some) ∙ ap (λ n. is_crossing shape n) lap ∙ due.crossing in
-                link_behind_given q far some (may.passed_links (q - place_count shape) crossing (omega (arith, rank_least t)))
-          ]
-        ]
+        search (rules, cases_lt q (floor_number v + place_count shape), cases_eq q (place_count shape), due, k.not_yet_link q, crossing_due_from shape v.floor q, may.later, is_crossing-lap shape (q - place_count shape), link_behind_given q, may.passed_links (q - place_count shape), rank_least t)
 
     step_stays : (held : Option ℕ) (p : ℕ) → is_step_given shape v p ≡ is_step_given shape (moved v t held) p
     unfolding is_step_given is_way_given
@@ -129,11 +91,8 @@ module _ (shape : Shape) (is : IsShape shape) (memory : ℕ → ℕ) (v : RingVi
     length_stays held p = refl
 
     moved_count_declared : (held : Option ℕ) → given_count shape (moved v t held) ≤ declared v
-    moved_count_declared held = elim (cases_lt (declared v) (given_count shape (moved v t held))) [
-      | inl above ↦
-          search (rules, step_is shape (moved v t held) (declared v) (given_below shape (moved v t held) (declared v) above), step_is, declared, given_below)
-      | inr within ↦ within
-    ]
+    moved_count_declared held =
+        search (rules, cases_lt (declared v) (given_count shape (moved v t held)), step_is shape (moved v t held) (declared v), declared, given_below shape (moved v t held) (declared v), k.given_declared (declared v))
 
     -- a floor that moves on changes nothing of what is given
     pub given_count-moved : (held : Option ℕ) → given_count shape v ≡ given_count shape (moved v t held)
@@ -143,41 +102,26 @@ module _ (shape : Shape) (is : IsShape shape) (memory : ℕ → ℕ) (v : RingVi
     -- free it is held, and shows its cycle up to there
     pub moved_keeps : (held : Option ℕ) → ((m : ℕ) → held ≡ Some m → (number t ≤ m) × (m ≤ given_count shape v)) →
         ((p : ℕ) → v.free p ≡ true → (m : ℕ) × (held ≡ Some m) × (p < m → p < ceiling shape v)) → RingKeeps shape memory (moved v t held)
-    moved_keeps held within restored = record {
-      is_spot = may.is_spot;
-      room = omega (arith, k.room, may.later);
-      passed = may.passed;
-      passed_links = may.passed_links;
-      given_within = λ p g. omega (arith, k.given_within p g, may.later);
-      given_declared = k.given_declared;
-      crossed_is_crossing = k.crossed_is_crossing;
-      crossed_within = λ q g.
-          elim (k.crossed_within q g) [
-            | inl below ↦ inl (omega (arith, may.later))
-            | inr first ↦ elim (cases_eq (number t) 0) [
-              | inl still ↦ inr (first.0, still)
-              | inr on ↦ inl (omega arith)
-            ]
-          ];
-      kept = λ p d low g kept at. k.kept p d (omega (arith, may.later)) g kept at;
-      not_yet = not_yet_from (λ p free below. let r = restored p free in r.2 (omega (arith, (within r.0 r.1).0)));
-      kept_link = λ q i due g at. k.kept_link q i (crossed_due q (omega (arith, may.later, (crossing_due_is shape t q due).from)) g) g at;
-      not_yet_link = not_yet_link_from;
-      whole = λ p g. whole_more shape v (moved v t held) p (record { given = λ q h. h; crossed = λ q h. h }) (length_stays held p) (k.whole p g);
-      lengths = k.lengths;
-      descriptors = k.descriptors;
-      blocks = k.blocks;
-      held = λ m at. let bounds = within m at in record { from = bounds.0; to = omega (arith, bounds.1, given_count-moved held) };
-      free_given = k.free_given;
-      free_shows = λ p low high free.
-          let r = restored p free in
-          k.free_shows p (omega (arith, may.later)) (r.2 (omega (arith, ceiling_held shape (moved v t held) r.0 r.1))) free;
-      open_restored = λ none p.
-          elim (cases_Bool (v.free p)) [
-            | inl free ↦ absurd (none-some (restored p free).0 (sym none ∙ (restored p free).1))
-            | inr kept ↦ kept
-          ];
-    }
+    moved_keeps held within restored =
+        let floor_at : floor_number (moved v t held) ≡ number t = refl in
+        let within_by : (p : ℕ) → v.given p ≡ true → p < number t + place_count shape = λ p g. omega (arith, k.given_within p g, may.later) in
+        let crossed_by : (q : ℕ) → v.crossed q ≡ true → (q < number t + place_count shape) ⊎ ((q ≡ place_count shape) × (number t ≡ 0)) = λ q g. search (rules, k.crossed_within q g, may.later, cases_eq (number t) 0) in
+        let low : (p : ℕ) → number t ≤ p → floor_number v ≤ p = λ p above. omega (arith, may.later) in
+        let not_yet_by = not_yet_from (λ p free below. let r = restored p free in r.2 (omega (arith, (within r.0 r.1).0))) in
+        let links : (q i : ℕ) → is_crossing_due shape t q ≡ true → v.crossed q ≡ true → link_crossed shape q ≡ Some i → (is_wrong_link shape i (block_at memory (link_address shape q)) ≡ false) × (memory (link_address shape q + 12) % 2 ≡ cycle_of shape (q - 1)) =
+        λ q i due g at.
+        k.kept_link q i (crossed_due q (omega (arith, may.later, (crossing_due_is shape t q due).from)) g) g at in
+        let whole_by : (p : ℕ) → v.given p ≡ true → is_not_whole shape (moved v t held) p ≡ false = λ p g.
+        whole_more shape v (moved v t held) p (record { given = λ q h. h; crossed = λ q h. h }) (length_stays held p) (k.whole p g) in
+        let held_by : (m : ℕ) → held ≡ Some m → MayHold shape (moved v t held) m = λ m at. record {
+          from = (within m at).0;
+          to = omega (arith, (within m at).1, given_count-moved held);
+        } in
+        let shows : (p : ℕ) → number t ≤ p → p < ceiling shape (moved v t held) → v.free p ≡ true → memory (address_of shape p + 12) % 2 ≡ cycle_of shape p = λ p above high free.
+        let r = restored p free in
+        k.free_shows p (low p above) (r.2 (omega (arith, ceiling_held shape (moved v t held) r.0 r.1))) free in
+        let open_by : held ≡ None → (p : ℕ) → v.free p ≡ false = λ none p. search (rules, cases_Bool (v.free p), restored p, none-some) in
+        search (rules, k, may, low, k.kept, within_by, crossed_by, not_yet_by, links, not_yet_link_from, whole_by, held_by, shows, open_by)
 
     -- a ring that is held goes no further than the number at which it is held
     pub reaches_keeps : ((m : ℕ) → v.held ≡ Some m → number t ≤ m) → RingKeeps shape memory (changed shape v (Reaches t))

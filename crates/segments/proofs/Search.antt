@@ -13,9 +13,7 @@ position_only p xs i d inside passes only = search (rules, position_is, false_fr
 
 -- no place passes
 pub position_nowhere : {X : Type 0} (p : X → Bool) (xs : List X) (d : X) → ((k : ℕ) → k < length xs → p (get_or xs k d) ≡ false) → position p xs ≡ None
-position_nowhere p xs d fails =
-    let at : position_or_len p xs ≡ length xs = position_or_len_is p xs (length xs) d (omega arith) fails (λ h. absurd (omega arith)) in
-    rw at (cond-false (nat_lt (length xs) (length xs)) (Some (length xs)) None (le-ltb (length xs) (length xs) (omega arith)))
+position_nowhere p xs d fails = search (rules, position_or_len_is, cond-false, nat_lt, le-ltb, position_or_len_is p xs (length xs) d (omega arith) fails (λ h. absurd (omega arith)))
 
 -- where the search finds nothing, no place passes
 pub position-None : {X : Type 0} (p : X → Bool) (xs : List X) (k : ℕ) (d : X) → position p xs ≡ None → k < length xs → p (get_or xs k d) ≡ false

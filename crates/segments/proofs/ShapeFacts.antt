@@ -1,5 +1,5 @@
 -- What an allowed shape keeps, fact by fact
-use Rattle.segments.proofs.Words.{◌≡◌, ◌+◌, ◌-◌, ◌*◌, ◌/◌, ◌%◌, ◌^◌, ◌<◌, ◌≤◌, ◌∷◌, ℕ, suc, zero, Bool, true, List, [], length, nat_lt, nat_le, arith, get_or, leb-true, ltb-true, eqb-true, list_all, and_parts, RingKind, Cmd, Evt, Xfer, Segment, Shape, data_count, place_count, alignment, least_count, is_segment, are_apart, IsShape, rules}
+use Rattle.segments.proofs.Words.{◌≡◌, ◌+◌, ◌-◌, ◌*◌, ◌/◌, ◌%◌, ◌^◌, ◌<◌, ◌≤◌, ◌∷◌, ℕ, suc, zero, Bool, true, List, [], length, nat_lt, nat_le, arith, get_or, leb-true, ltb-true, eqb-true, list_all, and_parts, RingKind, Segment, Shape, data_count, place_count, alignment, least_count, is_segment, are_apart, IsShape, rules}
 use Rattle.segments.proofs.Blocks.{segment_at}
 
 -- a segment that a ring of this kind may have: it lies on 16 byte boundaries and ends at or below 2^64
@@ -15,26 +15,8 @@ pub record IsSegment (kind : RingKind) (s : Segment) : Type 0 where
   pub page : s.base / 65536 ≡ (s.base + 16 * s.count - 1) / 65536
   pub end : s.base + 16 * s.count ≤ 2 ^ 64
 
-ends_low : (base count : ℕ) → base < 2 ^ 64 → base / 65536 ≡ (base + 16 * count - 1) / 65536 → 2 ≤ count → base + 16 * count ≤ 2 ^ 64
-ends_low base count low page least = omega arith
-
-two_least : (kind : RingKind) (n : ℕ) → least_count kind ≤ n → 2 ≤ n
-two_least Cmd n h = omega arith
-two_least Evt n h = omega arith
-two_least Xfer n h = omega arith
-
-on_sixteen : (kind : RingKind) (n : ℕ) → n % alignment kind ≡ 0 → n % 16 ≡ 0
-on_sixteen Cmd n h = omega arith
-on_sixteen Evt n h = omega arith
-on_sixteen Xfer n h = h
-
-data_blocks : (kind : RingKind) (s : Segment) → 2 ≤ s.count → (1 ≤ data_count kind s) × (data_count kind s ≤ s.count)
-data_blocks Cmd s h = (omega arith, omega arith)
-data_blocks Evt s h = (omega arith, omega arith)
-data_blocks Xfer s h = (omega arith, omega arith)
-
 pub segment_facts : (kind : RingKind) (s : Segment) → is_segment kind s ≡ true → IsSegment kind s
-segment_facts kind s h = search (rules, and_parts, nat_lt, nat_le, ltb-true, eqb-true, leb-true, two_least, on_sixteen, data_blocks, ends_low)
+segment_facts kind s h = search (rules, and_parts, nat_lt, nat_le, ltb-true, eqb-true, leb-true)
 
 all_at : {X : Type 0} (p : X → Bool) (xs : List X) (j : ℕ) (d : X) → list_all p xs ≡ true → j < length xs → p (get_or xs j d) ≡ true
 all_at p [] j d all h = absurd (omega arith)

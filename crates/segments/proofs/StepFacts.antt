@@ -1,5 +1,5 @@
 -- Steps that are given, and descriptors all of whose blocks are
-use Rattle.segments.proofs.Words.{◌≡◌, ◌+◌, ◌-◌, ◌<◌, ◌≤◌, ◌==◌, ◌∷◌, ◌++◌, ◌∙◌, ℕ, suc, zero, Bool, true, false, List, [], sum, arith, refl, sym, ap, inl, inr, get_or, eq-eqb, ne_eqb, list_all, range_with_len, cases_Bool, cases_eq, cond-true, cond-false, false≢true, and_parts, and_from, or_left, or_right, not_from_false, not_from_true, not-false, not-true, or_cases, list_all_at, sum_by-cons, length-range_with_len, get_or-range_with_len, Shape, is_crossing, RingView, is_way_given, is_step_given, length_from, descriptor_length, is_not_whole, rules}
+use Rattle.segments.proofs.Words.{◌≡◌, ◌+◌, ◌-◌, ◌<◌, ◌≤◌, ◌==◌, ◌∷◌, ◌++◌, ℕ, suc, zero, Bool, true, false, List, [], sum, arith, refl, eq-eqb, ne_eqb, list_all, range_with_len, cases_Bool, cases_eq, cond-true, cond-false, false≢true, and_parts, and_from, or_left, or_right, not_from_false, not_from_true, not-false, not-true, or_cases, list_all_at, sum_by-cons, length-range_with_len, get_or-range_with_len, Shape, is_crossing, RingView, is_way_given, is_step_given, length_from, descriptor_length, is_not_whole, rules}
 
 -- ---- a step
 
@@ -23,30 +23,20 @@ step_more shape v w more q h = search (rules, step_is, step_from)
 
 pub all_in_range : (test : ℕ → Bool) (a n : ℕ) → ((q : ℕ) → a ≤ q → q < a + n → test q ≡ true) → list_all test (range_with_len a n) ≡ true
 all_in_range test a zero each = refl
-all_in_range test a (suc n) each =
-    and_from (test a) (list_all test (range_with_len (a + 1) n)) (each a (omega arith) (omega arith))
-    (all_in_range test (a + 1) n (λ q low high. each q (omega arith) (omega arith)))
+all_in_range test a (suc n) each = search (rules, and_from, all_in_range test (a + 1) n (λ q low high. each q (omega arith) (omega arith)))
 
 pub in_range_all : (test : ℕ → Bool) (a n : ℕ) → list_all test (range_with_len a n) ≡ true → (q : ℕ) → a ≤ q → q < a + n → test q ≡ true
-in_range_all test a n all q low high = elim (cases_Bool (test q)) [
-  | inl passes ↦ passes
-  | inr fails ↦
-      let at : get_or (range_with_len a n) (q - a) 0 ≡ q = get_or-range_with_len a n (q - a) 0 (omega arith) ∙ omega arith in
-      absurd (false≢true (sym (list_all_at test (range_with_len a n) (q - a) 0 (omega (arith, length-range_with_len a n)) (ap test at ∙ fails)) ∙ all))
-]
+in_range_all test a n all q low high =
+    search (rules, cases_Bool (test q), get_or-range_with_len a n (q - a) 0, length-range_with_len a n, list_all_at test (range_with_len a n) (q - a) 0, false≢true)
 
 -- the blocks behind the first one of a whole descriptor are given, with the ways to them
 pub whole_is : (shape : Shape) (v : RingView) (p : ℕ) → is_not_whole shape v p ≡ false → (q : ℕ) → p < q → q < p + descriptor_length v p → is_step_given shape v q ≡ true
 unfolding is_not_whole
-whole_is shape v p whole q low high =
-    in_range_all (λ q. is_step_given shape v q) (p + 1) (descriptor_length v p - 1)
-    (not-false (list_all (λ q. is_step_given shape v q) (range_with_len (p + 1) (descriptor_length v p - 1))) whole) q (omega arith) (omega arith)
+whole_is shape v p whole q low high = search (rules, in_range_all (λ q. is_step_given shape v q) (p + 1) (descriptor_length v p - 1), not-false)
 
 pub whole_from : (shape : Shape) (v : RingView) (p : ℕ) → ((q : ℕ) → p < q → q < p + descriptor_length v p → is_step_given shape v q ≡ true) → is_not_whole shape v p ≡ false
 unfolding is_not_whole
-whole_from shape v p each =
-    not_from_true (list_all (λ q. is_step_given shape v q) (range_with_len (p + 1) (descriptor_length v p - 1)))
-    (all_in_range (λ q. is_step_given shape v q) (p + 1) (descriptor_length v p - 1) (λ q low high. each q (omega arith) (omega arith)))
+whole_from shape v p each = grind (arith, not_from_true, all_in_range)
 
 -- it stays whole where more is given
 pub whole_more : (shape : Shape) (v w : RingView) (p : ℕ) → GivesMore v w → descriptor_length w p ≡ descriptor_length v p → is_not_whole shape v p ≡ false → is_not_whole shape w p ≡ false
@@ -56,10 +46,4 @@ whole_more shape v w p more same whole = whole_from shape w p (λ q low high. st
 pub length_from-push : (lengths : List ℕ) (n start p : ℕ) → p < start + sum lengths → length_from (lengths ++ n ∷ []) start p ≡ length_from lengths start p
 unfolding length_from
 length_from-push [] n start p h = cond-false (start == p) n 0 (ne_eqb start p (λ e. absurd (omega arith)))
-length_from-push (m ∷ rest) n start p h = elim (cases_eq start p) [
-  | inl here ↦ search (rules, cond-true, length_from, eq-eqb)
-  | inr past ↦
-      cond-false (start == p) m (length_from (rest ++ n ∷ []) (start + m) p) (ne_eqb start p past)
-      ∙ length_from-push rest n (start + m) p (omega (arith, sum_by-cons (λ x. x) m rest))
-      ∙ sym (cond-false (start == p) m (length_from rest (start + m) p) (ne_eqb start p past))
-]
+length_from-push (m ∷ rest) n start p h = search (rules, cases_eq, cond-true, eq-eqb, cond-false, ne_eqb, sum_by-cons, length_from-push rest n (start + m) p (omega (arith, sum_by-cons (λ x. x) m rest)))

@@ -1,8 +1,5 @@
 -- Of a ring's segments only the last one to start before the end of some bytes can have one of them
-use Rattle.std.proofs.Common.{rules}
-use Rattle.segments.proofs.Words.{min, list_any_none, IsLastOf, IsLastStart, ◌≡◌, ◌+◌, ◌-◌, ◌*◌, ◌<◌, ◌≤◌, ◌^◌, ◌&&◌, ◌||◌, ◌∷◌, ◌∙◌, ℕ, suc, List, [], refl, segments_overlap, rings_overlap, true, false, None, length, list_any, list_any_at, get_or_default, lt-ltb, ap, sym, arith, inl, inr, cases_Bool, cases_lt, false_from_ne_true, false≢true, Shape, Segment, IsShape, overlap, touches}
-use Rattle.segments.proofs.Blocks.{segment_at, same_segment}
-use Rattle.segments.proofs.ShapeFacts.{shape_facts}
+use Rattle.segments.proofs.LowerLaws.{rules, min, list_any_none, IsLastOf, IsLastStart, ◌≡◌, ◌+◌, ◌-◌, ◌*◌, ◌<◌, ◌≤◌, ◌^◌, ◌&&◌, ◌||◌, ◌∷◌, ◌∙◌, ℕ, suc, List, [], refl, segments_overlap, rings_overlap, true, false, None, length, list_any, list_any_at, get_or_default, lt-ltb, ap, arith, cases_Bool, cases_lt, false_from_ne_true, false≢true, Shape, Segment, IsShape, overlap, touches, segment_at, same_segment, shape_facts}
 
 module _ (shape : Shape) (is : IsShape shape) (at len last : ℕ) (some : 0 < len) (end : last ≡ min (at + (len - 1)) (2 ^ 64 - 1)) where
   -- segment j has one of the bytes
@@ -22,10 +19,7 @@ module _ (shape : Shape) (is : IsShape shape) (at len last : ℕ) (some : 0 < le
   last_meets j k of below met = search (rules, cases_lt, segment_at, shape_facts, same_segment)
 
   pub touched_last : (j : ℕ) → IsLastOf shape.segments last j → overlap at len (segment_at shape.segments j).base (16 * (segment_at shape.segments j).count) ≡ touches shape at len
-  touched_last j of = elim (cases_Bool (overlap at len (segment_at shape.segments j).base (16 * (segment_at shape.segments j).count))) [
-    | inl met ↦ met ∙ sym (rw (lt-ltb 0 len some) (list_any_at (λ (s : Segment). overlap at len s.base (16 * s.count)) shape.segments j (record { base = 0; count = 0 }) of.number met))
-    | inr missed ↦ missed ∙ sym (none_meets (λ k below met. false≢true (sym missed ∙ last_meets j k of below met)))
-  ]
+  touched_last j of = search (rules, cases_Bool, segment_at, lt-ltb, list_any_at, none_meets, false≢true, last_meets, cases_Bool (overlap at len (segment_at shape.segments j).base (16 * (segment_at shape.segments j).count)))
 
 each_touches : (b : Shape) (ss : List Segment) → ((j : ℕ) → j < length ss → 2 ≤ (segment_at ss j).count) →
     list_any (λ s. touches b s.base (16 * s.count)) ss ≡ list_any (λ s. list_any (segments_overlap s) b.segments) ss

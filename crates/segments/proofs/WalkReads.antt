@@ -1,16 +1,10 @@
 -- From the floor's spot the controller reads whole descriptors as declared, in order, through given Links, and then waits
-use Rattle.std.proofs.Common.{rules}
-use Rattle.segments.proofs.Words.{IsRestored, ◌≡◌, ◌+◌, ◌-◌, ◌<◌, ◌≤◌, ◌∷◌, ◌∙◌, ℕ, suc, zero, not, true, false, List, [], length, All, map, take, filter, Some, arith, refl, sym, ap, subst, inl, inr, take_all, range_with_len, filter_map, cons_option, cases_eq, cond-true, cond-false, false≢true, not_from_true, not_from_false, take-map, All-nil, All-cons, All-map, All-take, All-contains, All-same, All-weaker, Block, Evt, kind, is_link, Spot, Data, Link, Shape, is_inside, link_address, IsSpot, rank, number, next, spot_address, spots_from, IsShape, RingView, floor_number, given_count, RingKeeps, Pointer, WalkReads, block_under, is_shown, behind, looks, walk, data_of, laid, laid_between, standing}
-use Rattle.segments.proofs.SpotOrder.{rank_least, rank_most, same_rank, next_is_spot, next_later, next_least}
-use Rattle.segments.proofs.ReachedSpots.{number-after}
-use Rattle.segments.proofs.Reaching.{given_count_declared, floor_given}
+use Rattle.segments.proofs.UpperLaws.{rules, IsRestored, ◌≡◌, ◌+◌, ◌-◌, ◌<◌, ◌≤◌, ◌∷◌, ◌∙◌, ℕ, suc, zero, not, true, false, List, [], length, All, map, take, filter, arith, refl, sym, ap, inl, inr, take_all, range_with_len, filter_map, cons_option, cases_eq, cond-true, cond-false, false≢true, not_from_true, not_from_false, take-map, All-nil, All-cons, All-map, All-take, All-contains, All-same, All-weaker, Block, Evt, kind, is_link, Spot, Data, Link, Shape, is_inside, link_address, IsSpot, rank, number, next, spot_address, spots_from, IsShape, RingView, floor_number, given_count, RingKeeps, Pointer, WalkReads, block_under, is_shown, behind, looks, walk, data_of, laid, laid_between, standing, rank_least, rank_most, same_rank, next_is_spot, next_later, next_least, number-after, given_count_declared, floor_given, address_inside, link_address_inside}
 use Rattle.segments.proofs.GivenBorder.{given_count_border}
-use Rattle.segments.proofs.Elsewhere.{address_inside, link_address_inside}
 use Rattle.segments.proofs.WalkSteps.{ReadAs, IsRead, Waits, waits}
 
 take_none : {X : Type 0} (n : ℕ) → take n (let none : List X = [] in none) ≡ []
-take_none zero = refl
-take_none (suc n) = refl
+take_none n = search rules
 
 length-spots_from : (shape : Shape) (s : Spot) (n : ℕ) → length (spots_from shape s n) ≡ n
 length-spots_from shape s zero = refl
@@ -51,13 +45,10 @@ module _ (shape : Shape) (memory : ℕ → ℕ) (v : RingView) (t : Spot) (w : W
     steps = 0;
     spots = spots_there;
     shown = shown_there;
-    blocks = ap (λ n. filter_map (laid shape v) (range_with_len (number t) n)) (left (given_count shape v) (number t) w.at);
+    blocks = (let left : 0 ≡ given_count shape v - number t = omega (arith, w.at) in ap (λ n. filter_map (laid shape v) (range_with_len (number t) n)) left);
     looked = All-cons IsLooked t [] looked (All-nil IsLooked);
   }
     where
-      left : (g n : ℕ) → n ≡ g → 0 ≡ g - n
-      left g n e = omega arith
-
       spots_there : (n : ℕ) → looks memory (standing shape t) n ≡ map (standing shape) (take n (t ∷ []))
       spots_there zero = no_look memory (standing shape t)
       spots_there (suc n) = look_last memory (standing shape t) n w.hidden ∙ ap (λ ts. standing shape t ∷ map (standing shape) ts) (sym (take_none n))
@@ -70,20 +61,15 @@ module _ (shape : Shape) (memory : ℕ → ℕ) (v : RingView) (t : Spot) (w : W
       data_of (block_under memory (standing shape s) ∷ rest) ≡ laid_between shape v (number s) (given_count shape v)
   data_on (Data p) rest read low is =
       let b : Block = block_under memory (standing shape (Data p)) in
-      search (rules, cond-true, not, is_link, kind, data_of, not_from_false, laid_between, given_count, number-after, first_laid)
-    where
-      first_laid : (p g : ℕ) (b : Block) → p < g → laid shape v p ≡ Some b → laid_between shape v p g ≡ b ∷ laid_between shape v (p + 1) g
-      first_laid p g b below at =
-          let one : g - p ≡ suc (g - (p + 1)) = omega arith in
-          search (rules, filter_map, laid, range_with_len, cons_option)
+      let one : given_count shape v - p ≡ suc (given_count shape v - (p + 1)) = omega arith in
+      search (rules, cond-true, not, is_link, kind, data_of, not_from_false, laid_between, given_count, number-after, one, filter_map, laid, range_with_len, cons_option)
   data_on (Link q) rest read low is = search (rules, Block, block_under, standing, Link, cond-false, not, is_link, kind, data_of, not_from_true)
 
   number_below : (s : Spot) → rank s ≤ rank t → number s ≤ given_count shape v
   number_below s near = search (rules, number, rank, given_count, rank_least, rank_most)
 
   number_next : (s : Spot) → number s ≤ number (next shape s)
-  number_next (Data p) = omega (arith, number-after shape p)
-  number_next (Link q) = omega arith
+  number_next s = search (rules, number-after)
 
   one_on : (s : Spot) → IsLooked s → IsRead shape memory v s → Path (next shape s) → Path s
   one_on s looked read rest = record {
@@ -106,12 +92,11 @@ module _ (shape : Shape) (memory : ℕ → ℕ) (v : RingView) (t : Spot) (w : W
   path : (m : ℕ) (s : Spot) → IsLooked s → rank t ≤ rank s + m → Path s
   path zero s looked near = search (rules, same_rank, at_end, looked)
   path (suc m) s looked near = elim (cases_eq (rank s) (rank t)) [
-    | inl end ↦ let same : s ≡ t = same_rank s t end in subst Path (sym same) (at_end (subst IsLooked same looked))
+    | inl end ↦ search (rules, same_rank s t end, at_end, looked)
     | inr earlier ↦
-        let later = next_later shape s in
         let below : rank s < rank t = omega (arith, looked.to) in
-        one_on s looked (w.before s looked.is_spot looked.from below)
-        (path m (next shape s) (record { is_spot = next_is_spot shape s; from = omega (arith, looked.from, number_next s); to = next_least shape s t w.is_spot below }) (omega arith))
+        one_on s looked (w.before s looked.is_spot looked.from below) (path m (next shape s)
+        (record { is_spot = next_is_spot shape s; from = omega (arith, looked.from, number_next s); to = next_least shape s t w.is_spot below }) (omega (arith, next_later shape s)))
   ]
 
 -- ---- the law
@@ -141,12 +126,16 @@ module _ (shape : Shape) (is : IsShape shape) (other : shape.kind ≡ Evt → �
 
   reads_from : (t : Spot) (w : Waits shape memory v t) → Path shape memory v t w v.floor → WalkReads shape memory v
   reads_from t w p =
-      let at_spots : (n : ℕ) → All (IsLooked shape memory v t w) (take n (spots_from shape v.floor (suc p.steps))) = search (rules, All-take, spots_from) in
-      let walked : (n : ℕ) → walk memory (standing shape v.floor) n ≡ map (block_under memory) (map (standing shape) (take n (spots_from shape v.floor p.steps))) = reads_of t w p in
-      let whole : take p.steps (spots_from shape v.floor p.steps) ≡ spots_from shape v.floor p.steps =
-      take_all p.steps (spots_from shape v.floor p.steps) (omega (arith, length-spots_from shape v.floor p.steps)) in
+      let at_spots : (n : ℕ) → All (IsLooked shape memory v t w) (take n (spots_from shape v.floor (suc p.steps))) = search (rules, All-take) in
+      let each : (P : Pointer → Type 0) → ((u : Spot) → IsLooked shape memory v t w u → P (standing shape u)) → (n : ℕ) → All P (looks memory (standing shape v.floor) n) = λ P of n.
+      All-same P (looks memory (standing shape v.floor) n) _ (p.spots n) (All-map P (standing shape) (take n (spots_from shape v.floor (suc p.steps)))
+      (All-weaker (IsLooked shape memory v t w) (λ u. P (standing shape u)) of _ (at_spots n))) in
+      let walked = reads_of t w p in
+      let whole : take p.steps (spots_from shape v.floor p.steps) ≡ spots_from shape v.floor p.steps = take_all p.steps _ (omega (arith, length-spots_from shape v.floor p.steps)) in
       let all : walk memory (standing shape v.floor) p.steps ≡ map (block_under memory) (map (standing shape) (spots_from shape v.floor p.steps)) =
       walked p.steps ∙ ap (λ ts. map (block_under memory) (map (standing shape) ts)) whole in
+      let P = λ (at : Pointer). is_shown memory at ≡ true → is_link (kind (block_under memory at)) ≡ true → (q : ℕ) × (floor_number v ≤ q) × (v.crossed q ≡ true) ×
+      (at.address ≡ link_address shape q) in
       record {
         border = given_count shape v;
         steps = p.steps;
@@ -154,21 +143,10 @@ module _ (shape : Shape) (is : IsShape shape) (other : shape.kind ≡ Evt → �
         to = given_count_declared shape is memory v k;
         is_border = given_count_border shape is memory v k;
         spots = p.spots;
-        reads = search (rules, map, block_under, take-map, standing, spots_from, take);
+        reads = search (rules, map, block_under, take-map, standing, take);
         blocks = ap data_of all ∙ p.blocks;
-        links = λ n.
-            let P = λ (at : Pointer). is_shown memory at ≡ true → is_link (kind (block_under memory at)) ≡ true →
-            (q : ℕ) × (floor_number v ≤ q) × (v.crossed q ≡ true) × (at.address ≡ link_address shape q) in
-            let each : All P (looks memory (standing shape v.floor) n) =
-            All-same P (looks memory (standing shape v.floor) n) _ (p.spots n)
-            (All-map P (standing shape) (take n (spots_from shape v.floor (suc p.steps)))
-            (All-weaker (IsLooked shape memory v t w) (λ u. P (standing shape u)) (given_link t w) _ (at_spots n))) in
-            λ at c. All-contains P (looks memory (standing shape v.floor) n) at each c;
-        inside = λ n.
-            let P = λ (at : Pointer). (b : ℕ) → b < 16 → is_inside shape (at.address + b) ≡ true in
-            All-same P (looks memory (standing shape v.floor) n) _ (p.spots n)
-            (All-map P (standing shape) (take n (spots_from shape v.floor (suc p.steps)))
-            (All-weaker (IsLooked shape memory v t w) (λ u. P (standing shape u)) (λ u looked. spot_inside u looked.is_spot) _ (at_spots n)));
+        links = λ n at c. All-contains P (looks memory (standing shape v.floor) n) at (each P (given_link t w) n) c;
+        inside = each (λ at. (b : ℕ) → b < 16 → is_inside shape (at.address + b) ≡ true) (λ u looked. spot_inside u looked.is_spot);
       }
 
   pub walk_reads : WalkReads shape memory v

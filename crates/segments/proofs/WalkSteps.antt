@@ -1,13 +1,5 @@
 -- One step of the walk: at each spot up to the first that isn't given a block stands that leads to the next spot, and there none
-use Rattle.segments.proofs.Words.{IsRestored, ◌≡◌, ◌≢◌, ◌+◌, ◌-◌, ◌*◌, ◌/◌, ◌^◌, ◌%◌, ◌<◌, ◌≤◌, ◌∙◌, ℕ, Bool, true, false, [], Some, slice_get, arith, refl, sym, ap, inl, inr, get_or, eq-eqb, ne_eqb, eqb-true, option_map, cases_Bool, cases_lt, cases_eq, cond-true, cond-false, or_parts, not-false, false≢true, false_from_ne_true, slice_get-get_or, mod-eq_of_lt, Block, Evt, is_set, aligned, block_at, word, cycle, kind, pointer, with_cycle, is_link, kind-with_cycle, Spot, Data, Link, Shape, address_of, cycle_of, is_crossing, link_address, link_target, toggles, IsSpot, rank, number, after, next, spot_address, spot_cycle, IsShape, RingView, floor_number, given_count, same, is_wrong_link, RingKeeps, Pointer, block_under, is_shown, behind, laid, standing, rules}
-use Rattle.segments.proofs.DataPlaces.{link_ends}
-use Rattle.segments.proofs.Positions.{address_ends, cycle_of_bit}
-use Rattle.segments.proofs.Crossings.{crosses, crossed_link, link_address_is, link_target-crossed, cycle_of-crossed}
-use Rattle.segments.proofs.SpotOrder.{rank_most, next_is_spot, spot_address-after, spot_cycle-after}
-use Rattle.segments.proofs.Giving.{due_from, crossing_due_from}
-use Rattle.segments.proofs.GivenCount.{given_below, given_count_stops}
-use Rattle.segments.proofs.StepFacts.{step_is, step_from}
-use Rattle.segments.proofs.Reaching.{given_count_near, floor_given, kept_cycle, crossed_due}
+use Rattle.segments.proofs.UpperLaws.{IsRestored, ◌≡◌, ◌≢◌, ◌+◌, ◌-◌, ◌*◌, ◌^◌, ◌%◌, ◌<◌, ◌≤◌, ◌∙◌, ℕ, true, false, [], Some, slice_get, arith, refl, sym, ap, inl, get_or, eq-eqb, ne_eqb, eqb-true, option_map, cases_Bool, cases_eq, cond-true, cond-false, or_parts, not-false, false≢true, false_from_ne_true, slice_get-get_or, mod-eq_of_lt, Block, Evt, is_set, aligned, block_at, word, cycle, kind, pointer, with_cycle, is_link, kind-with_cycle, Spot, Data, Link, Shape, address_of, cycle_of, is_crossing, link_address, link_target, toggles, IsSpot, rank, number, after, next, spot_address, spot_cycle, IsShape, RingView, floor_number, given_count, is_wrong_link, RingKeeps, block_under, is_shown, behind, laid, standing, rules, link_ends, address_ends, cycle_of_bit, crosses, crossed_link, link_address_is, link_target-crossed, cycle_of-crossed, rank_most, next_is_spot, spot_address-after, spot_cycle-after, due_from, crossing_due_from, given_below, given_count_stops, step_is, step_from, given_count_near, floor_given, kept_cycle, crossed_due}
 
 -- what stands at a spot that is read
 abbrev pub ReadAs : Shape → (ℕ → ℕ) → RingView → Spot → Type 0
@@ -27,18 +19,6 @@ pub record Waits (shape : Shape) (memory : ℕ → ℕ) (v : RingView) (t : Spot
   pub from : rank v.floor ≤ rank t
   pub hidden : is_shown memory (standing shape t) ≡ false
   pub before : (s : Spot) → IsSpot shape s → floor_number v ≤ number s → rank s < rank t → IsRead shape memory v s
-
-cycle_at : (n : ℕ) → n / 2 ^ 0 % 2 ^ 1 ≡ n % 2
-cycle_at n = omega arith
-
-same_is : (x y : Bool) → same x y ≡ true → x ≡ y
-same_is true true h = refl
-same_is false false h = refl
-same_is true false h = absurd (false≢true h)
-same_is false true h = absurd (false≢true h)
-
-same_pointer : (a b c d : ℕ) → a ≡ b → c ≡ d → ◌≡◌ {A = Pointer} (record { address = a; cycle_state = c }) (record { address = b; cycle_state = d })
-same_pointer a b c d p q = cc
 
 module _ (shape : Shape) (is : IsShape shape) (other : shape.kind ≡ Evt → ⊥) (memory : ℕ → ℕ) (v : RingView) (k : RingKeeps shape memory v) (restored : IsRestored v) where
   spot_ends : (t : Spot) → IsSpot shape t → spot_address shape t < 2 ^ 64
@@ -60,8 +40,8 @@ module _ (shape : Shape) (is : IsShape shape) (other : shape.kind ≡ Evt → �
       let near : address_of shape p + 16 ≡ spot_address shape (after shape p) = sym (spot_address-after shape is other p) in
       let low_end : spot_address shape (after shape p) < 2 ^ 64 = spot_ends (after shape p) (next_is_spot shape (Data p)) in
       record {
-        shown = search (rules, eq-eqb, cycle, block_at, address_of, cycle_of, cycle_at, kept_cycle);
-        on = search (rules, cond-false, is_link, kind, block_at, address_of, same_pointer, mod-eq_of_lt, spot_cycle-after);
+        shown = search (rules, eq-eqb, cycle, block_at, address_of, cycle_of, kept_cycle);
+        on = search (rules, cond-false, is_link, kind, block_at, address_of, mod-eq_of_lt, spot_cycle-after);
         stands = (high, no_link, ap (λ o. option_map (λ b. with_cycle b (cycle_of shape p)) o) declared ∙ ap (λ b. Some b) (sym stands));
       }
 
@@ -69,77 +49,53 @@ module _ (shape : Shape) (is : IsShape shape) (other : shape.kind ≡ Evt → �
   leads : (q i : ℕ) (b : Block) → is_wrong_link shape i b ≡ false →
       (aligned (pointer b) ≡ link_target shape i) × (is_link (kind b) ≡ true) × (is_set (word b 3) 1 ≡ toggles shape i)
   unfolding is_wrong_link
-  leads q i b right = search (rules, or_parts, eqb-true, not-false, same_is)
+  leads q i b right = search (rules, or_parts, eqb-true, not-false)
 
   link_read : (q : ℕ) → floor_number v ≤ q → is_crossing shape q ≡ true → v.crossed q ≡ true → IsRead shape memory v (Link q)
   link_read q low crossing given =
-      let found = crossed_link shape q crossing in
-      let stands = k.kept_link q found.0 (crossed_due shape is memory v k q low given) given found.1 in
-      let b : Block = block_at memory (link_address shape q) in
-      let link = leads q found.0 b stands.0 in
-      record {
-        shown = eq-eqb (cycle b) (cycle_of shape (q - 1)) (cycle_at (memory (link_address shape q + 12)) ∙ stands.1);
-        on = search (rules, cond-true, is_link, kind, same_pointer, link_target-crossed, cycle_of, cycle_of-crossed);
-        stands = (given, link.1);
-      }
+      grind (
+        arith,
+        crossed_link,
+        crossed_due,
+        leads,
+        eq-eqb,
+        cond-true,
+        link_target-crossed,
+        cycle_of-crossed,
+        crossed_link shape q crossing,
+        k.kept_link q (crossed_link shape q crossing).0 (crossed_due shape is memory v k q low given) given (crossed_link shape q crossing).1,
+        block_at memory (link_address shape q),
+        leads q (crossed_link shape q crossing).0 (block_at memory (link_address shape q)) (k.kept_link q (crossed_link shape q crossing).0 (crossed_due shape is memory v k q low given) given (crossed_link shape q crossing).1).0,
+      )
 
   hides : (s : Spot) → memory (spot_address shape s + 12) % 2 ≢ spot_cycle shape s → is_shown memory (standing shape s) ≡ false
-  hides s not_yet = search (rules, ne_eqb, cycle, block_under, standing, spot_cycle, cycle_at, spot_address)
+  hides s not_yet = search (rules, ne_eqb, cycle, block_under, standing, spot_cycle, spot_address)
 
   -- the first position that isn't given, with the way to it
   waits_at_data : rank v.floor ≤ 2 * given_count shape v + 1 → (is_crossing shape (given_count shape v) ≡ true → v.crossed (given_count shape v) ≡ true) → Waits shape memory v (Data (given_count shape v))
   waits_at_data from way =
       let n : ℕ = given_count shape v in
       let near = given_count_near shape is memory v k in
-      let missing : v.given n ≡ false =
-      false_from_ne_true (v.given n) (λ g. false≢true (sym (given_count_stops shape v near) ∙ step_from shape v n g way)) in
-      record {
-        is_spot = refl;
-        at = refl;
-        from = from;
-        hidden = hides (Data n) (k.not_yet n (due_from shape v.floor n (floor_given shape is memory v k) near) missing);
-        before = before n refl way;
-      }
+      let missing = false_from_ne_true (v.given n) (λ g. false≢true (sym (given_count_stops shape v near) ∙ step_from shape v n g way)) in
+      let due = due_from shape v.floor n (floor_given shape is memory v k) near in
+      record { is_spot = refl; at = refl; from = from; hidden = hides (Data n) (k.not_yet n due missing); before = before n refl way }
     where
-      before : (n : ℕ) → n ≡ given_count shape v → (is_crossing shape n ≡ true → v.crossed n ≡ true) →
-          (s : Spot) → IsSpot shape s → floor_number v ≤ number s → rank s < 2 * n + 1 → IsRead shape memory v s
+      before : (n : ℕ) → n ≡ given_count shape v → (is_crossing shape n ≡ true → v.crossed n ≡ true) → (s : Spot) → IsSpot shape s → floor_number v ≤ number s →
+          rank s < 2 * n + 1 → IsRead shape memory v s
       before n at way (Data p) spot low below = data_read p low (omega arith)
-      before n at way (Link q) spot low below =
-          link_read q low spot (elim (cases_eq q n) [
-            | inl here ↦ ap (λ m. v.crossed m) here ∙ way (ap (λ m. is_crossing shape m) (sym here) ∙ spot)
-            | inr earlier ↦ (step_is shape v q (given_below shape v q (omega arith))).1 spot
-          ])
+      before n at way (Link q) spot low below = link_read q low spot (search (rules, cases_eq q n, way, step_is shape v q, given_below shape v q))
 
   -- or the Link to it, which isn't given
   waits_at_link : rank v.floor ≤ 2 * given_count shape v → is_crossing shape (given_count shape v) ≡ true → v.crossed (given_count shape v) ≡ false → Waits shape memory v (Link (given_count shape v))
   waits_at_link from crossing missing =
       let n : ℕ = given_count shape v in
-      let near = given_count_near shape is memory v k in
-      let low = floor_given shape is memory v k in
-      record {
-        is_spot = crossing;
-        at = refl;
-        from = from;
-        hidden = hides (Link n) (k.not_yet_link n (crossing_due_from shape v.floor n (record { crossing = crossing; from = low; within = inl near })) missing);
-        before = before n refl;
-      }
+      let due = crossing_due_from shape v.floor n (record { crossing = crossing; from = floor_given shape is memory v k; within = inl (given_count_near shape is memory v k) }) in
+      record { is_spot = crossing; at = refl; from = from; hidden = hides (Link n) (k.not_yet_link n due missing); before = before n refl }
     where
       before : (n : ℕ) → n ≡ given_count shape v → (s : Spot) → IsSpot shape s → floor_number v ≤ number s → rank s < 2 * n → IsRead shape memory v s
       before n at (Data p) spot low below = data_read p low (omega arith)
       before n at (Link q) spot low below = link_read q low spot ((step_is shape v q (given_below shape v q (omega arith))).1 spot)
 
-  -- a floor behind the Link has its crossing given
-  floor_below : is_crossing shape (given_count shape v) ≡ true → v.crossed (given_count shape v) ≡ false → rank v.floor ≤ 2 * given_count shape v
-  floor_below crossing missing = search (rules, cases_lt, false≢true)
-
   pub waits : (t : Spot) × Waits shape memory v t
   waits =
-      let n : ℕ = given_count shape v in
-      let high : rank v.floor ≤ 2 * n + 1 = omega (arith, rank_most v.floor, floor_given shape is memory v k) in
-      elim (cases_Bool (is_crossing shape n)) [
-        | inl crossing ↦ elim (cases_Bool (v.crossed n)) [
-          | inl given ↦ (Data n, waits_at_data high (λ _. given))
-          | inr missing ↦ (Link n, waits_at_link (floor_below crossing missing) crossing missing)
-        ]
-        | inr none ↦ (Data n, waits_at_data high (λ crossing. absurd (false≢true (sym none ∙ crossing))))
-      ]
+      search (rules, cases_Bool (is_crossing shape (given_count shape v)), cases_Bool (v.crossed (given_count shape v)), waits_at_data, waits_at_link, false≢true, rank_most v.floor, floor_given shape is memory v k)

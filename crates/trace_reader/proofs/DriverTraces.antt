@@ -1,8 +1,5 @@
 -- A trace all rows of which are the driver's is read as the same trace where only those rows are taken
-use Rattle.trace_reader.proofs.Words.{common_steps, rules, Bool, ◌≡◌, ◌+◌, ◌≤◌, ◌∷◌, ◌∙◌, ℕ, true, false, List, [], length, map, Option, Some, None, Result, Ok, Err, All, refl, ap, arith, All-cons, All-head, All-nil, All-tail, length-map, TextLine, lines_of, LineFault, Ring, Row, TraceRow, Plain, Version, IsRow, FitsLine, begins_with_ring, have_new_ids, State, DriverText, all_plain, driver_row, driver_trace_of, go_on, next_number, read_line, read_lines, start, take_lines, taken, text_taken, trace_of, whole, with_row, IsTrace, most_lines, IsHeader}
-use Rattle.trace_reader.proofs.ReadSteps.{header_there}
-use Rattle.trace_reader.proofs.Spelled.{spelled_if_read, whole_there}
-use Rattle.trace_reader.proofs.SpelledTraces.{IsLineRow}
+use Rattle.trace_reader.proofs.UpperLaws.{common_steps, rules, Bool, ◌≡◌, ◌+◌, ◌≤◌, ◌∷◌, ◌∙◌, ℕ, true, false, List, [], length, map, Option, Some, None, Result, Ok, Err, All, refl, ap, arith, All-cons, All-head, All-nil, All-tail, length-map, TextLine, lines_of, LineFault, Ring, Row, TraceRow, Plain, Version, IsRow, FitsLine, begins_with_ring, have_new_ids, State, DriverText, all_plain, driver_row, driver_trace_of, go_on, next_number, read_line, read_lines, start, take_lines, taken, text_taken, trace_of, whole, with_row, IsTrace, most_lines, IsHeader, header_there, spelled_if_read, whole_there, IsLineRow}
 
 -- ---- one line
 
@@ -63,15 +60,11 @@ driver_trace text trace is = grind (arith, common_steps, whole_there, driver_lin
 
 plain_rows : (version : Version) (rows : List Row) → All (λ row. IsRow row × FitsLine row) rows → All (IsLineRow version) (map Plain rows)
 plain_rows version [] are = All-nil (IsLineRow version)
-plain_rows version (row ∷ rows) are =
-    All-cons (IsLineRow version) (Plain row) (map Plain rows) (All-head (λ row. IsRow row × FitsLine row) row rows are, refl)
-    (plain_rows version rows (All-tail (λ row. IsRow row × FitsLine row) row rows are))
+plain_rows version (row ∷ rows) are = search (rules, All-cons, All-head, All-tail, plain_rows version rows (All-tail (λ row. IsRow row × FitsLine row) row rows are))
 
 rows_plain : (version : Version) (rows : List Row) → All (IsLineRow version) (map Plain rows) → All (λ row. IsRow row × FitsLine row) rows
 rows_plain version [] are = All-nil (λ row. IsRow row × FitsLine row)
-rows_plain version (row ∷ rows) are =
-    All-cons (λ row. IsRow row × FitsLine row) row rows (All-head (IsLineRow version) (Plain row) (map Plain rows) are).0
-    (rows_plain version rows (All-tail (IsLineRow version) (Plain row) (map Plain rows) are))
+rows_plain version (row ∷ rows) are = grind (arith, All-cons, All-head, IsLineRow, All-tail, rows_plain version rows (All-tail (IsLineRow version) (Plain row) (map Plain rows) are))
 
 none_begins : (rows : List Row) → begins_with_ring (map Plain rows) ≡ false
 none_begins [] = refl
@@ -107,9 +100,7 @@ is_driver_trace trace is = record {
 
 -- no more rows than lines were read
 pub few_rows : (text : List ℕ) (st : State) (rows : List Row) → driver_trace_of text ≡ whole (Ok (st, rows)) → 2 ≤ st.lines → length rows ≤ st.lines
-few_rows text st rows is there =
-    let first = (is_driver_trace _ (spelled_if_read text _ (plain_trace text _ (is ∙ header_there st rows there))).1).first in
-    omega (arith, first)
+few_rows text st rows is there = grind (arith, is_driver_trace, spelled_if_read, plain_trace, header_there, (is_driver_trace _ (spelled_if_read text _ (plain_trace text _ (is ∙ header_there st rows there))).1).first)
 
 -- ---- where each row is taken
 

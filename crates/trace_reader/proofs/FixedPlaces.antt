@@ -1,9 +1,5 @@
 -- Lines whose fields stand at fixed places
-use Rattle.trace_reader.proofs.Words.{rules, ◌≡◌, ◌+◌, ◌<◌, ◌∷◌, ◌++◌, ◌∙◌, ℕ, zero, suc, Bool, false, List, [], length, slice_index, take, drop, nat_lt, Some, Ok, All, refl, ap, sym, subst, arith, codes, w8, w32, w64, digits_without_space, take-append-drop, slice_split_at, slice_split_none, SaysAlone, HasBytes, Width, byte_len, bytes_of_8, bytes_of_32, bytes_of_64, length-digits_of, number_of, said, fields_of, has_empty_field, is_empty, is_space, All-cons, All-nil, All-head, All-tail, nat_tests, common_steps, slice_split, str_to_ascii_lowercase, to_ascii_lowercase, content_fault, said_by_fields, most_bytes, form_of, said_of, block_of, word_address_of, Block, blocks_of, register_named, register_value_of, Row, Sub, Write, Bell, Read, Reg, Erdp, SaysRow, Plain, Version}
-use Rattle.std.proofs.Math.Seq.{drop-cons}
-use Rattle.std.proofs.lemmas.List.{drop-drop, get_or-drop, length-drop}
-use Rattle.trace_reader.proofs.SpelledFields.{then_there}
-use Rattle.trace_reader.proofs.SpelledValues.{words_there}
+use Rattle.trace_reader.proofs.LowerLaws.{rules, ◌≡◌, ◌+◌, ◌<◌, ◌∷◌, ◌++◌, ◌∙◌, ℕ, suc, Bool, false, List, [], length, slice_index, take, drop, nat_lt, Some, Ok, All, refl, ap, sym, subst, arith, codes, w8, w32, w64, digits_without_space, take-append-drop, slice_split_at, slice_split_none, SaysAlone, HasBytes, Width, byte_len, bytes_of_8, bytes_of_32, bytes_of_64, length-digits_of, number_of, said, fields_of, has_empty_field, is_empty, is_space, All-cons, All-nil, All-head, All-tail, nat_tests, common_steps, slice_split, str_to_ascii_lowercase, to_ascii_lowercase, content_fault, said_by_fields, most_bytes, form_of, said_of, block_of, word_address_of, Block, blocks_of, register_named, register_value_of, Row, Sub, Write, Bell, Read, Reg, Erdp, SaysRow, Plain, Version, drop-cons, drop-drop, get_or-drop, length-drop, then_there, words_there}
 
 -- ---- a number is a field
 
@@ -11,14 +7,9 @@ record IsField (field : List ℕ) : Type 0 where
   spaceless : All (λ c. is_space c ≡ false) field
   some : is_empty field ≡ false
 
-no_space : (c : ℕ) → is_space (to_ascii_lowercase c) ≡ false → is_space c ≡ false
-no_space c lower = grind (arith, nat_tests)
-
 spaceless_if_lower : (field : List ℕ) → All (λ c. is_space c ≡ false) (str_to_ascii_lowercase field) → All (λ c. is_space c ≡ false) field
 spaceless_if_lower [] are = All-nil (λ c. is_space c ≡ false)
-spaceless_if_lower (x ∷ xs) are =
-    All-cons (λ c. is_space c ≡ false) x xs (no_space x (All-head (λ c. is_space c ≡ false) (to_ascii_lowercase x) (str_to_ascii_lowercase xs) are))
-    (spaceless_if_lower xs (All-tail (λ c. is_space c ≡ false) (to_ascii_lowercase x) (str_to_ascii_lowercase xs) are))
+spaceless_if_lower (x ∷ xs) are = grind (arith, All-cons, nat_tests, All-head, All-tail, spaceless_if_lower xs (All-tail (λ c. is_space c ≡ false) (to_ascii_lowercase x) (str_to_ascii_lowercase xs) are))
 
 some_if_long : (field : List ℕ) → 0 < length (str_to_ascii_lowercase field) → is_empty field ≡ false
 some_if_long field long = search rules
@@ -69,9 +60,7 @@ by_name : (content name : List ℕ) (n : ℕ) (fields : List (List ℕ)) (row : 
     slice_index content n ≡ 32 → fields_of (drop (suc n) content) ≡ fields → has_empty_field (name ∷ fields) ≡ false →
     ((version : Version) (begun : Bool) → said_by_fields version begun (name ∷ fields) ≡ Ok (SaysRow (Plain row))) → SaysAlone row content
 unfolding content_fault
-by_name content name n fields row short inside is plain space behind full says =
-    let are : fields_of content ≡ name ∷ fields = rw (is, behind) at (field_from content 0 n n (omega arith) inside space (rw is plain)) in
-    λ version begun. rw (short, are, full) (says version begun)
+by_name content name n fields row short inside is plain space behind full says = grind (arith, field_from, rw (is, behind) at (field_from content 0 n n (omega arith) inside space (rw is plain)))
 
 pub erdp_says : (content : List ℕ) (value : ℕ) → length content ≡ 25 → take 9 content ≡ codes "reg erdp " → number_of w64 (drop 9 content) ≡ Some value → SaysAlone (Reg Erdp value) content
 unfolding content_fault fields_of said_by_fields form_of said_of register_named register_value_of

@@ -1,10 +1,7 @@
 -- The one law of lines that are data: what is read of a line is spelled by it, and what is spelled is read
-use Rattle.trace_reader.proofs.Words.{rules, ◌≡◌, ◌≢◌, ◌<◌, ◌^◌, ◌∷◌, ◌∙◌, ℕ, inl, inr, true, List, [], length, map, Some, All, refl, sym, ap, subst, arith, eq-eqb, w8, w32, w64, is_some, flat_map, option_map, option_and_then, bytes_eq, and_parts, and_from, cases_Bool, digits_of, bytes_of_8, bytes_of_32, bytes_of_64, IsBlock, ring_name, is_wide, register_name, IsWordAddress, register_named, Kind, Byte, Long, WordAddress, KindOfRing, TransferKind, Tail, Nothing, Event, RegisterValue, Blocks, Segments, Told, Behind, Values, is_known, are_behind, are_fields, told, behind, values, Line, FormOf, form_as, line_named, value_in, Field, Word, Digits, may_be_written, are_written, block_fields, segment_field, register_value_of, Xfer}
-use Rattle.trace_reader.specs.Grammar.{Number, form_in}
-use Rattle.trace_reader.proofs.SpelledFields.{both_there, both_of, mapped_there, then_there, cond_there, same_bytes, are_same_bytes, number_written, number_read}
+use Rattle.trace_reader.proofs.LowerLaws.{rules, ◌≡◌, ◌≢◌, ◌<◌, ◌^◌, ◌∷◌, ◌∙◌, ℕ, inl, inr, true, List, [], length, map, Some, All, refl, sym, ap, subst, arith, eq-eqb, w8, w32, w64, is_some, flat_map, option_map, option_and_then, bytes_eq, and_parts, and_from, cases_Bool, digits_of, bytes_of_8, bytes_of_32, bytes_of_64, IsBlock, ring_name, is_wide, register_name, IsWordAddress, register_named, Kind, Byte, Long, WordAddress, KindOfRing, TransferKind, Tail, Nothing, Event, RegisterValue, Blocks, Segments, Told, Behind, Values, is_known, are_behind, are_fields, told, values, FormOf, form_as, line_named, value_in, Field, Word, Digits, may_be_written, are_written, block_fields, segment_field, register_value_of, Xfer, both_there, both_of, mapped_there, then_there, cond_there, same_bytes, are_same_bytes, number_written, number_read, FitsSegment, segments_written, segments_read, blocks_written, blocks_read, event_written, event_read, only}
+use Rattle.trace_reader.specs.Grammar.{behind, Line, Number, form_in}
 use Rattle.trace_reader.proofs.SpelledWords.{address_there, address_of_number, two_of, two_written, kind_word, word_kind, register_word, word_register, value_there, value_of_number, some_blocks, four_for_each}
-use Rattle.trace_reader.proofs.SpelledSegments.{FitsSegment, segments_written, segments_read}
-use Rattle.trace_reader.proofs.SpelledValues.{blocks_written, blocks_read, event_written, event_read, only}
 
 -- ---- one field
 
@@ -98,8 +95,7 @@ all_written (k ∷ ks) tail [] v are is = cc is
 all_written (k ∷ ks) tail (field ∷ fields) v are is =
     let p = both_there (λ a b. (a, b)) (told k field) (values ks tail fields) v is in
     let here = told_written k field p.0 p.2 in
-    let rest = all_written ks tail fields p.1 (and_parts (is_known k field) (are_fields ks tail fields) are).1 p.3 in
-    rw (← p.4) (and_from (may_be_written (kind_field k p.0) field) (are_written (all_fields ks tail p.1) fields) here.0 rest.0, (here.1, rest.1))
+    grind (arith, and_parts, and_from, all_written ks tail fields p.1 (and_parts (is_known k field) (are_fields ks tail fields) are).1 p.3)
 
 all_read : (ks : List Kind) (tail : Tail) (fields : List (List ℕ)) (v : Values ks tail) → AllFit ks tail v → are_written (all_fields ks tail v) fields ≡ true →
     (values ks tail fields ≡ Some v) × (are_fields ks tail fields ≡ true)
@@ -153,13 +149,7 @@ module _ {T : Type 0} (fields_said : T → List Field) (FitsValue : T → Type 0
         let q = cond_there (are_fields p.0.kinds p.0.tail fields) (p.0, fields) form p.2 in
         let r = mapped_there p.0.make (values p.0.kinds p.0.tail fields) t (ap value_in q.1 ∙ says) in
         let w = all_written p.0.kinds p.0.tail fields r.0 q.0 r.1 in
-        let spelled = (one_of lines are word p.0 p.1).1 r.0 in
-        rw (← q.1, ← r.2) (
-          rw spelled.0 (and_from (bytes_eq word p.0.word) (are_written (all_fields p.0.kinds p.0.tail r.0) fields)
-              (are_same_bytes word p.0.word (one_of lines are word p.0 p.1).0) w.0),
-          spelled.1 w.1,
-          spelled.2,
-        )
+        grind (arith, one_of, and_from, are_same_bytes)
 
     pub said_read : (t : T) → IsSaid lines t → (fields : List (List ℕ)) → FitsValue t → are_written (fields_said t) fields ≡ true →
         (form : FormOf T) × (form_in lines fields ≡ Some form) × (value_in form ≡ Some t)

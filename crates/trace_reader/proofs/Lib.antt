@@ -35,3 +35,7 @@ pub mod RowsAhead
 pub mod Examples
 pub mod Words
 pub mod Streaming
+pub mod LowerLaws
+pub mod MiddleLaws
+pub mod UpperLaws
+pub mod Laws

@@ -1,18 +1,14 @@
 -- Lines that don't depend on each other: what they say, and that they spell it
-use Rattle.trace_reader.proofs.Words.{rules, ◌≡◌, ◌+◌, ◌≤◌, ◌∷◌, ℕ, Bool, true, false, List, [], length, map, Option, Some, None, Result, Ok, Err, All, refl, subst, arith, le-ltb, option_map_or, and_parts, and_from, All-cons, All-head, All-nil, All-tail, fields_of, has_empty_field, TextLine, length-fields_of, spaced_length, LineFault, Number, content_fault, most_bytes, faulted_by, valued_by, line_says, lines_say, next_value, unless_fault, is_too_long, Field, are_written, is_written, lines_written, printed}
+use Rattle.trace_reader.proofs.Words.{rules, ◌≡◌, ◌+◌, ◌≤◌, ◌∷◌, ℕ, true, false, List, [], length, map, Option, Some, None, Result, Ok, Err, All, refl, arith, le-ltb, option_map_or, and_parts, and_from, All-cons, All-head, All-nil, All-tail, fields_of, has_empty_field, TextLine, length-fields_of, spaced_length, LineFault, content_fault, most_bytes, faulted_by, valued_by, line_says, lines_say, next_value, is_too_long, Field, are_written, is_written, lines_written, printed}
 use Rattle.trace_reader.proofs.SpelledFields.{AllSound, all_filled, written_lengths}
 
 module _ {Form Value : Type 0} (form_of : List (List ℕ) → Option Form) (value_of : Form → Option Value) (fault_of : Value → Option LineFault) where
   -- ---- by its content and its fields
 
-  within_line : (line : TextLine) (long ended empty : Bool) → is_too_long line ≡ long → line.is_ended ≡ ended → has_empty_field (fields_of line.content) ≡ empty →
-      line_says form_of value_of fault_of line ≡ option_map_or Err (content_fault line) (faulted_by fault_of (valued_by value_of (form_of (fields_of line.content))))
-  unfolding line_says content_fault is_too_long
-  within_line line long ended empty is_long is_ended is_empty = search rules
-
   pub by_content : (line : TextLine) →
       line_says form_of value_of fault_of line ≡ option_map_or Err (content_fault line) (faulted_by fault_of (valued_by value_of (form_of (fields_of line.content))))
-  by_content line = within_line line (is_too_long line) line.is_ended (has_empty_field (fields_of line.content)) refl refl refl
+  unfolding line_says content_fault is_too_long
+  by_content line = search rules
 
   -- ---- a line without a fault
 
@@ -88,9 +84,7 @@ module _ {Value : Type 0} (says : ℕ → TextLine → Result Value LineFault) (
     lines_spell (line ∷ lines) number values before is =
         let p = next_there number (says number line) (lines_say says (number + 1) lines) values is in
         let here = are.spells number line p.0 p.2 in
-        let ih = lines_spell lines (number + 1) p.1 (omega (arith, here.2)) p.3 in
-        rw (← p.4)
-        (and_from (is_written (fields_said p.0) line) (lines_written (map fields_said p.1) lines) here.0 ih.0, All-cons Fits p.0 p.1 here.1 ih.1, omega (arith, ih.2))
+        grind (arith, and_from, All-cons, lines_spell lines (number + 1) p.1 (omega (arith, here.2)) p.3)
 
     pub lines_read : (values : List Value) (lines : List TextLine) (number : ℕ) → lines_written (map fields_said values) lines ≡ true → All Fits values → number + length values ≤ most + 1 →
         lines_say says number lines ≡ Ok values
@@ -100,5 +94,4 @@ module _ {Value : Type 0} (says : ℕ → TextLine → Result Value LineFault) (
     lines_read (value ∷ values) [] number written fit within = cc written
     lines_read (value ∷ values) (line ∷ lines) number written fit within =
         let p = and_parts (is_written (fields_said value) line) (lines_written (map fields_said values) lines) written in
-        let ih = lines_read values lines (number + 1) p.1 (All-tail Fits value values fit) (omega (arith, within)) in
-        rw (are.reads number line value p.0 (All-head Fits value values fit) (omega (arith, within)), ih) refl
+        grind (arith, All-tail, All-head, lines_read values lines (number + 1) p.1 (All-tail Fits value values fit) (omega (arith, within)))

@@ -1,6 +1,5 @@
 -- One line more of a text whose lines don't depend on each other
-use Rattle.trace_reader.proofs.Words.{rules, ◌≡◌, ◌+◌, ◌∷◌, ◌++◌, ◌∙◌, ℕ, List, [], Option, Some, None, Result, Ok, Err, refl, ap, length, arith, common_steps, fields_of, TextLine, lines_of, LineError, LineFault, IfBadLine, at_line, content_fault, AnswersBy, faulted_by, valued_by, line_says, lines_say, next_value}
-use Rattle.trace_reader.proofs.LineByLine.{by_content}
+use Rattle.trace_reader.proofs.LowerLaws.{rules, ◌≡◌, ◌+◌, ◌∷◌, ◌++◌, ◌∙◌, ℕ, List, [], Option, Some, None, Result, Ok, Err, refl, ap, length, arith, common_steps, fields_of, TextLine, lines_of, LineError, LineFault, IfBadLine, at_line, content_fault, AnswersBy, faulted_by, valued_by, line_says, lines_say, next_value, by_content}
 
 -- ---- a line
 

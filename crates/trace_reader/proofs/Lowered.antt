@@ -1,5 +1,5 @@
 -- A text that spells a trace is, in lower case, what is printed of the trace
-use Rattle.trace_reader.proofs.Words.{rules, ◌≡◌, ◌∷◌, ◌++◌, ◌∙◌, ℕ, List, [], true, false, IsTrue, refl, sym, ap, cond, map, arith, w32, Version, to_ascii_lowercase, flat_map, join_with_byte, slice_split, str_to_ascii_lowercase, and_parts, common_steps, map-append, join_with_byte-slice_split, ContextSize, TextLine, is_line_feed, last_line, lines_between, lines_of, digits_of, join-fields_of, Segment, Block, ring_name, RingKind, Ring, Row, TraceRow, trace_row_fields, TraceText, Field, Word, Digits, are_written, block_fields, is_written, lines_written, may_be_written, printed, printed_line, printed_trace, ring_fields, row_fields, segment_field, size_fields, spells, trace_lines, version_fields}
+use Rattle.trace_reader.proofs.Words.{rules, ◌≡◌, ◌∷◌, ◌++◌, ◌∙◌, ℕ, List, [], true, false, IsTrue, refl, sym, ap, cond, map, arith, w32, to_ascii_lowercase, flat_map, join_with_byte, slice_split, str_to_ascii_lowercase, and_parts, common_steps, map-append, join_with_byte-slice_split, TextLine, is_line_feed, lines_between, lines_of, digits_of, join-fields_of, Segment, Block, Ring, TraceRow, trace_row_fields, TraceText, Field, Word, Digits, are_written, block_fields, is_written, lines_written, may_be_written, printed, printed_line, printed_trace, ring_fields, row_fields, segment_field, spells, trace_lines}
 use Rattle.trace_reader.proofs.SpelledFields.{same_bytes}
 
 -- ---- a text by its lines
@@ -51,12 +51,9 @@ lowered_fields (field ∷ next ∷ fields) (text ∷ other ∷ texts) low writte
     lower_append text (32 ∷ join_with_byte 32 (other ∷ texts)) ∙ ap (λ (xs : List ℕ). xs ++ 32 ∷ str_to_ascii_lowercase (join_with_byte 32 (other ∷ texts))) first
     ∙ ap (λ (xs : List ℕ). printed field ++ 32 ∷ xs) (lowered_fields (next ∷ fields) (other ∷ texts) low.1 parts.1)
 
-lowered_line : (fields : List Field) (line : TextLine) → AreLow fields → is_written fields line ≡ true → str_to_ascii_lowercase (whole_line line) ≡ printed_line fields
-unfolding printed_line
-lowered_line fields line low written = search (rules, and_parts, lower_append, join-fields_of, lowered_fields)
-
 lowered_lines : (rest : List (List Field)) (lines : List TextLine) → AreLowLines rest → lines_written rest lines ≡ true →
     str_to_ascii_lowercase (flat_map whole_line lines) ≡ flat_map printed_line rest
+unfolding printed_line
 lowered_lines [] [] low written = refl
 lowered_lines [] (line ∷ lines) low written = cc written
 lowered_lines (fields ∷ rest) [] low written = cc written
@@ -64,7 +61,7 @@ lowered_lines (fields ∷ rest) (line ∷ lines) low written =
     let parts = and_parts (is_written fields line) (lines_written rest lines) written in
     let later = lowered_lines rest lines low.1 parts.1 in
     lower_append (whole_line line) (flat_map whole_line lines)
-    ∙ ap (λ (xs : List ℕ). xs ++ str_to_ascii_lowercase (flat_map whole_line lines)) (lowered_line fields line low.0 parts.0) ∙ ap (λ (xs : List ℕ). printed_line fields ++ xs) later
+    ∙ ap (λ (xs : List ℕ). xs ++ str_to_ascii_lowercase (flat_map whole_line lines)) (search (rules, and_parts, lower_append, join-fields_of, lowered_fields)) ∙ ap (λ (xs : List ℕ). printed_line fields ++ xs) later
 
 -- ---- the words of a trace
 
@@ -88,17 +85,10 @@ low_ring : (ring : Ring) → AreLow (ring_fields ring)
 unfolding ring_fields
 low_ring ring = (refl, (tt, ((search rules), low_segments ring.shape.segments)))
 
-low_size : (size : ContextSize) → AreLow (size_fields size)
-low_size size = search rules
-
-low_row : (row : Row) → AreLow (row_fields row)
-unfolding row_fields
-low_row row = search (rules, low_blocks, low_words)
-
 low_rows : (rows : List TraceRow) → AreLowLines (map trace_row_fields rows)
-unfolding trace_row_fields
+unfolding trace_row_fields row_fields
 low_rows [] = tt
-low_rows (row ∷ rows) = ((search (rules, low_row, low_ring)), low_rows rows)
+low_rows (row ∷ rows) = ((search (rules, low_blocks, low_words, low_ring)), low_rows rows)
 
 low_lines : (rings : List Ring) (rows : List TraceRow) → AreLowLines (map ring_fields rings ++ map trace_row_fields rows)
 low_lines [] rows = low_rows rows
@@ -107,5 +97,5 @@ low_lines (ring ∷ rings) rows = (low_ring ring, low_lines rings rows)
 pub lowered : (text : List ℕ) (trace : TraceText) → IsTrue (spells trace text) → str_to_ascii_lowercase text ≡ printed_trace trace
 unfolding spells printed_trace trace_lines
 lowered text trace spelled =
-    let low : AreLowLines (trace_lines trace) = ((search rules), (low_size trace.header.context_size, low_lines trace.header.rings trace.rows)) in
+    let low : AreLowLines (trace_lines trace) = ((search rules), ((search rules), low_lines trace.header.rings trace.rows)) in
     ap str_to_ascii_lowercase (sym (lines_whole text)) ∙ lowered_lines (trace_lines trace) (lines_of text) low spelled

@@ -11,8 +11,5 @@ one_more done x later = grind (arith, common_steps)
 pub nothing_behind : {A : Type 0} (done : List A) → behind done (Some []) ≡ Some done
 nothing_behind done = ap Some (grind (arith, common_steps))
 
-one_at_end : {A B : Type 0} (f : A → B) (done : List A) (x : A) → map f (done ++ x ∷ []) ≡ map f done ++ f x ∷ []
-one_at_end f done x = grind (arith, common_steps)
-
 pub one_mapped : {A B : Type 0} (f : A → B) (done : List A) (x : A) (later : Option (List B)) → behind (map f done) (cons (Some (f x)) later) ≡ behind (map f (done ++ x ∷ [])) later
-one_mapped f done x later = one_more (map f done) (f x) later ∙ ap (λ xs. behind xs later) (sym (one_at_end f done x))
+one_mapped f done x later = one_more (map f done) (f x) later ∙ ap (λ xs. behind xs later) (sym (grind (arith, common_steps)))

@@ -1,8 +1,5 @@
 -- What is printed of a trace spells the trace
-use Rattle.trace_reader.proofs.Words.{common_steps, rules, ◌≡◌, ◌<◌, ◌∷◌, ◌++◌, ℕ, true, false, List, [], length, map, Ok, All, IsTrue, refl, arith, ne_eqb, Version, flat_map, join_with_byte, and_from, All-weaker, ContextSize, fields_of, is_line_feed, lines_of, All-join, AreFields, fields_of-join, lines_of-ended, lines_of-nothing, Ring, TraceRow, trace_row_fields, TraceText, trace_of, Field, are_written, lines_written, printed, printed_line, printed_trace, ring_fields, row_fields, size_fields, spells, trace_lines, version_fields, IsTrace}
-use Rattle.trace_reader.proofs.SpelledFields.{AllSound, plain_fields, written_as_printed}
-use Rattle.trace_reader.proofs.SpelledSizes.{ring_sound, sound_named, trace_row_sound}
-use Rattle.trace_reader.proofs.Spelled.{read_if_spelled}
+use Rattle.trace_reader.proofs.UpperLaws.{common_steps, rules, ◌≡◌, ◌<◌, ◌∷◌, ◌++◌, ℕ, true, false, List, [], length, map, Ok, All, IsTrue, refl, arith, ne_eqb, flat_map, join_with_byte, and_from, All-weaker, fields_of, is_line_feed, lines_of, All-join, AreFields, fields_of-join, lines_of-ended, lines_of-nothing, Ring, TraceRow, trace_row_fields, TraceText, trace_of, Field, lines_written, printed, printed_line, printed_trace, ring_fields, row_fields, spells, trace_lines, IsTrace, AllSound, plain_fields, written_as_printed, ring_sound, sound_named, trace_row_sound, read_if_spelled}
 
 -- ---- one line
 
@@ -25,11 +22,6 @@ pub printed_fields : (fields : List Field) → IsSoundLine fields → fields_of 
 printed_fields [] is = absurd (omega (arith, is.some))
 printed_fields (field ∷ fields) is = fields_of-join (printed field) (map printed fields) (are_fields (map printed (field ∷ fields)) (plain_fields (field ∷ fields) is.sound))
 
-printed_first : (fields : List Field) (rest : List ℕ) → IsSoundLine fields →
-    lines_of (printed_line fields ++ rest) ≡ record { content = join_with_byte 32 (map printed fields); is_ended = true } ∷ lines_of rest
-unfolding printed_line
-printed_first fields rest is = grind (arith, common_steps, lines_of-ended, without_line_feed, plain_fields)
-
 -- ---- lines
 
 abbrev pub AllSoundLines : List (List Field) → Type 0
@@ -45,11 +37,9 @@ sound_lines_map f sound [] = tt
 sound_lines_map f sound (x ∷ xs) = (sound x, sound_lines_map f sound xs)
 
 pub printed_lines : (lines : List (List Field)) → AllSoundLines lines → lines_written lines (lines_of (flat_map printed_line lines)) ≡ true
+unfolding printed_line
 printed_lines [] sound = rw lines_of-nothing refl
-printed_lines (line ∷ lines) sound =
-    let here : are_written line (fields_of (join_with_byte 32 (map printed line))) ≡ true = rw (printed_fields line sound.0) (written_as_printed line sound.0.sound) in
-    rw (printed_first line (flat_map printed_line lines) sound.0)
-    (and_from (are_written line (fields_of (join_with_byte 32 (map printed line)))) (lines_written lines (lines_of (flat_map printed_line lines))) here (printed_lines lines sound.1))
+printed_lines (line ∷ lines) sound = grind (arith, printed_fields, written_as_printed, common_steps, lines_of-ended, without_line_feed, plain_fields, and_from, printed_lines lines sound.1)
 
 -- ---- the lines of a trace
 
@@ -61,13 +51,10 @@ ring_line : (ring : Ring) → IsSoundLine (ring_fields ring)
 unfolding ring_fields
 ring_line ring = record { some = omega arith; sound = ring_sound ring }
 
-version_line : (version : Version) → IsSoundLine (version_fields version)
-version_line version = search (rules, sound_named)
-
 trace_sound : (trace : TraceText) → AllSoundLines (trace_lines trace)
 unfolding trace_lines
 trace_sound trace = (
-  version_line trace.header.version,
+  (search (rules, sound_named)),
   (
     (search (rules, sound_named)),
     sound_lines_append (map ring_fields trace.header.rings) (map trace_row_fields trace.rows) (sound_lines_map ring_fields ring_line trace.header.rings)

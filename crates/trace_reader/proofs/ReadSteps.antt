@@ -1,5 +1,5 @@
 -- One line more of a text
-use Rattle.trace_reader.proofs.Words.{rules, ◌≡◌, ◌-◌, ◌≤◌, ◌∷◌, ◌++◌, ◌∙◌, ℕ, List, [], Bool, false, Option, Some, None, Result, Ok, Err, refl, ap, cond, length, nat_lt, arith, is_none, option_map_or, nat_tests, common_steps, ContextSize, Version, TextLine, lines_of, LineFault, BadHeader, BadRow, Number, Limit, Shape, LineError, TraceRow, Answers, IfBadLine, IfFault, at_line, placed, said_by_line, took_in, State, after, go_on, is_bad_number, is_bad_shape, is_misplaced, line_fault, next_number, read_line, take_lines, taken, text_taken, row_fault, size_of, start, version_of, whole, with_row, with_said, Said}
+use Rattle.trace_reader.proofs.Words.{rules, ◌≡◌, ◌-◌, ◌≤◌, ◌∷◌, ◌++◌, ◌∙◌, ℕ, List, [], Bool, false, Option, Some, None, Result, Ok, Err, refl, ap, cond, length, nat_lt, arith, is_none, option_map_or, nat_tests, common_steps, ContextSize, Version, TextLine, lines_of, LineFault, BadHeader, BadRow, Number, Limit, Shape, LineError, TraceRow, Answers, IfBadLine, IfFault, at_line, placed, said_by_line, took_in, State, after, go_on, is_bad_number, is_bad_shape, is_misplaced, line_fault, next_number, read_line, take_lines, taken, text_taken, row_fault, size_of, start, version_of, whole, with_said, Said}
 
 module _ {R : Type 0} where
   -- the rows so far, before what later lines say
@@ -10,12 +10,9 @@ module _ {R : Type 0} where
   pub nothing_before : (r : Result (State × List R) (ℕ × LineFault)) → prepend [] r ≡ r
   nothing_before r = search rules
 
-  with_later : (rows : List R) (row : R) (r : Result (State × List R) (ℕ × LineFault)) → prepend rows (with_row (Some row) r) ≡ prepend (rows ++ row ∷ []) r
-  with_later rows row r = grind (arith, common_steps)
-
   good : (rows : List R) (number : ℕ) (r : Result (State × Option R) LineFault) (rest : State → Result (State × List R) (ℕ × LineFault)) (next : State × List R) → took_in rows r ≡ Ok next →
       prepend rows (go_on number r rest) ≡ prepend next.1 (rest next.0)
-  good rows number r rest next is = search (rules, with_later)
+  good rows number r rest next is = search (rules, common_steps)
 
   module _ (keeps : Bool) (take : TraceRow → Result R LineFault) where
     pub stopped : (text : List ℕ) (rows : List R) (st : State) (line : TextLine) (lines : List TextLine) (e : LineError) →
@@ -37,10 +34,7 @@ module _ {R : Type 0} where
 
   pub header_there : (st : State) (rows : List R) → 2 ≤ st.lines →
       whole (Ok (st, rows)) ≡ Ok (record { header = record { version = st.version; context_size = st.size; rings = st.rings }; first = next_number st - length rows; rows = rows })
-  header_there st rows there = rw (tested there) refl
-    where
-      tested : 2 ≤ st.lines → nat_lt st.lines 2 ≡ false
-      tested there = grind (arith, nat_tests, there)
+  header_there st rows there = grind (arith, nat_lt, nat_tests)
 
 by_tests : (st : State) (late past : Bool) (said : Option Said) →
     option_map_or Err (cond late (Some BadRow) (cond (is_none said) (Some Number) (cond past (Some Limit) (cond (option_map_or (is_misplaced st.rings st.later) said false) (Some Shape) None)))) (Ok (with_said st said))

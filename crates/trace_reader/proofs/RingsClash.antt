@@ -1,5 +1,5 @@
 -- A ring clashes with others where it overlaps one of all their segments, or is a second of its kind
-use Rattle.trace_reader.proofs.Words.{rules, arith, common_steps, ◌≡◌, ◌==◌, ◌&&◌, ◌||◌, ◌++◌, ◌∷◌, ◌∙◌, Bool, true, false, List, [], refl, sym, ap, Ring, Segment, clash, is_command_kind, is_event_kind, list_any, list_any-append, or_parts, rings_overlap, segments_overlap, AreSegmentsOf, is_second}
+use Rattle.trace_reader.proofs.Words.{rules, arith, common_steps, ◌≡◌, ◌||◌, ◌++◌, ◌∷◌, ◌∙◌, Bool, false, List, [], refl, sym, ap, Ring, Segment, clash, list_any, list_any-append, or_parts, rings_overlap, segments_overlap, AreSegmentsOf, is_second}
 use Rattle.trace_reader.specs.SegmentsApart.{segments_of}
 
 module _ {X : Type 0} where
@@ -12,13 +12,7 @@ module _ {X : Type 0} where
 
   any_either : (f g : X → Bool) (xs : List X) → list_any (λ x. f x || g x) xs ≡ (list_any f xs || list_any g xs)
   any_either f g [] = refl
-  any_either f g (x ∷ xs) = ap (λ b. (f x || g x) || b) (any_either f g xs) ∙ crossed (f x) (g x) (list_any f xs) (list_any g xs) where
-    crossed : (a b c d : Bool) → ((a || b) || (c || d)) ≡ ((a || c) || (b || d))
-    crossed true b c d = refl
-    crossed false true true d = refl
-    crossed false true false d = refl
-    crossed false false true d = refl
-    crossed false false false d = refl
+  any_either f g (x ∷ xs) = grind (arith, Bool, any_either f g xs)
 
 -- segments overlap one of all where they overlap one of a ring's
 overlapped : (ss : List Segment) (others : List Ring) →
@@ -31,12 +25,7 @@ overlapped ss (q ∷ qs) =
     (λ s. list_any-append (segments_overlap s) q.shape.segments (segments_of qs)) ss)
 
 parted : (r q : Ring) → clash r q ≡ (rings_overlap r.shape q.shape || is_second r q)
-parted r q = turned (r.id == q.id) (rings_overlap r.shape q.shape) (is_command_kind r.shape.kind && is_command_kind q.shape.kind) (is_event_kind r.shape.kind && is_event_kind q.shape.kind) where
-  turned : (a o c e : Bool) → (((a || o) || c) || e) ≡ (o || ((a || c) || e))
-  turned true true c e = refl
-  turned true false c e = refl
-  turned false true c e = refl
-  turned false false c e = refl
+parted r q = grind (arith, Bool)
 
 pub clashes : (r : Ring) (others : List Ring) (segments : List Segment) → AreSegmentsOf others segments →
     (list_any (λ s. list_any (segments_overlap s) segments) r.shape.segments || list_any (is_second r) others) ≡ list_any (clash r) others

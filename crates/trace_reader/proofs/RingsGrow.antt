@@ -1,7 +1,6 @@
 -- One ring more in a header
-use Rattle.trace_reader.proofs.Words.{rules, ◌≡◌, ◌<◌, ◌∷◌, ◌++◌, true, false, List, [], nat_lt, arith, refl, lt-ltb, list_all-append, segment_facts, are_apart, IsHeader, Header, list_any, list_all, and_parts, and_from, or_parts, is_segment, is_shape, RingKind, Segment, Ring, clash, is_misplaced, SaysRing}
+use Rattle.trace_reader.proofs.MiddleLaws.{rules, ◌≡◌, ◌<◌, ◌∷◌, ◌++◌, true, false, List, [], nat_lt, arith, refl, lt-ltb, list_all-append, segment_facts, are_apart, IsHeader, Header, list_any, list_all, and_parts, and_from, or_parts, is_segment, is_shape, RingKind, Segment, Ring, clash, is_misplaced, SaysRing, together_with}
 use Rattle.segments.specs.ShapeValue.{Shape}
-use Rattle.trace_reader.proofs.SpelledHeaders.{together_with}
 use Rattle.trace_reader.proofs.SpelledTraces.{is_line_ring}
 
 -- a ring that isn't misplaced may stand behind the others
@@ -18,8 +17,7 @@ all_some : (kind : RingKind) (ss : List Segment) → list_all (is_segment kind) 
 all_some kind [] all = refl
 all_some kind (s ∷ ss) all =
     let parts = and_parts (is_segment kind s) (list_all (is_segment kind) ss) all in
-    let long = (segment_facts kind s parts.0).blocks in
-    and_from (nat_lt 0 s.count) (list_all (λ t. nat_lt 0 t.count) ss) (lt-ltb 0 s.count (omega (arith, long))) (all_some kind ss parts.1)
+    grind (arith, segment_facts, and_from, nat_lt, lt-ltb, all_some kind ss parts.1)
 
 -- each of its segments has a block, and no two of them overlap
 pub its_segments : (shape : Shape) → is_shape shape ≡ true → (list_all (λ s. nat_lt 0 s.count) shape.segments ≡ true) × (are_apart shape.segments ≡ true)

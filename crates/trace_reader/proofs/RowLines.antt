@@ -1,7 +1,5 @@
 -- A line behind the first row's
-use Rattle.trace_reader.proofs.Words.{rules, ◌≡◌, ◌≤◌, ℕ, List, true, Option, Some, Result, Ok, Err, sym, TextLine, LineFault, LineError, Ring, TraceRow, Answers, AnswersRow, IfFault, SaysPlaced, ids_with, next_number, said_by_line, placed, read_line, behind_row, State, Said, SaysRing}
-use Rattle.trace_reader.proofs.ReadSteps.{behind_header}
-use Rattle.trace_reader.proofs.SpelledLines.{no_ring_behind}
+use Rattle.trace_reader.proofs.MiddleLaws.{rules, ◌≡◌, ◌≤◌, ℕ, List, true, Option, Some, Result, Ok, Err, sym, TextLine, LineFault, LineError, Ring, TraceRow, Answers, AnswersRow, IfFault, SaysPlaced, ids_with, next_number, said_by_line, placed, read_line, behind_row, State, Said, SaysRing, behind_header, no_ring_behind}
 
 pub no_ring : (st : State) (line : TextLine) (ring : Ring) → st.begun ≡ true → said_by_line st line ≡ Ok (SaysRing ring) → ⊥
 unfolding said_by_line

@@ -1,21 +1,11 @@
 -- The row of a text's first line, found by the places of its fields
-use Rattle.trace_reader.proofs.Words.{rules, ◌≡◌, ◌≤◌, ◌<◌, ◌+◌, ◌∷◌, ◌++◌, ◌∙◌, ℕ, zero, suc, List, [], true, false, Option, None, Some, IfSome, Ok, All, length, take, slice_index, refl, ap, subst, arith, ne_eqb, nat_tests, and_parts, All-join, All-cons, All-head, All-nil, All-tail, All-weaker, join-fields_of, str_to_ascii_lowercase, to_ascii_lowercase, is_line_feed, fields_of, TextLine, Field, may_be_written, are_written, Row, Plain, SaysRow, One, most_of, is_too_much, next_number, read_line, State, start, said_by_line, SaysAlone, BeginsWithRow}
-use Rattle.trace_reader.proofs.LineFields.{alone, fewer_kept, not_limited}
-use Rattle.trace_reader.proofs.ReadSteps.{line_entry}
-use Rattle.trace_reader.proofs.SpelledFields.{AllSound, IsSound, same_bytes}
-use Rattle.trace_reader.proofs.SpelledLines.{said_sound, step_from_read}
-use Rattle.trace_reader.proofs.SpelledSaid.{fields_said}
+use Rattle.trace_reader.proofs.MiddleLaws.{rules, ◌≡◌, ◌≤◌, ◌<◌, ◌+◌, ◌∷◌, ◌++◌, ◌∙◌, ℕ, zero, suc, List, [], true, false, Option, None, Some, IfSome, Ok, All, length, take, slice_index, refl, ap, subst, arith, ne_eqb, nat_tests, and_parts, All-join, All-cons, All-head, All-nil, All-tail, All-weaker, join-fields_of, str_to_ascii_lowercase, to_ascii_lowercase, is_line_feed, fields_of, TextLine, Field, may_be_written, are_written, Row, Plain, SaysRow, One, most_of, is_too_much, next_number, read_line, State, start, said_by_line, SaysAlone, BeginsWithRow, alone, fewer_kept, not_limited, line_entry, AllSound, same_bytes, said_sound, step_from_read, fields_said}
 
 -- ---- the bytes of a line that is read
 
-lower_above : (c : ℕ) → 32 < to_ascii_lowercase c → 32 < c
-lower_above c above = grind (arith, nat_tests, above)
-
 lower_all_above : (text : List ℕ) → All (λ c. 32 < c) (str_to_ascii_lowercase text) → All (λ c. 32 < c) text
 lower_all_above [] above = All-nil (λ c. 32 < c)
-lower_all_above (c ∷ rest) above =
-    All-cons (λ c. 32 < c) c rest (lower_above c (All-head (λ c. 32 < c) (to_ascii_lowercase c) (str_to_ascii_lowercase rest) above))
-    (lower_all_above rest (All-tail (λ c. 32 < c) (to_ascii_lowercase c) (str_to_ascii_lowercase rest) above))
+lower_all_above (c ∷ rest) above = grind (arith, All-cons, nat_tests, All-head, All-tail, lower_all_above rest (All-tail (λ c. 32 < c) (to_ascii_lowercase c) (str_to_ascii_lowercase rest) above))
 
 all_above : (fields : List Field) (texts : List (List ℕ)) → AllSound fields → are_written fields texts ≡ true → All (λ text. All (λ c. 32 < c) text) texts
 all_above [] [] sound written = All-nil (λ text. All (λ c. 32 < c) text)

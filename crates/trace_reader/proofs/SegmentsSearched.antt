@@ -1,6 +1,5 @@
 -- Of segments that lie one behind the other only the last one to start before another segment's end can overlap it
-use Rattle.trace_reader.proofs.Words.{common_steps, rules, ◌≡◌, ◌+◌, ◌-◌, ◌*◌, ◌^◌, ◌<◌, ◌≤◌, ◌&&◌, ◌||◌, ◌∷◌, ◌++◌, ◌∙◌, ℕ, Bool, true, false, not, inl, inr, List, [], All, drop, filter, map, min, nat_lt, refl, sym, ap, arith, and_parts, cases_lt, nat_tests, ranked, All-cons, All-head, All-nil, All-tail, All-weaker, Ordering, Equal, Greater, Less, are_apart, segments_overlap, Segment, LieApart, insert_entry, list_all, list_any, is_lt, match_ordering, nat_cmp}
-use Rattle.segments.specs.ShapeValue.{segment_of}
+use Rattle.trace_reader.proofs.Words.{common_steps, rules, ◌≡◌, ◌+◌, ◌-◌, ◌*◌, ◌^◌, ◌<◌, ◌≤◌, ◌&&◌, ◌||◌, ◌∷◌, ◌++◌, ◌∙◌, ℕ, Bool, true, false, not, inl, inr, List, [], All, drop, filter, map, min, nat_lt, refl, sym, ap, arith, and_parts, cases_lt, nat_tests, ranked, All-cons, All-head, All-nil, All-tail, All-weaker, Ordering, Equal, Greater, Less, are_apart, segments_overlap, Segment, LieApart, insert_entry, list_all, list_any, is_lt, match_ordering, nat_cmp, segment_of}
 
 or_none : (a b : Bool) → (a || b) ≡ false → (a ≡ false) × (b ≡ false)
 or_none a b is = search rules
@@ -55,19 +54,13 @@ module _ (s : Segment) (last : ℕ) (end : last ≡ min (s.base + (16 * s.count 
     met = ap (λ b. meets d || b) is.met ∙ covered (meets d) (meets e) (near d e (is.behind (d.0 + 16 * d.1) behind) is.by);
   }
 
-  alone : (d : ℕ × ℕ) (es : List (ℕ × ℕ)) (e : ℕ × ℕ) → d.0 ≤ last → LieApart es → d ∷ up_to last es ≡ e ∷ [] → IsLast (d ∷ es) e
-  alone d es e by rest is = search (rules, All-head, none_met)
-
   first_or_later : (d : ℕ × ℕ) (es : List (ℕ × ℕ)) (e : ℕ × ℕ) → d.0 ≤ last → All (λ t. d.0 + 16 * d.1 ≤ t.0) es → LieApart es → ((t : List (ℕ × ℕ)) → up_to last es ≡ t ++ e ∷ [] → IsLast es e) →
       (t : List (ℕ × ℕ)) → d ∷ up_to last es ≡ t ++ e ∷ [] → IsLast (d ∷ es) e
-  first_or_later d es e by behind rest later [] is = alone d es e by rest is
+  first_or_later d es e by behind rest later [] is = (search (rules, All-head, none_met))
   first_or_later d es e by behind rest later (f ∷ t) is = one_more d es e behind (later t (ap (λ l. drop 1 l) is))
 
-  nothing_last : (t : List (ℕ × ℕ)) (e : ℕ × ℕ) → [] ≡ t ++ e ∷ [] → ⊥
-  nothing_last t e is = grind (arith, common_steps)
-
   last_of : (es : List (ℕ × ℕ)) (e : ℕ × ℕ) → LieApart es → (t : List (ℕ × ℕ)) → up_to last es ≡ t ++ e ∷ [] → IsLast es e
-  last_of [] e apart t is = absurd (nothing_last t e is)
+  last_of [] e apart t is = absurd (grind (arith, common_steps))
   last_of (d ∷ es) e (low, some, behind, rest) t is = elim (cases_lt last d.0) [
     | inl past ↦ one_more d es e behind (last_of es e rest t (sym (rw (starts_behind last d.0 (nat_cmp last d.0) refl past) refl) ∙ is))
     | inr by ↦ first_or_later d es e by behind rest (last_of es e rest) t (sym (rw (starts_by last d.0 (nat_cmp last d.0) refl by) refl) ∙ is)
@@ -86,9 +79,6 @@ module _ (k v : ℕ) (low : k < 2 ^ 64) (some : 0 < v) where
   before : (e : ℕ × ℕ) → k < e.0 → segments_overlap new (segment_of e) ≡ false → k + 16 * v ≤ e.0
   before e less free = grind (arith, nat_tests, less, free, some)
 
-  after : (e : ℕ × ℕ) → e.0 < k → segments_overlap new (segment_of e) ≡ false → e.0 + 16 * e.1 ≤ k
-  after e less free = grind (arith, nat_tests, less, free, some)
-
   -- the entries with the new one, where it has no byte of them
   pub record IsAdded (es added : List (ℕ × ℕ)) : Type 0 where
     pub apart : LieApart added
@@ -97,7 +87,7 @@ module _ (k v : ℕ) (low : k < 2 ^ 64) (some : 0 < v) where
 
   further : (e : ℕ × ℕ) (es added : List (ℕ × ℕ)) → LieApart (e ∷ es) → e.0 < k → segments_overlap new (segment_of e) ≡ false → IsAdded es added → IsAdded (e ∷ es) (e ∷ added)
   further e es added apart less free rest = record {
-    apart = (apart.0, apart.1, rest.behind (e.0 + 16 * e.1) (after e less free) apart.2, rest.apart);
+    apart = (apart.0, apart.1, rest.behind (e.0 + 16 * e.1) (grind (arith, nat_tests, less, free, some)) apart.2, rest.apart);
     behind = λ n by all. All-cons (λ t. n ≤ t.0) e added (All-head (λ t. n ≤ t.0) e es all) (rest.behind n by (All-tail (λ t. n ≤ t.0) e es all));
     any = λ p. ap (λ b. p (segment_of e) || b) (rest.any p) ∙ or_turns (p (segment_of e)) (p new) (list_any p (map segment_of es));
   } where
@@ -121,12 +111,7 @@ module _ (k v : ℕ) (low : k < 2 ^ 64) (some : 0 < v) where
 -- ---- the segments of a ring more
 
 overlap_turns : (s t : Segment) → segments_overlap s t ≡ segments_overlap t s
-overlap_turns s t = and_turns (nat_lt s.base (t.base + 16 * t.count)) (nat_lt t.base (s.base + 16 * s.count)) where
-  and_turns : (a b : Bool) → (a && b) ≡ (b && a)
-  and_turns true true = refl
-  and_turns true false = refl
-  and_turns false true = refl
-  and_turns false false = refl
+overlap_turns s t = grind (arith, nat_lt, Bool)
 
 -- these segments may be added to others, and make all of the ring's with them
 pub record AreLeft (all old rest now : List Segment) : Type 0 where

@@ -1,11 +1,6 @@
 -- What is read of a text is the valid trace that the text spells
-use Rattle.trace_reader.proofs.Words.{rules, ◌≡◌, ◌-◌, ◌≤◌, ◌&&◌, ◌∷◌, ◌++◌, ◌∙◌, ℕ, Bool, true, false, cond, List, [], length, Option, Some, None, Result, Ok, IsTrue, All, refl, sym, ap, subst, arith, Version, join_with_byte, list_all, bytes_eq, and_parts, and_from, ContextSize, fields_of, TextLine, lines_of, join-fields_of, LineFault, Ring, TraceRow, have_new_ids, may_stand_together, most_lines, State, TextOf, TraceText, after, line_fault, next_number, read_line, read_lines, size_of, start, trace_of, version_of, whole, Field, Word, are_written, is_written, lines_written, size_fields, spells, trace_lines, version_fields, IsTrace}
-use Rattle.trace_reader.proofs.LineFields.{fewer_kept, some_lines}
-use Rattle.trace_reader.proofs.SpelledFields.{same_bytes, then_are}
-use Rattle.trace_reader.proofs.SpelledWords.{word_first}
-use Rattle.trace_reader.proofs.SpelledLines.{ok_there, there}
-use Rattle.trace_reader.proofs.SpelledTraces.{is_line_ring, IsLineRow, lines_for, lines_go_on, lines_read, read_on, spells_from_read, with_front}
-use Rattle.trace_reader.proofs.SpelledValues.{only}
+use Rattle.trace_reader.proofs.MiddleLaws.{rules, ◌≡◌, ◌-◌, ◌≤◌, ◌&&◌, ◌∷◌, ◌++◌, ◌∙◌, ℕ, Bool, true, false, cond, List, [], length, Option, Some, None, Result, Ok, IsTrue, refl, sym, ap, subst, arith, Version, join_with_byte, list_all, bytes_eq, and_parts, and_from, ContextSize, fields_of, TextLine, lines_of, join-fields_of, LineFault, Ring, TraceRow, have_new_ids, may_stand_together, most_lines, State, TextOf, TraceText, after, line_fault, next_number, read_line, read_lines, size_of, start, trace_of, version_of, whole, Field, Word, are_written, is_written, lines_written, size_fields, spells, trace_lines, version_fields, IsTrace, fewer_kept, some_lines, same_bytes, then_are, word_first, ok_there, there, only}
+use Rattle.trace_reader.proofs.SpelledTraces.{is_line_ring, lines_for, lines_go_on, lines_read, read_on, spells_from_read, with_front}
 
 -- ---- the first two lines
 
@@ -23,14 +18,6 @@ words_written fields text line written is = search (rules, and_parts, and_from, 
 version_written : (line : TextLine) (version : Version) → version_of line ≡ Some version → is_written (version_fields version) line ≡ true
 unfolding version_of fields_of
 version_written line version is = search (rules, words_written)
-
-version_read : (line : TextLine) (version : Version) → is_written (version_fields version) line ≡ true → version_of line ≡ Some version
-unfolding version_of
-version_read line version written = search (rules, two_words)
-
-size_read : (line : TextLine) (size : ContextSize) → is_written (size_fields size) line ≡ true → size_of line ≡ Some size
-unfolding size_of
-size_read line size written = search (rules, two_words)
 
 -- the states behind the first line and behind the second
 abbrev behind_version : Version → State
@@ -84,12 +71,7 @@ second_state : (first : TextLine) (lines : List TextLine) (r : State × List Tra
 second_state first lines r is =
     let g = lines_go_on (start true) first lines r is in
     let p = first_from_read first g.next g.step_is in
-    let state_is : behind_version p.0 ≡ g.next.0 = ap (λ (x : State × Option TraceRow). x.0) p.2 in
-    let row_is : None ≡ g.next.1 = ap (λ (x : State × Option TraceRow). x.1) p.2 in (
-      p.0,
-      version_written first p.0 p.1,
-      (g.others, ap (λ (x : State). read_lines x lines) state_is ∙ g.rest_is, g.end_is, ap (λ (o : Option TraceRow). with_front o g.others.1) row_is ∙ g.rows_are),
-    )
+    grind (arith, Option, version_written, with_front)
 
 third_state : (version : Version) (second : TextLine) (lines : List TextLine) (r : State × List TraceRow) → read_lines (behind_version version) (second ∷ lines) ≡ Ok r →
     (size : ContextSize) × (is_written (size_fields size) second ≡ true) × ((q : State × List TraceRow) × (read_lines (behind_size version size) lines ≡ Ok q) × (q.0 ≡ r.0) × (q.1 ≡ r.1))
@@ -97,12 +79,7 @@ unfolding size_of fields_of
 third_state version second lines r is =
     let g = lines_go_on (behind_version version) second lines r is in
     let p = second_from_read version second g.next g.step_is in
-    let state_is : behind_size version p.0 ≡ g.next.0 = ap (λ (x : State × Option TraceRow). x.0) p.2 in
-    let row_is : None ≡ g.next.1 = ap (λ (x : State × Option TraceRow). x.1) p.2 in (
-      p.0,
-      (search (rules, words_written)),
-      (g.others, ap (λ (x : State). read_lines x lines) state_is ∙ g.rest_is, g.end_is, ap (λ (o : Option TraceRow). with_front o g.others.1) row_is ∙ g.rows_are),
-    )
+    search (rules, Option, words_written, with_front)
 
 begins : (first second : TextLine) (lines : List TextLine) (r : State × List TraceRow) → read_lines (start true) (first ∷ second ∷ lines) ≡ Ok r → Begins first second lines r
 begins first second lines r is = search (rules, second_state, third_state)
@@ -150,7 +127,7 @@ spelled_if_read text trace is = read_spells (lines_of text) trace is
 -- ---- from a text that spells a trace
 
 written_reads : (lines : List TextLine) (trace : TraceText) → lines_written (trace_lines trace) lines ≡ true → IsTrace trace → whole (read_lines (start true) lines) ≡ Ok trace
-unfolding trace_lines
+unfolding trace_lines version_of size_of
 written_reads [] trace written is = cc written
 written_reads (first ∷ []) trace written is = search (rules, and_parts)
 written_reads (first ∷ second ∷ lines) trace written is =
@@ -162,9 +139,9 @@ written_reads (first ∷ second ∷ lines) trace written is =
     let first_is = is.first in
     let within = is.within in
     let read = lines_read trace.header.rings trace.rows lines (behind_size version size) (omega arith) refl h.0 h.1 is.rows is.begins is.new_ids q.1 (omega (arith, first_is, within, fewer_kept version)) in
-    let third = read_on (behind_version version) (behind_size version size) second lines None read.end trace.rows (second_read version second size (size_read second size q.0)) read.is in
+    let third = read_on (behind_version version) (behind_size version size) second lines None read.end trace.rows (second_read version second size (search (rules, two_words))) read.is in
     let all : read_lines (start true) (first ∷ second ∷ lines) ≡ Ok (read.end, trace.rows) =
-    read_on (start true) (behind_version version) first (second ∷ lines) None read.end trace.rows (first_read first version (version_read first version p.0)) third in
+    read_on (start true) (behind_version version) first (second ∷ lines) None read.end trace.rows (first_read first version (search (rules, two_words))) third in
     ap (λ (x : Result (State × List TraceRow) (ℕ × LineFault)). whole x) all
     ∙ (search rules)
 

@@ -45,11 +45,7 @@ pub plain_digits : (w : Width) (n : ℕ) → All (λ c. 32 < c) (digits_of w n)
 plain_digits w n = All-weaker (λ c. is_lower_digit c ≡ true) (λ c. 32 < c) above_space (digits_of w n) (digits_are_lower w n)
 
 pub sound_digits : (w : Width) (n : ℕ) → 0 < byte_len w → IsSound (Digits (digits_of w n))
-sound_digits w n some = record {
-  some = omega (arith, length-digits_of w n, some);
-  plain = plain_digits w n;
-  writes = are_same_bytes (str_to_ascii_lowercase (digits_of w n)) (digits_of w n) (digits_stay_lower w n);
-}
+sound_digits w n some = grind (arith, length-digits_of, plain_digits, are_same_bytes, digits_stay_lower)
 
 written_length : (field : Field) (text : List ℕ) → may_be_written field text ≡ true → length text ≡ length (printed field)
 written_length field text written = grind (arith, common_steps, same_bytes)

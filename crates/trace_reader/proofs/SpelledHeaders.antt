@@ -1,8 +1,7 @@
 -- Which rings may stand together, ring by ring, and what their shapes say of their lines
-use Rattle.trace_reader.proofs.Words.{common_steps, rules, ◌≡◌, ◌+◌, ◌*◌, ◌<◌, ◌≤◌, ◌==◌, ◌&&◌, ◌||◌, ◌∷◌, ◌++◌, ◌∙◌, ℕ, Bool, true, false, not, List, [], length, nat_lt, All, refl, sym, ap, arith, append_assoc, list_any, and_parts, and_from, not-true, or_parts, nat_tests, list_any-append, AllPass-from_list_all, All-weaker, RingKind, overlap, is_shape, is_segment, Segment, clash, is_command_kind, is_event_kind, may_stand_together, Ring}
+use Rattle.trace_reader.proofs.LowerLaws.{common_steps, rules, ◌≡◌, ◌+◌, ◌*◌, ◌<◌, ◌≤◌, ◌==◌, ◌&&◌, ◌||◌, ◌∷◌, ◌++◌, ◌∙◌, ℕ, Bool, true, false, not, List, [], length, nat_lt, All, refl, ap, arith, append_assoc, list_any, and_parts, and_from, not-true, or_parts, list_any-append, AllPass-from_list_all, All-weaker, overlap, is_shape, Segment, clash, is_command_kind, is_event_kind, may_stand_together, Ring, FitsSegment}
 use Rattle.segments.specs.ShapeValue.{Shape}
 use Rattle.trace_reader.proofs.SpelledSaid.{FitsRing}
-use Rattle.trace_reader.proofs.SpelledSegments.{FitsSegment}
 
 -- ---- a clash is one of both rings
 
@@ -10,23 +9,18 @@ and_swaps : (a b : Bool) → (a && b) ≡ (b && a)
 and_swaps a b = search rules
 
 module _ {A : Type 0} where
-  any_same : (f g : A → Bool) → ((x : A) → f x ≡ g x) → (xs : List A) → list_any f xs ≡ list_any g xs
-  any_same f g same xs = search rules
-
   any_of_none : (f : A → A → Bool) (xs : List A) → list_any (λ x. list_any (f x) []) xs ≡ false
   any_of_none f [] = refl
   any_of_none f (x ∷ xs) = any_of_none f xs
 
   any_of_more : (f : A → A → Bool) (xs : List A) (y : A) (ys : List A) → list_any (λ x. list_any (f x) (y ∷ ys)) xs ≡ (list_any (λ x. f x y) xs || list_any (λ x. list_any (f x) ys) xs)
   any_of_more f [] y ys = refl
-  any_of_more f (x ∷ xs) y ys =
-      ap (λ (b : Bool). (f x y || list_any (f x) ys) || b) (any_of_more f xs y ys)
-      ∙ (search rules)
+  any_of_more f (x ∷ xs) y ys = grind (arith, Bool, any_of_more f xs y ys)
 
   any_turns : (f g : A → A → Bool) → ((x y : A) → f x y ≡ g y x) → (xs ys : List A) → list_any (λ x. list_any (f x) ys) xs ≡ list_any (λ y. list_any (g y) xs) ys
   any_turns f g turns xs [] = any_of_none f xs
   any_turns f g turns xs (y ∷ ys) =
-      any_of_more f xs y ys ∙ ap (λ (b : Bool). b || list_any (λ x. list_any (f x) ys) xs) (any_same (λ x. f x y) (g y) (λ x. turns x y) xs)
+      any_of_more f xs y ys ∙ ap (λ (b : Bool). b || list_any (λ x. list_any (f x) ys) xs) (search rules)
       ∙ ap (λ (b : Bool). list_any (g y) xs || b) (any_turns f g turns xs ys)
 
 eqb_turns : (a b : ℕ) → (a == b) ≡ (b == a)
@@ -44,16 +38,13 @@ clash_turns r q =
 
 pub together_push : (rings : List Ring) (ring : Ring) → may_stand_together (rings ++ ring ∷ []) ≡ (may_stand_together rings && not (list_any (clash ring) rings))
 together_push [] ring = refl
-together_push (r ∷ rest) ring =
-    let ih = together_push rest ring in
-    rw (list_any-append (clash r) rest (ring ∷ []), ih, clash_turns r ring) (search rules)
+together_push (r ∷ rest) ring = search (rules, list_any-append, clash_turns, together_push rest ring)
 
 pub together_front : (rings more : List Ring) → may_stand_together (rings ++ more) ≡ true → may_stand_together rings ≡ true
 together_front [] more together = refl
 together_front (r ∷ rest) more together =
     let parts = and_parts (not (list_any (clash r) (rest ++ more))) (may_stand_together (rest ++ more)) together in
-    let none = or_parts (list_any (clash r) rest) (list_any (clash r) more) (sym (list_any-append (clash r) rest more) ∙ not-true (list_any (clash r) (rest ++ more)) parts.0) in
-    and_from (not (list_any (clash r) rest)) (may_stand_together rest) (ap not none.0) (together_front rest more parts.1)
+    grind (arith, or_parts, list_any-append, not-true, and_from, together_front rest more parts.1)
 
 -- a ring that clashes with none of the rings may stand behind them
 pub together_with : (rings : List Ring) (ring : Ring) → may_stand_together rings ≡ true → list_any (clash ring) rings ≡ false → may_stand_together (rings ++ ring ∷ []) ≡ true
@@ -61,9 +52,7 @@ together_with rings ring together none = rw (together_push rings ring, together,
 
 -- a ring among rings that may stand together clashes with none of those before it
 pub no_clash : (rings : List Ring) (ring : Ring) (more : List Ring) → may_stand_together (rings ++ ring ∷ more) ≡ true → list_any (clash ring) rings ≡ false
-no_clash rings ring more together =
-    let front = together_front (rings ++ ring ∷ []) more (rw (append_assoc rings (ring ∷ []) more) together) in
-    not-true (list_any (clash ring) rings) (and_parts (may_stand_together rings) (not (list_any (clash ring) rings)) (sym (together_push rings ring) ∙ front)).1
+no_clash rings ring more together = grind (arith, together_front, append_assoc, not-true, and_parts, together_push, together_front (rings ++ ring ∷ []) more (rw (append_assoc rings (ring ∷ []) more) together))
 
 -- ---- what an allowed shape says of the ring's line
 

@@ -1,7 +1,6 @@
 -- A line without a fault: what it says, and that it spells it
-use Rattle.trace_reader.proofs.Words.{rules, ◌≡◌, ◌≤◌, ◌||◌, ◌∙◌, ℕ, Bool, true, false, not, List, length, map, nat_lt, Option, Some, None, Ok, Err, is_none, refl, sym, ap, arith, le-ltb, ltb-false, ne_eqb, list_any, option_and_then, option_map_or, not-false, or_parts, fields_of, has_empty_field, TextLine, length-fields_of, spaced_length, is_shape, LineFault, Ring, Sub, Write, Reg, Bell, Read, TraceRow, Plain, Comes, Goes, Withdraws, has_used_id, has_ring_rows, trace_row_fields, Form, clash, most_of, most_bytes, most_declared, State, next_number, form_in, said_in, is_bad_row, is_bad_number, is_too_much, is_past_limit, is_too_long, is_misplaced, is_bad_shape, row_fault, line_fault, with_said, after, read_line, printed, said_of, Said, SaysRow, SaysRing}
-use Rattle.trace_reader.proofs.SpelledFields.{AllSound, all_filled, then_there, written_lengths}
-use Rattle.trace_reader.proofs.SpelledSaid.{FitsSaid, IsRead, IsSpelled, fields_said, read_from_spelled, spelled_from_read, stands}
+use Rattle.trace_reader.proofs.LowerLaws.{rules, ◌≡◌, ◌≤◌, ◌||◌, ◌∙◌, ℕ, Bool, true, false, not, nat_lt, Option, Some, None, Ok, Err, is_none, refl, sym, ap, arith, le-ltb, ltb-false, ne_eqb, option_and_then, option_map_or, not-false, or_parts, fields_of, has_empty_field, TextLine, length-fields_of, is_shape, LineFault, Ring, TraceRow, has_ring_rows, trace_row_fields, Form, most_of, most_declared, State, next_number, form_in, said_in, is_bad_row, is_bad_number, is_too_much, is_past_limit, is_too_long, is_misplaced, is_bad_shape, row_fault, line_fault, with_said, after, read_line, said_of, Said, SaysRing, AllSound, all_filled, then_there, written_lengths}
+use Rattle.trace_reader.proofs.SpelledSaid.{IsRead, IsSpelled, fields_said, read_from_spelled, spelled_from_read, stands}
 use Rattle.trace_reader.proofs.SpelledHeaders.{shape_says}
 use Rattle.trace_reader.proofs.SpelledSizes.{trace_row_sound, ring_sound, sub_length, write_length, reg_length, bell_length, read_length, ring_length, goes_length, withdraws_length}
 
@@ -95,21 +94,9 @@ few_blocks n few = ltb-false most_declared n few
 allowed : (ring : Ring) (other : Bool) → (not (is_shape ring.shape) || other) ≡ false → is_shape ring.shape ≡ true
 allowed ring other placed = not-false (is_shape ring.shape) ((or_parts (not (is_shape ring.shape)) other placed).0)
 
-said_fits : (rings : List Ring) (later : List ℕ) (s : Said) → FitsSaid s → is_too_much s ≡ false → is_misplaced rings later s ≡ false → spaced_length (map printed (fields_said s)) ≤ most_bytes
-unfolding trace_row_fields
-said_fits rings later (SaysRow (Plain (Sub ring blocks))) fits few placed = sub_length ring blocks fits.0.1 (few_blocks (length blocks) few)
-said_fits rings later (SaysRow (Plain (Write at word))) fits few placed = write_length at word
-said_fits rings later (SaysRow (Plain (Reg register value))) fits few placed = reg_length register value
-said_fits rings later (SaysRow (Plain (Bell slot target))) fits few placed = bell_length slot target
-said_fits rings later (SaysRow (Plain (Read event))) fits few placed = read_length event fits.0
-said_fits rings later (SaysRow (Comes ring)) fits few placed = ring_length ring ((shape_says ring.shape (allowed ring (has_used_id rings later (Comes ring)) placed)).few)
-said_fits rings later (SaysRow (Goes ring)) fits few placed = goes_length ring
-said_fits rings later (SaysRow (Withdraws ring position)) fits few placed = withdraws_length ring position
-said_fits rings later (SaysRing ring) fits few placed = ring_length ring ((shape_says ring.shape (allowed ring (list_any (clash ring) rings) placed)).few)
-
 short_line : (st : State) (line : TextLine) (s : Said) → IsGood st line s → is_too_long line ≡ false
-unfolding is_too_long
-short_line st line s good = search (rules, length-fields_of, written_lengths, fields_said, said_fits)
+unfolding is_too_long trace_row_fields
+short_line st line s good = search (rules, length-fields_of, written_lengths, fields_said, sub_length, few_blocks, write_length, reg_length, bell_length, read_length, ring_length, shape_says, allowed, goes_length, withdraws_length)
 
 read_in : (st : State) (line : TextLine) (s : Said) → IsRead st.version st.begun s (fields_of line.content) → said_in st line ≡ Some s
 unfolding said_in form_in
@@ -125,17 +112,7 @@ none_from_good st line s good =
     let read = read_from_spelled st.version st.begun s (fields_of line.content) good.spelled good.ordered in
     let says = read_in st line s read in
     let formed = formed_in st line s read in
-    let filled = all_filled (fields_said s) (fields_of line.content) (said_sound s) good.spelled.written in
-    let row = no_bad_row st line (record { ended = good.ended; filled = filled; formed = rw formed refl }) in (
-      no_row_fault st line (record {
-        short = short_line st line s good;
-        row = row;
-        number = rw says refl;
-        limit = rw (le-ltb (most_of st) (next_number st) good.within, says) good.few;
-        shape = rw says good.placed;
-      }),
-      says,
-    )
+    grind (arith, all_filled, fields_said, said_sound, no_bad_row, no_row_fault, short_line, le-ltb)
 
 -- ---- the next line
 

@@ -1,14 +1,6 @@
 -- What is read of a text is the valid plan that the text spells
-use Rattle.trace_reader.proofs.Words.{rules, ◌≡◌, ◌<◌, ◌≤◌, ◌^◌, ◌∷◌, ◌∙◌, ℕ, inl, inr, true, false, List, [], length, map, None, Result, Ok, All, IsTrue, refl, sym, ap, arith, codes, le-ltb, and_parts, and_from, cases_Bool, or_parts, fields_of, TextLine, lines_of, spaced_length, is_shape, IsBlock, RingKind, Evt, LineFault, PlanLine, Ret, Ring, is_event_kind, most_bytes, most_lines, lines_say, PlanText, declares_too_much, is_plan_version, plan_form_of, plan_in, plan_line, plan_line_fault, plan_of, plan_ring, plan_ring_fault, plan_value, ret_line, ring_alone, ring_line_form, ring_value, plan_sub_line, with_ring, IsPlan, plan_line_fields, plan_text_lines, plan_version_fields, spells_plan, IsPlanLine, are_written, is_written, lines_written, printed, ring_fields}
+use Rattle.trace_reader.proofs.UpperLaws.{rules, ◌≡◌, ◌<◌, ◌≤◌, ◌^◌, ◌∷◌, ◌∙◌, ℕ, inl, inr, true, false, List, [], length, map, None, Result, Ok, All, IsTrue, refl, sym, ap, arith, codes, le-ltb, and_parts, and_from, cases_Bool, or_parts, fields_of, TextLine, lines_of, is_shape, IsBlock, RingKind, Evt, LineFault, PlanLine, Ret, Ring, is_event_kind, most_lines, lines_say, PlanText, declares_too_much, is_plan_version, plan_form_of, plan_in, plan_line, plan_line_fault, plan_of, plan_ring, plan_ring_fault, plan_value, ret_line, ring_alone, ring_line_form, ring_value, plan_sub_line, with_ring, IsPlan, plan_line_fields, plan_text_lines, plan_version_fields, spells_plan, IsPlanLine, are_written, is_written, lines_written, ring_fields, AnySort, AreLines, IsSaid, table_read, table_written, AreSpelled, IsSpelling, line_read, line_spells, lines_read, lines_spell, two_words, words_written, are_same_bytes, FitsRing, ring_fits, shape_says, few_blocks, blocks_length, blocks_sound, digits_64, digits_8, ring_length, ring_sound, sixteen_digits, sound_named, two_digits}
 use Rattle.traces.specs.declared.plan.PlanLine.TheVariants.{Sub}
-use Rattle.trace_reader.proofs.Grammar.{AnySort, AreLines, IsSaid, table_read, table_written}
-use Rattle.trace_reader.proofs.LineByLine.{AreSpelled, IsSpelling, line_read, line_spells, lines_read, lines_spell}
-use Rattle.trace_reader.proofs.Spelled.{two_words, words_written}
-use Rattle.trace_reader.proofs.SpelledFields.{AllSound, are_same_bytes}
-use Rattle.trace_reader.proofs.SpelledSaid.{FitsRing}
-use Rattle.trace_reader.proofs.SpelledHeaders.{ring_fits, shape_says}
-use Rattle.trace_reader.proofs.SpelledLines.{few_blocks}
-use Rattle.trace_reader.proofs.SpelledSizes.{blocks_length, blocks_sound, digits_64, digits_8, ring_length, ring_sound, sixteen_digits, sound_named, two_digits}
 
 -- ---- the ring's line
 
@@ -60,19 +52,16 @@ line_spelling number = record {
   short = (search (rules, few_blocks, line_limits, two_digits, blocks_length, sixteen_digits));
 }
 
-line_from_fits : (line : PlanLine) → FitsPlanLine line → declares_too_much line ≡ false → IsPlanLine line
-unfolding FitsPlanLine
-line_from_fits line fits few = search (rules, few_blocks)
-
 fits_from_line : (line : PlanLine) → IsPlanLine line → FitsPlanLine line × (declares_too_much line ≡ false)
 unfolding FitsPlanLine
 fits_from_line line is = search rules
 
 lines_are_spelled : AreSpelled plan_line plan_line_fields IsPlanLine most_lines
+unfolding FitsPlanLine
 lines_are_spelled = record {
   spells = λ number line value is.
       let p = line_spells plan_form_of plan_value (plan_line_fault number) plan_line_fields FitsPlanLine (line_spelling number) line value is in
-      (p.0, line_from_fits value p.1 (line_limits number value p.2).1, (line_limits number value p.2).0);
+      (p.0, (search (rules, few_blocks)), (line_limits number value p.2).0);
   reads = λ number line value written is within.
       let none : plan_line_fault number value ≡ None = rw (le-ltb most_lines number within, (fits_from_line value is).1) refl in
       line_read plan_form_of plan_value (plan_line_fault number) plan_line_fields FitsPlanLine (line_spelling number) line value written (fits_from_line value is).0 none;
@@ -121,16 +110,10 @@ pub plan_spelled_if_read : (text : List ℕ) (plan : PlanText) → plan_of text 
 unfolding plan_of spells_plan
 plan_spelled_if_read text plan is = read_spells (lines_of text) plan is
 
-written_reads : (lines : List TextLine) (plan : PlanText) → lines_written (plan_text_lines plan) lines ≡ true → IsPlan plan → plan_in lines ≡ Ok plan
-unfolding plan_text_lines is_plan_version
-written_reads [] plan written is = cc written
-written_reads (first ∷ []) plan written is = search (rules, and_parts)
-written_reads (first ∷ second ∷ lines) plan written is = search (rules, and_parts, driven, line_read, ring_spelling, ring_fits, lines_read, lines_are_spelled, two_words, and_from, are_same_bytes)
-
 -- a valid plan that the text spells is what is read
 pub plan_read_if_spelled : (text : List ℕ) (plan : PlanText) → IsTrue (spells_plan plan text) → IsPlan plan → plan_of text ≡ Ok plan
-unfolding plan_of spells_plan
-plan_read_if_spelled text plan spelled is = written_reads (lines_of text) plan spelled is
+unfolding plan_of spells_plan plan_text_lines is_plan_version
+plan_read_if_spelled text plan spelled is = grind (arith, and_parts, driven, line_read, ring_spelling, ring_fits, lines_read, lines_are_spelled, two_words, and_from, are_same_bytes)
 
 -- a text spells one valid plan
 pub one_plan : (text : List ℕ) (s t : PlanText) → IsTrue (spells_plan s text) → IsPlan s → IsTrue (spells_plan t text) → IsPlan t → s ≡ t

@@ -1,7 +1,8 @@
 -- What a line of a trace says, and how it is written
-use Rattle.trace_reader.proofs.Words.{rules, ◌≡◌, ◌≢◌, ◌<◌, ◌^◌, ◌&&◌, ◌++◌, ℕ, Bool, true, false, not, List, length, Some, All, refl, is_wide, IsRow, Ring, Row, Sub, Write, Reg, Bell, Read, TraceRow, Plain, Comes, Goes, Withdraws, Xfer, Version, has_ring_rows, is_of_version, Line, Field, are_written, row_fields, ring_fields, trace_row_fields, Form, form_of, driver_lines, ring_lines, said_of, sub_line, write_line, reg_line, bell_line, event_line, ring_line, comes_line, goes_line, withdraws_line, Said, SaysRow, SaysRing}
+use Rattle.trace_reader.proofs.LowerLaws.{arith, ◌≡◌, ◌≢◌, ◌<◌, ◌^◌, ◌&&◌, ◌++◌, ℕ, Bool, true, false, not, List, length, Some, All, refl, is_wide, IsRow, Ring, Row, Sub, Write, Reg, Bell, Read, TraceRow, Plain, Goes, Withdraws, Xfer, Version, has_ring_rows, Field, are_written, row_fields, ring_fields, trace_row_fields, Form, form_of, driver_lines, ring_lines, said_of, sub_line, write_line, reg_line, bell_line, event_line, ring_line, comes_line, goes_line, withdraws_line, Said, SaysRow, SaysRing, FitsSegment}
+use Rattle.traces.specs.declared.trace_row.TraceRow.TheVariants.{Comes}
+use Rattle.trace_reader.specs.Grammar.{Line}
 use Rattle.trace_reader.proofs.Grammar.{AreLines, IsSaid, said_read, table_written}
-use Rattle.trace_reader.proofs.SpelledSegments.{FitsSegment}
 
 -- a declaration has a block at least, and a register of 32 bits a value of 32
 abbrev pub FitsText : Row → Type 0
@@ -56,16 +57,7 @@ IsSort ring_rows begun l s = stands ring_rows begun s ≡ true
 
 said_are_lines : (ring_rows begun : Bool) → AreLines fields_said FitsSaid (IsSort ring_rows begun) (driver_lines ++ ring_lines ring_rows begun)
 unfolding row_fields trace_row_fields ring_fields
-said_are_lines ring_rows begun = (
-  (λ v. (refl, (λ fits. ((fits.0, fits.1.0), fits.1.1)), refl)),
-  (
-    (λ v. (refl, (λ fits. ((fits.0, fits.1.0), tt)), refl)),
-    (
-      (λ v. (refl, (λ fits. fits), refl)),
-      ((λ v. (refl, (λ fits. ((fits.0, fits.1.0), tt)), refl)), ((λ v. (refl, (λ fits. (fits, tt)), refl)), (search rules))),
-    ),
-  ),
-)
+said_are_lines ring_rows begun = grind arith
 
 plain_is_said : (ring_rows begun : Bool) (row : Row) → IsSaid fields_said FitsSaid (IsSort ring_rows begun) (driver_lines ++ ring_lines ring_rows begun) (SaysRow (Plain row))
 unfolding row_fields trace_row_fields

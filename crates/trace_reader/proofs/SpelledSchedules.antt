@@ -1,32 +1,8 @@
 -- What is read of a text is the valid schedule that the text spells
-use Rattle.trace_reader.proofs.Words.{rules, ◌≡◌, ◌<◌, ◌≤◌, ◌∷◌, ℕ, inl, inr, Bool, true, false, cond, List, [], length, map, Some, None, Ok, IsTrue, refl, arith, codes, le-ltb, ltb-false, and_parts, and_from, cases_Bool, fields_of, TextLine, lines_of, spaced_length, Limit, Step, NextRow, Look, Report, Finish, Other, Scribble, most_bytes, most_schedule_lines, IsStep, finish_line, is_past_schedule_limit, is_schedule_version, look_line, other_line, report_line, row_line, schedule_in, schedule_of, scrib_line, step_fault, step_form_of, step_line, step_lines, step_value, IsSchedule, printed_schedule, schedule_lines, schedule_version_fields, spells_schedule, step_fields, are_written, is_written, lines_written, printed}
-use Rattle.trace_reader.proofs.Grammar.{AnySort, AreLines, IsSaid, table_read, table_written}
-use Rattle.trace_reader.proofs.LineByLine.{AreSpelled, IsSpelling, line_read, line_spells, lines_read, lines_spell}
+use Rattle.trace_reader.proofs.UpperLaws.{rules, ◌≡◌, ◌∷◌, ℕ, inl, inr, true, List, [], map, Ok, IsTrue, refl, arith, codes, le-ltb, ltb-false, and_parts, and_from, cases_Bool, fields_of, TextLine, lines_of, Step, NextRow, Look, Report, Finish, Other, Scribble, most_schedule_lines, IsStep, finish_line, is_schedule_version, look_line, other_line, report_line, row_line, schedule_in, schedule_of, scrib_line, step_fault, step_form_of, step_line, step_lines, step_value, IsSchedule, printed_schedule, schedule_lines, schedule_version_fields, spells_schedule, step_fields, are_written, is_written, lines_written, AnySort, IsSaid, table_read, table_written, AreSpelled, IsSpelling, line_read, line_spells, lines_read, lines_spell, two_words, words_written, AllSound, are_same_bytes, block_length, block_sound, digits_32, digits_64, digits_8, eight_digits, sixteen_digits, sound_named, two_digits}
 use Rattle.trace_reader.proofs.Printed.{AllSoundLines, IsSoundLine, printed_lines, sound_lines_map}
-use Rattle.trace_reader.proofs.Spelled.{two_words, words_written}
-use Rattle.trace_reader.proofs.SpelledFields.{AllSound, are_same_bytes}
-use Rattle.trace_reader.proofs.SpelledSizes.{block_length, block_sound, digits_32, digits_64, digits_8, eight_digits, sixteen_digits, sound_named, two_digits}
 
 -- ---- each step's line
-
-step_are_lines : AreLines step_fields IsStep AnySort step_lines
-unfolding step_fields
-step_are_lines = (
-  (λ v. (refl, (λ fits. tt), tt)),
-  (
-    (λ v. (refl, (λ fits. fits.0), tt)),
-    (
-      (λ v. (refl, (λ fits. fits), tt)),
-      (
-        (λ v. (refl, (λ fits. fits), tt)),
-        (
-          (λ v. (refl, (λ fits. fits), tt)),
-          ((λ v. (refl, (λ fits. (fits.0, fits.1.0)), tt)), tt),
-        ),
-      ),
-    ),
-  ),
-)
 
 each_is_said : (step : Step) → IsSaid step_fields IsStep AnySort step_lines step
 unfolding step_fields
@@ -46,20 +22,17 @@ step_sound step = search (rules, sound_named, digits_8, block_sound, digits_64, 
 step_spelling : (number : ℕ) → IsSpelling step_form_of step_value (step_fault number) step_fields IsStep
 unfolding step_form_of step_value step_fields
 step_spelling number = record {
-  to_fields = λ fields form step formed valued. let p = table_written step_fields IsStep AnySort step_lines step_are_lines fields form step formed valued in (p.0, p.1);
+  to_fields = λ fields form step formed valued. let p = table_written step_fields IsStep AnySort step_lines (grind arith) fields form step formed valued in (p.0, p.1);
   to_form = λ fields step is written. table_read step_fields IsStep AnySort step_lines each_is_said fields step is written;
   sound = step_sound;
   short = λ step is none. (search (rules, two_digits, block_length, sixteen_digits, eight_digits));
 }
 
-none_of : (b : Bool) → cond b (Some Limit) None ≡ None → b ≡ false
-none_of b is = search rules
-
 steps_are_spelled : AreSpelled step_line step_fields IsStep most_schedule_lines
 steps_are_spelled = record {
   spells = λ number line step is.
       let p = line_spells step_form_of step_value (step_fault number) step_fields IsStep (step_spelling number) line step is in
-      (p.0, p.1, ltb-false most_schedule_lines number (none_of (is_past_schedule_limit number) p.2));
+      (p.0, p.1, ltb-false most_schedule_lines number (search rules));
   reads = λ number line step written is within.
       line_read step_form_of step_value (step_fault number) step_fields IsStep (step_spelling number) line step written is (rw (le-ltb most_schedule_lines number within) refl);
 }
@@ -92,14 +65,10 @@ pub schedule_spelled_if_read : (text : List ℕ) (steps : List Step) → schedul
 unfolding schedule_of spells_schedule
 schedule_spelled_if_read text steps is = read_spells (lines_of text) steps is
 
-written_reads : (lines : List TextLine) (steps : List Step) → lines_written (schedule_lines steps) lines ≡ true → IsSchedule steps → schedule_in lines ≡ Ok steps
-unfolding schedule_lines is_schedule_version
-written_reads lines steps written is = search (rules, and_parts, lines_read, steps_are_spelled, two_words, and_from, are_same_bytes)
-
 -- a valid schedule that the text spells is what is read
 pub schedule_read_if_spelled : (text : List ℕ) (steps : List Step) → IsTrue (spells_schedule steps text) → IsSchedule steps → schedule_of text ≡ Ok steps
-unfolding schedule_of spells_schedule
-schedule_read_if_spelled text steps spelled is = written_reads (lines_of text) steps spelled is
+unfolding schedule_of spells_schedule schedule_lines is_schedule_version
+schedule_read_if_spelled text steps spelled is = search (rules, and_parts, lines_read, steps_are_spelled, two_words, and_from, are_same_bytes)
 
 -- a text spells one valid schedule
 pub one_schedule : (text : List ℕ) (s t : List Step) → IsTrue (spells_schedule s text) → IsSchedule s → IsTrue (spells_schedule t text) → IsSchedule t → s ≡ t

@@ -1,5 +1,6 @@
 -- Fields that say segments, and how segments are written
-use Rattle.trace_reader.proofs.Words.{rules, ◌≡◌, ◌<◌, ◌^◌, ◌∷◌, ◌++◌, ◌∙◌, ℕ, suc, true, List, [], length, slice_index, take, drop, map, Some, All, refl, sym, ap, subst, arith, length-append, append_assoc, codes, eq-eqb, w16, w64, take_at, drop_at, to_ascii_lowercase, str_to_ascii_lowercase, and_parts, and_from, nat_tests, length-map, map-append, take-map, drop-map, get_or_at, get_or-map, All-cons, All-nil, All-head, All-tail, digits_of, number_of, bytes_of_16, bytes_of_64, length-digits_of, said, spelled, Segment, may_be_written, are_written, segment_field, segment_of, segments_of}
+use Rattle.trace_reader.proofs.Words.{rules, ◌≡◌, ◌<◌, ◌^◌, ◌∷◌, ◌++◌, ◌∙◌, ℕ, suc, true, List, [], length, slice_index, take, drop, map, Some, All, refl, sym, ap, arith, length-append, append_assoc, codes, eq-eqb, w16, w64, take_at, drop_at, to_ascii_lowercase, str_to_ascii_lowercase, and_parts, and_from, nat_tests, length-map, map-append, take-map, drop-map, get_or_at, get_or-map, All-cons, All-nil, All-head, All-tail, digits_of, number_of, bytes_of_16, bytes_of_64, length-digits_of, said, spelled, Segment, may_be_written, are_written, segment_field, segments_of}
+use Rattle.trace_reader.specs.Values.{segment_of}
 use Rattle.trace_reader.proofs.SpelledFields.{same_bytes, are_same_bytes, both_there, both_of}
 
 -- ---- a segment
@@ -7,9 +8,6 @@ use Rattle.trace_reader.proofs.SpelledFields.{same_bytes, are_same_bytes, both_t
 -- its numbers fit the digits for them
 abbrev pub FitsSegment : Segment → Type 0
 FitsSegment segment = (segment.base < 2 ^ 64) × (segment.count < 2 ^ 16)
-
-split_at_colon : (field : List ℕ) → length field ≡ 21 → slice_index field 16 ≡ 58 → field ≡ take 16 field ++ 58 ∷ drop 17 field
-split_at_colon field long colon = search rules
 
 lower_parts : (xs ys : List ℕ) → str_to_ascii_lowercase (xs ++ 58 ∷ ys) ≡ str_to_ascii_lowercase xs ++ 58 ∷ str_to_ascii_lowercase ys
 lower_parts xs ys = map-append to_ascii_lowercase xs (58 ∷ ys)
@@ -28,7 +26,7 @@ segment_written field segment says =
     let base = said w64 bytes_of_64 (take 16 field) segment.base p.2 in
     let count = said w16 bytes_of_16 (drop 17 field) segment.count p.3 in
     let parts : str_to_ascii_lowercase field ≡ str_to_ascii_lowercase (take 16 field) ++ 58 ∷ str_to_ascii_lowercase (drop 17 field) =
-    ap (λ (xs : List ℕ). str_to_ascii_lowercase xs) (split_at_colon field p.0 p.1) ∙ lower_parts (take 16 field) (drop 17 field) in
+    ap (λ (xs : List ℕ). str_to_ascii_lowercase xs) (search rules) ∙ lower_parts (take 16 field) (drop 17 field) in
     let named : str_to_ascii_lowercase (take 16 field) ++ 58 ∷ str_to_ascii_lowercase (drop 17 field) ≡ digits_of w64 segment.base ++ 58 ∷ digits_of w16 segment.count =
     rw (base.0, count.0) refl in
     (are_same_bytes (str_to_ascii_lowercase field) _ (parts ∙ named ∙ sym (digits_are segment.base segment.count)), (base.1, count.1))
@@ -80,5 +78,4 @@ segments_read [] (field ∷ fields) fit written = cc written
 segments_read (segment ∷ segments) [] fit written = cc written
 segments_read (segment ∷ segments) (field ∷ fields) fit written =
     let parts = and_parts (may_be_written (segment_field segment) field) (are_written (map segment_field segments) fields) written in
-    let ih = segments_read segments fields (All-tail FitsSegment segment segments fit) parts.1 in
-    both_of (λ x rest. x ∷ rest) (segment_of field) (segments_of fields) segment segments (segment_read field segment (All-head FitsSegment segment segments fit) parts.0) ih
+    grind (arith, All-tail, both_of, segment_read, All-head, segments_read segments fields (All-tail FitsSegment segment segments fit) parts.1)

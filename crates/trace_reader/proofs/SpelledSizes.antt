@@ -1,7 +1,5 @@
 -- The fields of rows and rings: none is empty or has a space, and all fit a line
-use Rattle.trace_reader.proofs.Words.{rules, common_steps, ◌≡◌, ◌*◌, ◌<◌, ◌≤◌, ◌∷◌, ◌∙◌, ℕ, true, List, [], length, map, All, refl, ap, arith, codes, nat_lt, w8, w32, w64, ltb-true, flat_map, list_all, map-append, AllPass-from_list_all, All-weaker, All-append, All-head, All-tail, digits_of, digits_stay_lower, length-digits_of, spaced_length, IsBlock, ring_name, Block, RingKind, Segment, register_name, most_bytes, most_declared, Word, Digits, printed, block_fields, segment_field, row_fields, ring_fields, Register, Ring, Row, Sub, Write, Reg, Bell, Read, TraceRow, Goes, Withdraws, trace_row_fields}
-use Rattle.trace_reader.proofs.SpelledFields.{IsSound, AllSound, sound_word, sound_digits, sound_append, sound_map, plain_digits, are_same_bytes, spaced_length-append}
-use Rattle.trace_reader.proofs.SpelledValues.{word_field}
+use Rattle.trace_reader.proofs.LowerLaws.{rules, common_steps, ◌≡◌, ◌*◌, ◌<◌, ◌≤◌, ◌∷◌, ◌∙◌, ℕ, true, List, [], length, map, All, refl, ap, arith, codes, nat_lt, w8, w32, w64, ltb-true, flat_map, list_all, map-append, AllPass-from_list_all, All-weaker, All-append, All-head, All-tail, digits_of, digits_stay_lower, length-digits_of, spaced_length, IsBlock, ring_name, Block, RingKind, Segment, register_name, most_bytes, most_declared, Word, Digits, printed, block_fields, segment_field, row_fields, ring_fields, Register, Ring, Sub, Write, Reg, Bell, Read, TraceRow, Goes, Withdraws, trace_row_fields, IsSound, AllSound, sound_word, sound_digits, sound_append, sound_map, plain_digits, are_same_bytes, spaced_length-append, word_field}
 
 -- ---- soundness
 
@@ -48,9 +46,7 @@ trace_row_sound row = search (rules, sound_named, digits_8, blocks_sound, digits
 
 words_length : (words : List ℕ) → spaced_length (map printed (map word_field words)) ≡ 9 * length words
 words_length [] = refl
-words_length (x ∷ words) =
-    let eight : length (digits_of w32 x) ≡ 8 = length-digits_of w32 x in
-    omega (arith, words_length words, eight)
+words_length (x ∷ words) = grind (arith, w32, length-digits_of, words_length words)
 
 pub block_length : (block : Block) → IsBlock block → spaced_length (map printed (block_fields block)) ≡ 36
 block_length block is = let l = words_length block.w in omega (arith, l, is.0)

@@ -1,17 +1,11 @@
 -- What is read of a text's lines, and what the lines spell
-use Rattle.trace_reader.proofs.Words.{common_steps, rules, ◌≡◌, ◌+◌, ◌≤◌, ◌&&◌, ◌∷◌, ◌++◌, ◌∙◌, ℕ, Bool, true, false, not, List, [], length, map, nat_lt, Option, Some, None, Result, Ok, All, refl, sym, ap, subst, arith, append_assoc, append-nil, ltb-true, list_any, list_all, and_parts, and_from, not-true, or_parts, or_from, All-head, All-tail, fields_of, TextLine, is_shape, LineFault, Ring, TraceRow, Version, has_ring_rows, IsTraceRow, is_of_version, begins_with_ring, has_no_shape, has_used_id, have_new_ids, ids_with, behind_row, clash, may_stand_together, most_of, State, go_on, is_misplaced, is_too_much, next_number, read_line, read_lines, with_said, Field, are_written, lines_written, ring_fields, trace_row_fields, Said, SaysRow, SaysRing}
-use Rattle.trace_reader.proofs.SpelledSaid.{FitsRow, stands}
-use Rattle.trace_reader.proofs.SpelledHeaders.{no_clash, ring_fits, together_with}
-use Rattle.trace_reader.proofs.SpelledLines.{IsGood, read_from_good, step_from_read}
+use Rattle.trace_reader.proofs.MiddleLaws.{common_steps, rules, ◌≡◌, ◌+◌, ◌≤◌, ◌&&◌, ◌∷◌, ◌++◌, ◌∙◌, ℕ, Bool, true, false, not, List, [], length, map, nat_lt, Option, Some, None, Result, Ok, All, refl, sym, ap, arith, append_assoc, append-nil, ltb-true, list_any, list_all, and_parts, and_from, not-true, or_parts, or_from, All-head, All-tail, fields_of, TextLine, is_shape, LineFault, Ring, TraceRow, Version, IsTraceRow, is_of_version, begins_with_ring, has_no_shape, has_used_id, have_new_ids, ids_with, behind_row, clash, may_stand_together, most_of, State, next_number, read_line, read_lines, with_said, Field, are_written, lines_written, ring_fields, trace_row_fields, Said, SaysRow, SaysRing, no_clash, ring_fits, together_with, IsGood, read_from_good, step_from_read}
 
 -- ---- rows
 
 -- a row that a line can say in a trace of this version
 abbrev pub IsLineRow : Version → TraceRow → Type 0
 IsLineRow version row = IsTraceRow row × (is_of_version version row ≡ true)
-
-row_few : (row : TraceRow) → IsTraceRow row → is_too_much (SaysRow row) ≡ false
-row_few row is = search rules
 
 -- a ring with an ID of its field and an allowed shape
 abbrev pub is_line_ring : Ring → Bool
@@ -40,10 +34,6 @@ pub record IsSpelledAs (st end : State) (rings : List Ring) (rows : List TraceRo
 abbrev behind_ring : State → Ring → State
 behind_ring st ring = record st { lines = next_number st; rings = st.rings ++ ring ∷ [] }
 
-spelled_ring : (st end : State) (line : TextLine) (ring : Ring) (rings : List Ring) (rows : List TraceRow) (lines : List TextLine) → IsGood st line (SaysRing ring) →
-    IsSpelledAs (behind_ring st ring) end rings rows lines → IsSpelledAs st end (ring ∷ rings) rows (line ∷ lines)
-spelled_ring st end line ring rings rows lines good rest = grind (arith, common_steps, and_from, and_from, together_with, or_parts)
-
 -- ---- from what is read
 
 -- the row in front of rows, where there is one
@@ -59,14 +49,10 @@ pub record GoesOn (step : Result (State × Option TraceRow) LineFault) (rest : S
   pub end_is : others.0 ≡ r.0
   pub rows_are : with_front next.1 others.1 ≡ r.1
 
-goes_on : (number : ℕ) (step : Result (State × Option TraceRow) LineFault) (rest : State → Result (State × List TraceRow) (ℕ × LineFault)) (r : State × List TraceRow) →
-    go_on number step rest ≡ Ok r → GoesOn step rest r
-goes_on number step rest r is = search rules
-
 pub lines_go_on : (st : State) (line : TextLine) (lines : List TextLine) (r : State × List TraceRow) → read_lines st (line ∷ lines) ≡ Ok r →
     GoesOn (read_line st line) (λ next. read_lines next lines) r
 unfolding read_lines
-lines_go_on st line lines r is = goes_on (next_number st) (read_line st line) (λ next. read_lines next lines) r is
+lines_go_on st line lines r is = search rules
 
 -- what is spelled by what was read
 pub record Spells (st : State) (lines : List TextLine) (r : State × List TraceRow) : Type 0 where
@@ -76,7 +62,7 @@ pub record Spells (st : State) (lines : List TextLine) (r : State × List TraceR
 spells_on : (st : State) (line : TextLine) (lines : List TextLine) (s : Said) (others : State × List TraceRow) → IsGood st line s →
     Spells ((with_said st (Some s)).0) lines others → Spells st (line ∷ lines) (others.0, with_front ((with_said st (Some s)).1) others.1)
 spells_on st line lines (SaysRow row) others good rest = search rules
-spells_on st line lines (SaysRing ring) others good rest = record { rings = ring ∷ rest.rings; are = spelled_ring st others.0 line ring rest.rings others.1 lines good rest.are }
+spells_on st line lines (SaysRing ring) others good rest = record { rings = ring ∷ rest.rings; are = grind (arith, common_steps, and_from, and_from, together_with, or_parts) }
 
 pub spells_from_read : (lines : List TextLine) (st : State) (r : State × List TraceRow) → 2 ≤ st.lines → read_lines st lines ≡ Ok r → Spells st lines r
 unfolding read_lines
@@ -130,7 +116,7 @@ rows_read (row ∷ rows) (line ∷ lines) st behind fit begins new_ids written w
       spelled = record { written = w.1; fits = (search (rules, ring_fits)) };
       ordered = (search (rules, and_from));
       within = omega (arith, within);
-      few = row_few row is.0;
+      few = search rules;
       placed = or_from (has_no_shape row) (has_used_id st.rings st.later row) (search rules) (not-true (has_used_id st.rings st.later row) ids.0);
     } in
     let ih = rows_read rows lines (behind_row st row) (omega arith) (All-tail (IsLineRow st.version) row rows fit) (λ e. cc e) ids.1 w.2 (omega (arith, within)) in

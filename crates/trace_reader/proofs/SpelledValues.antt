@@ -1,5 +1,5 @@
 -- What number fields say, and how the numbers are written
-use Rattle.trace_reader.proofs.Words.{rules, ◌≡◌, ◌*◌, ◌<◌, ◌^◌, ◌&&◌, ◌∷◌, ◌++◌, ◌∙◌, ℕ, Bool, true, false, List, [], length, slice_index, map, Some, All, refl, ap, arith, subst, append-nil, w32, flat_map, and_parts, All-cons, All-nil, All-head, All-tail, digits_of, number_of, bytes_of_32, IsBlock, Block, Field, Digits, may_be_written, are_written, block_fields, block_of, blocks_of, event_of}
+use Rattle.trace_reader.proofs.Words.{rules, ◌≡◌, ◌*◌, ◌<◌, ◌^◌, ◌∷◌, ◌++◌, ◌∙◌, ℕ, true, List, [], length, slice_index, map, Some, All, refl, ap, arith, append-nil, w32, flat_map, and_parts, All-cons, All-nil, All-head, All-tail, digits_of, number_of, bytes_of_32, IsBlock, Block, Field, Digits, may_be_written, are_written, block_fields, block_of, blocks_of, event_of}
 use Rattle.trace_reader.proofs.SpelledFields.{both_there, both_of, mapped_there, number_written, number_read}
 
 -- the digits of a word
@@ -40,9 +40,6 @@ block_written a b c d block fields texts says rest =
     let ha = number_written w32 bytes_of_32 a p.x p.first in
     rw (← p.are) (four_written p.x p.y p.z p.u a b c d fields texts ha.0 hb.0 hc.0 hd.0 rest, (refl, (search rules)))
 
-never : (t : Bool) → (t && false) ≡ true → ⊥
-never t is = search rules
-
 -- four fields that are written so
 record FourWritten (x y z u : ℕ) (fields : List Field) (texts : List (List ℕ)) : Type 0 where
   a : List ℕ
@@ -79,7 +76,7 @@ words_read [] fields texts four small written = absurd (omega arith)
 words_read (x ∷ []) fields texts four small written = absurd (omega arith)
 words_read (x ∷ y ∷ []) fields texts four small written = absurd (omega arith)
 words_read (x ∷ y ∷ z ∷ []) fields texts four small written = absurd (omega arith)
-words_read (x ∷ y ∷ z ∷ u ∷ []) fields texts four small written = read_of x y z u fields texts (small 0) (small 1) (small 2) (small 3) (search (rules, never, and_parts))
+words_read (x ∷ y ∷ z ∷ u ∷ []) fields texts four small written = read_of x y z u fields texts (small 0) (small 1) (small 2) (small 3) (search (rules, and_parts))
 words_read (x ∷ y ∷ z ∷ u ∷ v ∷ more) fields texts four small written = absurd (omega arith)
 
 pub block_read : (block : Block) (fields : List Field) (texts : List (List ℕ)) → IsBlock block → are_written (block_fields block ++ fields) texts ≡ true → BlockRead block fields texts

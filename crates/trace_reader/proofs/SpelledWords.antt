@@ -1,7 +1,5 @@
 -- Words of a line, and the values of single fields
-use Rattle.trace_reader.proofs.Words.{rules, ◌≡◌, ◌≢◌, ◌*◌, ◌%◌, ◌<◌, ◌^◌, ◌∷◌, ◌∙◌, ℕ, inl, inr, true, List, [], length, Some, refl, ap, subst, eq-eqb, w64, bytes_eq, and_parts, cases_Bool, number_of, ring_name, Block, RingKind, is_wide, register_name, Register, Usbcmd, Usbsts, Dnctrl, Crcr, Dcbaap, Config, Iman, Imod, Erstsz, Erstba, Erdp, are_blocks, kind_named, named, register_named, Field, Word, may_be_written, are_written, register_value_of, word_address_of}
-use Rattle.trace_reader.proofs.SpelledFields.{same_bytes, cond_there, then_there, then_are}
-use Rattle.trace_reader.proofs.SpelledValues.{only}
+use Rattle.trace_reader.proofs.LowerLaws.{rules, ◌≡◌, ◌≢◌, ◌*◌, ◌%◌, ◌<◌, ◌^◌, ◌∷◌, ◌∙◌, ℕ, inl, inr, true, List, [], length, Some, refl, ap, subst, eq-eqb, w64, bytes_eq, and_parts, cases_Bool, number_of, ring_name, Block, RingKind, is_wide, register_name, Register, Usbcmd, Usbsts, Dnctrl, Crcr, Dcbaap, Config, Iman, Imod, Erstsz, Erstba, Erdp, are_blocks, kind_named, named, register_named, Field, Word, may_be_written, are_written, register_value_of, word_address_of, same_bytes, cond_there, then_there, then_are, only}
 
 -- ---- words
 

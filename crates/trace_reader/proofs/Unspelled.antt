@@ -1,18 +1,11 @@
 -- A refused text spells no trace
-use Rattle.trace_reader.proofs.Words.{rules, ◌≡◌, ◌∙◌, ℕ, List, Bool, true, false, Result, Ok, Err, refl, sym, IfOk, IfErr, LineFault, ReadFault, IfBadLine, DriverText, all_plain, driver_trace_of, spells, IsTrace}
-use Rattle.trace_reader.specs.declared.fault.ReadFault.TheVariants.{Line, Memory}
+use Rattle.trace_reader.proofs.UpperLaws.{arith, rules, ◌≡◌, ℕ, List, Bool, true, false, Result, Ok, Err, IfOk, IfErr, LineFault, ReadFault, IfBadLine, DriverText, all_plain, driver_trace_of, spells, IsTrace, read_if_spelled}
 use Rattle.trace_reader.proofs.DriverTraces.{driver_trace}
-use Rattle.trace_reader.proofs.Spelled.{read_if_spelled}
 
 -- what is refused is no value that is spelled, where each valid one that is spelled is read
 pub none_spelled : {T : Type 0} (reads : Result T (ℕ × LineFault)) (spelled : T → Bool) (Is : T → Type 0) → ((t : T) → spelled t ≡ true → Is t → reads ≡ Ok t) →
     (e : ReadFault) → IfBadLine e (λ line code. reads ≡ Err (line, code)) → IfBadLine e (λ line code. (t : T) → Is t → spelled t ≡ false)
-none_spelled {T} reads spelled Is read (Line line fault) refused = λ t valid. by_test t valid (spelled t) refl
-  where
-    by_test : (t : T) → Is t → (b : Bool) → spelled t ≡ b → b ≡ false
-    by_test t valid false e = refl
-    by_test t valid true e = cc (sym refused ∙ read t e valid)
-none_spelled reads spelled Is read Memory refused = tt
+none_spelled reads spelled Is read e refused = grind (arith, Bool)
 
 pub refused_unspelled : (text : List ℕ) (e : ReadFault) → IfBadLine e (λ line code. driver_trace_of text ≡ Err (line, code)) →
     IfBadLine e (λ line code. (trace : DriverText) → IsTrace (all_plain trace) → spells (all_plain trace) text ≡ false)

@@ -1,25 +1,27 @@
 -- The words of std, of the crates below and of this crate's own definitions that its proofs cite, passed on by one file
 pub use Rattle.contexts.specs.declared.size.ContextSize.{ContextSize}
 pub use Rattle.contexts.specs.declared.size.ContextSize.TheVariants.{Bytes32}
+unfoldable pub use Rattle.hex.proofs.OnLiterals.{hex_on_literals}
 pub use Rattle.line_text.proofs.Digits.{HasBytes, bytes_of_16, bytes_of_32, bytes_of_64, bytes_of_8, digits_are_lower, digits_stay_lower, digits_without_space, is_lower_digit, length-digits_of, said, spelled}
 pub use Rattle.line_text.proofs.Joins.{All-join, AreFields, fields_of-join, join-fields_of, length-fields_of, lines_of-ended, lines_of-nothing, spaced_length}
 pub use Rattle.line_text.specs.Fields.{has_empty_field, is_empty, is_space}
 unfoldable pub use Rattle.line_text.specs.Fields.{fields_of}
-pub use Rattle.line_text.specs.Lines.{TextLine, behind_content, is_line_feed, last_line, lines_between}
+pub use Rattle.line_text.specs.Lines.{TextLine, behind_content, is_line_feed, lines_between}
 unfoldable pub use Rattle.line_text.specs.Lines.{lines_of}
 unfoldable pub use Rattle.line_text.specs.Numbers.{digits_of, number_of}
 pub use Rattle.segments.proofs.ShapeFacts.{segment_facts}
 pub use Rattle.segments.specs.Places.{overlap}
 pub use Rattle.segments.specs.Shape.{are_apart, is_segment, is_shape, rings_overlap, segments_overlap}
+pub use Rattle.segments.specs.ShapeValue.{segment_of}
 pub use Rattle.segments.specs.declared.segment.Segment.{Segment}
 pub use Rattle.std.proofs.Common.{All, Bool, Err, IfErr, IfOk, IfSome, IsTrue, List, None, Ok, Option, Result, Some, [], ap, append-nil, append_assoc, arith, codes, cond, drop, eq-eqb, eqb-true, false, filter, get_or, inl, inr, is_none, is_some, le-ltb, length, length-append, length-drop, lt-ltb, ltb-false, ltb-true, map, min, nat_lt, ne_eqb, not, refl, rules, slice_index, subst, suc, sym, take, take-append-drop, take_at, true, w16, w32, w64, w8, zero, ℕ, ◌%◌, ◌&&◌, ◌*◌, ◌++◌, ◌+◌, ◌-◌, ◌<◌, ◌==◌, ◌^◌, ◌||◌, ◌∙◌, ◌∷◌, ◌≡◌, ◌≢◌, ◌≤◌, ◌⊎◌}
 pub use Rattle.std.proofs.KnownBytes.{Consumes-nil, Consumes-trans}
-pub use Rattle.std.proofs.Math.Seq.{paste, take-append-add}
+pub use Rattle.std.proofs.Math.Seq.{drop-cons, paste, take-append-add}
 pub use Rattle.std.proofs.lemmas.Bool.{and_from, and_parts, cases_Bool, cases_lt, not-false, not-true, or_from, or_parts}
 pub use Rattle.std.proofs.lemmas.Bool.Decides.{nat_tests}
 pub use Rattle.std.proofs.lemmas.Cmp.{ranked}
 pub use Rattle.std.proofs.lemmas.Grind.{common_steps}
-pub use Rattle.std.proofs.lemmas.List.{drop-drop, drop-map, drop-take, drop_at, drop_more, get_or-map, get_or_at, length-map, length-take-le, map-append, take-append-le, take-map, take-take}
+pub use Rattle.std.proofs.lemmas.List.{drop-drop, drop-map, drop-take, drop_at, drop_more, get_or-drop, get_or-map, get_or_at, length-map, length-take-le, map-append, take-append-le, take-map, take-take}
 pub use Rattle.std.proofs.lemmas.List.Edits.{take-paste}
 pub use Rattle.std.proofs.lemmas.List.Elements.{All-append, All-cons, All-head, All-nil, All-tail, All-weaker}
 pub use Rattle.std.proofs.lemmas.List.Folds.{list_all-append, list_any-append}
@@ -32,7 +34,7 @@ pub use Rattle.std.specs.Char.{to_ascii_lowercase}
 pub use Rattle.std.specs.Cmp.Lexicographic.{same_text}
 pub use Rattle.std.specs.Int.{Width, byte_len}
 pub use Rattle.std.specs.Io.BufRead.{drop_through}
-pub use Rattle.std.specs.Io.KnownBytes.{Consumes, IsAtEnd}
+pub use Rattle.std.specs.Io.KnownBytes.{Consumes, IsAtEnd, Keeps}
 pub use Rattle.std.specs.List.{flat_map, join_with_byte, list_all, list_any, slice_split}
 pub use Rattle.std.specs.Option.{option_and_then, option_map, option_map_or}
 pub use Rattle.std.specs.Ordering.{is_lt, match_ordering, nat_cmp}
@@ -46,9 +48,9 @@ pub use Rattle.trace_reader.specs.Entries.{Answers, AnswersRow, IfBadLine, IfFau
 unfoldable pub use Rattle.trace_reader.specs.Entries.{content_fault, said_by_fields, said_by_line, word_named}
 pub use Rattle.trace_reader.specs.Forms.{are_blocks, named}
 unfoldable pub use Rattle.trace_reader.specs.Forms.{kind_named, register_named}
-pub use Rattle.trace_reader.specs.Grammar.{Behind, Blocks, Byte, Event, FormOf, Kind, KindOfRing, Line, Long, Nothing, RegisterValue, Segments, Tail, Told, TransferKind, Values, WordAddress, are_behind, are_fields, behind, form_as, is_known, line_named, told, value_in, values}
+pub use Rattle.trace_reader.specs.Grammar.{Behind, Blocks, Byte, Event, FormOf, Kind, KindOfRing, Long, Nothing, RegisterValue, Segments, Tail, Told, TransferKind, Values, WordAddress, are_behind, are_fields, form_as, is_known, line_named, told, value_in, values}
 pub use Rattle.trace_reader.specs.LineAnswers.{AnswersBy, faulted_by, valued_by}
-pub use Rattle.trace_reader.specs.LineByLine.{next_value, unless_fault}
+pub use Rattle.trace_reader.specs.LineByLine.{next_value}
 unfoldable pub use Rattle.trace_reader.specs.LineByLine.{line_says, lines_say}
 pub use Rattle.trace_reader.specs.PlanSpelling.{IsPlan, plan_version_fields}
 unfoldable pub use Rattle.trace_reader.specs.PlanSpelling.{plan_line_fields, plan_text_lines, spells_plan}
@@ -60,26 +62,26 @@ unfoldable pub use Rattle.trace_reader.specs.Reading.{after, form_in, is_bad_num
 pub use Rattle.trace_reader.specs.RowsAhead.{BeginsWithRow}
 pub use Rattle.trace_reader.specs.ScheduleSpelling.{IsSchedule, schedule_version_fields}
 unfoldable pub use Rattle.trace_reader.specs.ScheduleSpelling.{printed_schedule, schedule_lines, spells_schedule, step_fields}
-pub use Rattle.trace_reader.specs.Schedules.{event_form, finish_line, is_past_schedule_limit, look_line, other_line, report_line, row_line, schedule_in, scrib_line, step_fault, step_line, step_lines}
+pub use Rattle.trace_reader.specs.Schedules.{event_form, finish_line, look_line, other_line, report_line, row_line, schedule_in, scrib_line, step_fault, step_line, step_lines}
 unfoldable pub use Rattle.trace_reader.specs.Schedules.{is_schedule_version, schedule_of, step_form_of, step_value}
 pub use Rattle.trace_reader.specs.SegmentsApart.{AreSegmentsOf, LieApart, is_second}
 pub use Rattle.trace_reader.specs.Spelling.{Digits, Field, Word, are_written, block_fields, is_written, lines_written, may_be_written, printed, segment_field, size_fields, version_fields}
 unfoldable pub use Rattle.trace_reader.specs.Spelling.{printed_line, printed_trace, ring_fields, row_fields, spells, trace_lines, trace_row_fields}
-pub use Rattle.trace_reader.specs.Streaming.Ahead.{IsFilled, IsHeld, OfLater, OfText, ahead_of, has_come}
+pub use Rattle.trace_reader.specs.Streaming.Ahead.{Comes, IsFilled, IsHeld, OfLater, OfText, ahead_of, has_come}
 pub use Rattle.trace_reader.specs.Streaming.Answers.{IsCall, behind_answer, fault_of, has_ended}
 pub use Rattle.trace_reader.specs.Streaming.ReaderState.{IsOpened, IsSameTrace, IsTold, progress_of}
 pub use Rattle.trace_reader.specs.Streaming.RowByRow.{Call, Progress, behind_line, call_in, call_on, opened_by, with_rows}
 unfoldable pub use Rattle.trace_reader.specs.Streaming.RowByRow.{next_row, opened, opened_in}
-pub use Rattle.trace_reader.specs.Streaming.Streams.{HasRead, IsBadTaken, IsReadTo, OfStream, read_with}
+pub use Rattle.trace_reader.specs.Streaming.Streams.{IsBadTaken, IsReadTo, OfStream, read_with}
 pub use Rattle.trace_reader.specs.Streaming.WholeTexts.{AreNumbered, AreOfLines, GivenOf, GivenRows, IsBehind, answered, given_taken, joined, joined_behind, read_by_calls, rows_given, with_given}
 unfoldable pub use Rattle.trace_reader.specs.Streaming.WholeTexts.{taken_by_calls}
 pub use Rattle.trace_reader.specs.TraceLines.{Form, bell_line, comes_line, driver_lines, event_line, goes_line, reg_line, ring_line, ring_lines, sub_line, withdraws_line, write_line}
 unfoldable pub use Rattle.trace_reader.specs.TraceLines.{form_of, said_of}
 pub use Rattle.trace_reader.specs.Valid.{IsTrace}
 pub use Rattle.trace_reader.specs.Values.{Said, SaysRing, SaysRow, both, cons, event_of}
-unfoldable pub use Rattle.trace_reader.specs.Values.{block_of, blocks_of, register_value_of, segment_of, segments_of, word_address_of}
+unfoldable pub use Rattle.trace_reader.specs.Values.{block_of, blocks_of, register_value_of, segments_of, word_address_of}
 pub use Rattle.trace_reader.specs.declared.entry.FirstWord.{FirstWord}
-pub use Rattle.trace_reader.specs.declared.entry.FirstWord.TheVariants.{Db, Ev, Free, Free as FreeWord, Nop, Nop as NopWord, Reg as RegWord, Ring as RingWord, Sub as SubWord, W}
+pub use Rattle.trace_reader.specs.declared.entry.FirstWord.TheVariants.{Db, Ev, Free as FreeWord, Nop as NopWord, Reg as RegWord, Ring as RingWord, Sub as SubWord, W}
 pub use Rattle.trace_reader.specs.declared.entry.RingEntry.{RingEntry}
 pub use Rattle.trace_reader.specs.declared.fault.LineError.{LineError}
 pub use Rattle.trace_reader.specs.declared.fault.LineError.TheVariants.{Fault, Memory}
@@ -87,7 +89,7 @@ pub use Rattle.trace_reader.specs.declared.fault.LineFault.{LineFault}
 pub use Rattle.trace_reader.specs.declared.fault.LineFault.TheVariants.{Header as BadHeader, Limit, Number, Row as BadRow, Shape}
 pub use Rattle.trace_reader.specs.declared.fault.ReadFault.{ReadFault}
 pub use Rattle.trace_reader.specs.declared.row_reader.fault.StreamFault.{StreamFault}
-pub use Rattle.trace_reader.specs.declared.row_reader.fault.StreamFault.TheVariants.{Device}
+pub use Rattle.trace_reader.specs.declared.row_reader.fault.StreamFault.TheVariants.{Device, Line, Memory as NoMemory}
 pub use Rattle.trace_reader.specs.declared.row_reader.reader.RowReader.{RowReader}
 pub use Rattle.trace_reader.specs.declared.so_far.TraceSoFar.{TraceSoFar}
 pub use Rattle.traces.specs.Header.{IsHeader, clash, is_command_kind, is_event_kind, may_stand_together}
@@ -109,7 +111,7 @@ pub use Rattle.traces.specs.declared.row.Row.TheVariants.{Bell, Read, Reg, Sub, 
 pub use Rattle.traces.specs.declared.step.Step.{Step}
 pub use Rattle.traces.specs.declared.step.Step.TheVariants.{Finish, Look, NextRow, Other, Report, Scribble}
 pub use Rattle.traces.specs.declared.trace_row.TraceRow.{TraceRow}
-pub use Rattle.traces.specs.declared.trace_row.TraceRow.TheVariants.{Comes, Goes, Plain, Withdraws}
+pub use Rattle.traces.specs.declared.trace_row.TraceRow.TheVariants.{Goes, Plain, Withdraws}
 pub use Rattle.traces.specs.declared.version.Version.{Version}
 pub use Rattle.traces.specs.declared.version.Version.TheVariants.{One, Two}
 pub use Rattle.trb.specs.Block.{IsBlock}

@@ -4,10 +4,9 @@ unfoldable pub use Rattle.commands.specs.Changes.{changes}
 pub use Rattle.commands.specs.Command.{command_of, exclude, name_one_slot, named_context, named_endpoint, named_slot, other_endpoint, same_slot}
 pub use Rattle.commands.specs.States.{is_off, is_stopped, slot_success}
 pub use Rattle.commands.specs.declared.command.Command.{Command}
-pub use Rattle.commands.specs.declared.command.Command.TheVariants.{AddressDevice, ConfigureEndpoint, DisableSlot, EnableSlot, EvaluateContext, NoOp, ResetDevice, ResetEndpoint, SetTrDequeue, StopEndpoint}
+pub use Rattle.commands.specs.declared.command.Command.TheVariants.{AddressDevice}
 pub use Rattle.commands.specs.declared.state.EndpointState.{EndpointState}
-pub use Rattle.commands.specs.declared.state.EndpointState.TheVariants.{Error, Halted, Running, Stopped}
-pub use Rattle.commands.specs.declared.state.EndpointState.TheVariants.{Disabled as Off}
+pub use Rattle.commands.specs.declared.state.EndpointState.TheVariants.{Running, Stopped}
 pub use Rattle.commands.specs.declared.state.SlotState.{SlotState}
 pub use Rattle.contexts.specs.Contexts.{device_context_bytes, input_context_bytes, is_dropped}
 unfoldable pub use Rattle.contexts.specs.Contexts.{added_endpoints}
@@ -24,9 +23,9 @@ unfoldable pub use Rattle.ownership_rules.specs.Writes.{changes_owned}
 pub use Rattle.ownership_rules.specs.declared.refusal.Refusal.{Refusal}
 pub use Rattle.ring_knowledge.proofs.GivenWords.{given_from}
 pub use Rattle.ring_knowledge.proofs.Words.{FollowsRegisters, FollowsRing, Header, Known, Register, Segment, Spot, Usbcmd, address_aligned, crossed_link, crosses, crossings_of, length-set, link_address_is, link_aligned, place_at-data, place_at-link, place_below, positions_of, reset_bit, run_bit, segment_at}
-unfoldable pub use Rattle.ring_knowledge.proofs.Words.{crossings_given, due_crossings, due_positions, leased_crossings, leased_positions, named, nothing, positions_given, register_written, run_or_stop, stopped_number, target, valued}
+unfoldable pub use Rattle.ring_knowledge.proofs.Words.{crossings_given, due_crossings, due_positions, leased_crossings, leased_positions, nothing, positions_given, register_written, run_or_stop, stopped_number, target, valued}
 unfoldable pub use Rattle.ring_knowledge.specs.Completions.{bound_to, changed_by, completed, disabled, finished, held_at_ceiling, in_state, moved, moved_to, pointed, set_to, stop_ended}
-unfoldable pub use Rattle.ring_knowledge.specs.Learned.{event_read, learned}
+unfoldable pub use Rattle.ring_knowledge.specs.Learned.{learned}
 unfoldable pub use Rattle.ring_knowledge.specs.Registers.{endpoint_rung, rung}
 pub use Rattle.ring_knowledge.specs.Rings.{Crossing, Position, RingSpot}
 unfoldable pub use Rattle.ring_knowledge.specs.Rings.{command_at, event_at, given_by, given_of, next_command, on_ring, spot_on, unfinished, unfinished_positions}
@@ -41,18 +40,18 @@ pub use Rattle.segments.proofs.PlaceAtLemmas.{is_in-parts, is_in-true, is_inside
 pub use Rattle.segments.proofs.ReachedSpots.{number-after}
 pub use Rattle.segments.proofs.Search.{position-None, position_is, position_nowhere, position_only}
 pub use Rattle.segments.proofs.ShapeFacts.{shape_facts}
-pub use Rattle.segments.proofs.Words.{All-cons, All-head, All-nil, All-tail, Block, Cmd, Contains-append_right, Contains-get_or, Declares, Evt, Holds, IsShape, Opens, Reaches, RingKind, RingView, Shape, Writes, Xfer, address_of, after, and_from, and_parts, cases_Bool, cases_eq, cases_lt, changed, cond-false, cond-true, cons_option, cycle_of, declared, false≢true, filter_map, flat_map, floor_number, get_or-range_with_len, get_or_default, get_or_from_slice_get, gives, gives_crossing, is_crossing, is_crossing_due, is_due, is_in, is_inside, is_shape, kind, length-range_with_len, link_address, list_all, list_any, list_any_at, nat_tests, new_ring, none-some, number, option_map, or_left, or_parts, or_right, overlap, place_count, pointer, position-Some, put, range_with_len, same_Some, segment_has, slice_get-get_or, slice_get_within, sum_by, sum_by-cons, take_more, touches}
+pub use Rattle.segments.proofs.Words.{All-cons, All-head, All-nil, All-tail, Block, Cmd, Contains-append_right, Contains-get_or, Evt, Holds, IsShape, Opens, Reaches, RingKind, RingView, Shape, Writes, Xfer, address_of, after, and_parts, cases_Bool, cases_eq, cases_lt, changed, cond-false, cond-true, cons_option, cycle_of, declared, false≢true, filter_map, flat_map, floor_number, get_or-range_with_len, get_or_default, get_or_from_slice_get, gives, gives_crossing, is_crossing, is_crossing_due, is_due, is_in, is_inside, is_shape, length-range_with_len, link_address, list_all, list_any, list_any_at, nat_tests, new_ring, none-some, number, option_map, or_parts, overlap, place_count, pointer, position-Some, put, range_with_len, same_Some, segment_has, slice_get-get_or, slice_get_within, sum_by, sum_by-cons, take_more, touches}
 pub use Rattle.segments.specs.RingView.{RingChange}
 pub use Rattle.segments.specs.Shape.{are_apart, segments_overlap}
-pub use Rattle.std.proofs.Common.{All, Bool, Bor, Err, IfSome, List, None, Option, Some, [], add-zero, ap, append-nil, append_assoc, arith, bit_and, bit_or, cond, count_by, eq-eqb, eqb, eqb-true, false, filter, find, get_or, get_or-set_other, get_or-set_same, if◌then◌else◌, inl, inr, is_some, le-leb, le-ltb, leb, leb-true, length, length-append, length-take, lt-ltb, ltb-false, ltb-true, map, max, min, nat_eq, nat_le, nat_lt, ne_eqb, not, option_and_then, position, pow_pos, refl, replicate, rules, set, slice_get, slice_index_or, slice_set, subst, suc, sym, take, true, unwrap_or, zero, zero-add, ℕ, ◌%◌, ◌&&◌, ◌*◌, ◌++◌, ◌+◌, ◌-◌, ◌/◌, ◌<◌, ◌==◌, ◌^◌, ◌||◌, ◌∙◌, ◌∷◌, ◌≡◌, ◌≢◌, ◌≤◌, ◌⊎◌}
+pub use Rattle.std.proofs.Common.{All, Bool, Bor, Err, IfSome, List, None, Option, Some, [], add-zero, ap, append-nil, append_assoc, arith, bit_and, bit_or, cond, count_by, eq-eqb, eqb, eqb-true, false, filter, find, get_or, get_or-set_other, get_or-set_same, if◌then◌else◌, inl, inr, is_some, le-leb, le-ltb, leb, leb-true, length, length-append, length-take, lt-ltb, ltb-true, map, min, nat_eq, nat_le, nat_lt, ne_eqb, not, option_and_then, position, refl, replicate, rules, set, slice_get, slice_index_or, slice_set, subst, suc, sym, take, true, unwrap_or, zero, zero-add, ℕ, ◌%◌, ◌&&◌, ◌*◌, ◌++◌, ◌+◌, ◌-◌, ◌/◌, ◌<◌, ◌==◌, ◌^◌, ◌||◌, ◌∙◌, ◌∷◌, ◌≡◌, ◌≢◌, ◌≤◌, ◌⊎◌}
 pub use Rattle.std.proofs.Math.ListN.{get_or-append}
 pub use Rattle.std.proofs.Math.Path.{fun_ext}
 pub use Rattle.std.proofs.Math.Seq.{get_or-append_seam}
-pub use Rattle.std.proofs.lemmas.Bool.{and_left, and_right, cond_both}
+pub use Rattle.std.proofs.lemmas.Bool.{and_left, and_right}
 pub use Rattle.std.proofs.lemmas.Grind.{common_steps}
 pub use Rattle.std.proofs.lemmas.List.{get_or_past, length-replicate, map-append}
 pub use Rattle.std.proofs.lemmas.List.Edits.{get_or-remove_above, get_or-remove_below, length-remove}
-pub use Rattle.std.proofs.lemmas.List.Elements.{All-append, All-from_recursion, Contains-append_cases, Contains-append_left, filter-append, filter_map-append}
+pub use Rattle.std.proofs.lemmas.List.Elements.{All-append, Contains-append_cases, Contains-append_left, filter-append, filter_map-append}
 pub use Rattle.std.proofs.lemmas.List.Folds.{list_any_none, sum_by-replicate}
 pub use Rattle.std.proofs.lemmas.List.Sorted.{Contains-permutation, IsNonDecreasingBy-from_sort_by_key, IsNonDecreasingBy-insert, IsPartitionPoint-from_clause, IsPartitionedBy-leb, IsPartitionedBy-ltb, IsPermutation-append_left, IsPermutation-cons, IsPermutation-insert, IsPermutation-middle, IsPermutation-refl, IsPermutation-remove, IsPermutation-sym, IsPermutation-to_front, IsPermutation-trans, length_permutation, list_any-IsPermutation, searched, sum_by-IsPermutation}
 pub use Rattle.std.proofs.lemmas.List.Sums.{get_or-le-sum_by, sum_by-append, sum_by-le, sum_by-set}
@@ -71,7 +70,7 @@ pub use Rattle.trace_record.specs.DeviceSlots.Devices.{FollowsDevices, IsDisable
 pub use Rattle.trace_record.specs.DeviceSlots.Endpoints.{named_by, placed_endpoint, ring_got, rung_endpoint, transferred_endpoint, turned_off}
 pub use Rattle.trace_record.specs.DeviceSlots.Holders.{AreCounted, AreSummed, HasEndpoint, HasOneHolder, HasRoom, HasSumRoom, IsCounted, IsSummed, count_of, one_of, place_of, sum_of}
 unfoldable pub use Rattle.trace_record.specs.DeviceSlots.Holders.{places_sum}
-pub use Rattle.trace_record.specs.DeviceSlots.Indices.{IsEndpoint, IsOnlyAbout, NamesEndpoint, endpoint_index, index_of, is_about, is_slot, names}
+pub use Rattle.trace_record.specs.DeviceSlots.Indices.{IsOnlyAbout, NamesEndpoint, endpoint_index, index_of, is_about, is_slot, names}
 pub use Rattle.trace_record.specs.DeviceSlots.Unfinished.{FollowsUnfinished, as_list, kept_of}
 pub use Rattle.trace_record.specs.FollowsTrace.{FollowsEvents, FollowsPlace, FollowsTrace, device_contexts, inputs_of}
 pub use Rattle.trace_record.specs.Fresh.{AreFresh, IsFreshSo}
@@ -81,7 +80,7 @@ pub use Rattle.trace_record.specs.RangeWords.Marks.{mark_of}
 pub use Rattle.trace_record.specs.RingCommands.{command_in, command_on}
 pub use Rattle.trace_record.specs.RingFinder.Finding.{AreHints, AreNumbers, IsFinder, IsRingBefore, slot_of, start_of, starts_from}
 pub use Rattle.trace_record.specs.RingSets.{has}
-pub use Rattle.trace_record.specs.RowPlaces.{IsGivenBy, IsGivenOn, IsOwnedSo, IsPlaced}
+pub use Rattle.trace_record.specs.RowPlaces.{IsGivenBy, IsGivenOn, IsOwnedSo, IsPlaced, IsPlacedSo, command_by, command_of_place, with_command}
 pub use Rattle.trace_record.specs.declared.device_record.holders.Holders.{Holders}
 pub use Rattle.trace_record.specs.declared.device_record.kept.DeviceRecord.{DeviceRecord}
 pub use Rattle.trace_record.specs.declared.device_record.kept.Endpoint.{Endpoint}
@@ -103,5 +102,3 @@ pub use Rattle.traces.specs.declared.row.Row.{Row}
 pub use Rattle.traces.specs.declared.row.Row.TheVariants.{Bell, Read, Reg, Sub, Write}
 pub use Rattle.trb.specs.Block.{code, endpoint, slot}
 pub use Rattle.trb.specs.CompletionCode.{is_halting, is_stopping, is_success, is_trb_error}
-pub use Rattle.trb.specs.declared.kind.BlockKind.{BlockKind}
-pub use Rattle.trb.specs.declared.kind.BlockKind.TheVariants.{CommandCompletion, TransferEvent}

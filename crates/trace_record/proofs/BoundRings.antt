@@ -1,5 +1,5 @@
 -- Which rings unfinished commands bind, where these commands and what they read stay the same
-use Rattle.trace_record.proofs.Words.{rules, ◌≡◌, ◌∷◌, ◌||◌, ℕ, Bool, List, [], inl, inr, refl, map, list_any, Command, Header, Known, unfinished, is_off, IsIn, binding_in, binds, binds_ring, is_being_bound}
+use Rattle.trace_record.proofs.BaseWords.{rules, ◌≡◌, ◌∷◌, ◌||◌, ℕ, Bool, List, [], inl, inr, refl, map, list_any, Command, Header, Known, unfinished, is_off, IsIn, binding_in, binds, binds_ring, is_being_bound}
 
 -- two tests of the elements of a list alone
 pub any_in : {X : Type 0} (p q : X → Bool) (xs : List X) → ((x : X) → IsIn x xs → p x ≡ q x) → list_any p xs ≡ list_any q xs

@@ -20,4 +20,3 @@ pub mod UnfinishedFinished
 pub mod TransfersApart
 pub mod UnfinishedEvents
 pub mod TouchedEndpoints
-pub mod Words

@@ -1,5 +1,5 @@
 -- The first rule that is broken, test by test
-use Rattle.trace_record.proofs.Words.{◌≡◌, ◌∷◌, List, [], None, refl, inl, inr, cases_Bool, Refusal, Test, broken_of, first_of, first_broken}
+use Rattle.trace_record.proofs.BaseWords.{◌≡◌, ◌∷◌, List, [], None, refl, inl, inr, cases_Bool, Refusal, Test, broken_of, first_of, first_broken}
 
 pub first_broken-is : (tests : List Test) → first_of (broken_of tests) ≡ first_broken tests
 first_broken-is [] = refl

@@ -1,15 +1,10 @@
 -- Before the first row, and what a search through the rings finds
-use Rattle.trace_record.proofs.Words.{rules, ◌≡◌, ◌+◌, ◌<◌, ◌∷◌, ◌++◌, ◌∙◌, ◌⊎◌, ℕ, zero, suc, List, [], true, false, Some, None, refl, ap, sym, inl, inr, length, get_or, subst, length-append, slice_get, is_some, slice_get_read, new_ring, due_positions, Ring, Header, IsHeader, is_event_kind, event_shape, event_ring, shape_or, shape_of, command_id, RingRecord, FollowsRing, nothing, FollowsTrace, FollowsEvents, FollowsPlace, inputs_of, device_contexts, list_any, AreFresh, IsFreshSo, EventState, FollowsDevices, FollowsRegisters, TraceRecord, among_at, each_among, not_found, event_found, filter_nothing, device_context_bytes, input_context_bytes, FollowsUnfinished, unfinished, unfinished_positions, SoiledWords, HoldsAreas, HoldsSoiled, slots, Command, binds_ring, is_being_bound, has}
-
-one_at : (rs : List Ring) (i : ℕ) (q r : Ring) → slice_get rs i ≡ Some q → slice_get rs i ≡ Some r → q ≡ r
-one_at rs i q r e f = search rules
+use Rattle.trace_record.proofs.MiddleLaws.{rules, ◌≡◌, ◌+◌, ◌<◌, ◌∷◌, ◌++◌, ◌∙◌, ◌⊎◌, ℕ, List, [], true, false, Some, None, refl, ap, sym, inl, inr, length, get_or, subst, length-append, slice_get, is_some, slice_get_read, new_ring, due_positions, Ring, Header, IsHeader, is_event_kind, event_shape, event_ring, shape_or, shape_of, command_id, RingRecord, FollowsRing, nothing, FollowsTrace, FollowsEvents, FollowsPlace, inputs_of, device_contexts, list_any, AreFresh, IsFreshSo, EventState, FollowsDevices, FollowsRegisters, TraceRecord, among_at, each_among, not_found, event_found, filter_nothing, device_context_bytes, input_context_bytes, FollowsUnfinished, unfinished, unfinished_positions, SoiledWords, HoldsAreas, HoldsSoiled, slots, Command, binds_ring, is_being_bound, has}
 
 -- in a list with a new element at the end
 at_push : {X : Type 0} (xs : List X) (y : X) (i : ℕ) (x : X) → slice_get (xs ++ y ∷ []) i ≡ Some x → (slice_get xs i ≡ Some x) ⊎ ((i ≡ length xs) × (y ≡ x))
-at_push [] y zero x e = search rules
-at_push [] y (suc i) x e = search rules
-at_push (z ∷ xs) y zero x e = inl e
-at_push (z ∷ xs) y (suc i) x e = elim (at_push xs y i x e) [ inl old ↦ inl old | inr new ↦ inr (ap suc new.0, new.1) ]
+at_push [] y i x e = search rules
+at_push (z ∷ xs) y i x e = search (rules, at_push xs y)
 
 -- a record of each ring so far
 pub fresh_push : (rings : List Ring) (records : List RingRecord) (ring : Ring) (i : ℕ) (r : RingRecord) → IsFreshSo rings records i → ring ≡ get_or rings i ring → i < length rings →
@@ -18,7 +13,7 @@ fresh_push rings records ring i r so item below fresh = record {
   as_many = length-append records (r ∷ []) ∙ ap (λ n. n + 1) so.as_many;
   each = λ j q x at there. elim (at_push records r j x there) [
     | inl old ↦ so.each j q x at old
-    | inr new ↦ search (rules, slice_get, slice_get_read, length, one_at, new_ring)
+    | inr new ↦ search (rules, slice_get, slice_get_read, length, new_ring)
   ];
 }
 

@@ -1,6 +1,6 @@
 -- Which command a write gives, by the ring that has the word, and which one is finished next
-use Rattle.trace_record.proofs.Words.{rules, ◌≡◌, ◌%◌, ◌∙◌, ℕ, List, true, false, Option, None, Some, refl, ap, sym, inl, inr, false≢true, RingKind, Shape, floor_number, is_inside, positions_given, due_positions, Ring, Header, IsHeader, is_event_kind, command_id, shape_of, shape_or, Known, positions_of, RingGiving, false_unless, IsAmong, same_or_apart, shape_allowed, shape_there, together, if◌then◌else◌, command_ring, is_command_kind, command_at, next_command, command_given, command_in, command_on, command_found, command_id_is, commands_among, no_ring}
-use Rattle.trace_record.proofs.WordsInside.{gives_no_position}
+use Rattle.trace_record.proofs.UpperLaws.{rules, ◌≡◌, ◌%◌, ℕ, List, true, false, Option, None, Some, refl, ap, false≢true, RingKind, Shape, floor_number, is_inside, positions_given, due_positions, Ring, Header, IsHeader, is_event_kind, command_id, shape_of, shape_or, Known, positions_of, RingGiving, false_unless, IsAmong, same_or_apart, shape_allowed, shape_there, together, if◌then◌else◌, command_ring, is_command_kind, command_at, next_command, command_given, command_in, command_on, command_found, gives_no_position}
+use Rattle.trace_record.proofs.RingFinder.CommandRings.{command_id_is, commands_among, no_ring}
 
 pub no_command_event : (kind : RingKind) → is_event_kind kind ≡ true → is_command_kind kind ≡ false
 no_command_event kind h1 = search rules
@@ -8,12 +8,7 @@ no_command_event kind h1 = search rules
 -- a word of another ring isn't in it
 not_in_commands : (h : Header) → IsHeader h → (ring : Ring) → IsAmong ring h.rings → is_command_kind ring.shape.kind ≡ false → (a : ℕ) → is_inside ring.shape a ≡ true →
     (c : Ring) → command_ring h ≡ Some c → is_inside c.shape a ≡ false
-not_in_commands h headed ring among other a has c there =
-    let found = commands_among h c there in
-    elim (same_or_apart h.rings (together h headed) ring c among found.0) [
-      | inl same ↦ absurd (false≢true (sym other ∙ ap (λ (r : Ring). is_command_kind r.shape.kind) (sym same) ∙ found.1))
-      | inr apart ↦ false_unless (is_inside c.shape a) (λ e. apart.memory a has e)
-    ]
+not_in_commands h headed ring among other a has c there = search (rules, commands_among, same_or_apart, together, false≢true, Ring, is_command_kind, false_unless, is_inside, commands_among h c there, same_or_apart h.rings (together h headed) ring c among (commands_among h c there).0)
 
 module _ (h : Header) (headed : IsHeader h) (k : Known) where
   -- the next command stands on the command ring
@@ -31,25 +26,16 @@ module _ (h : Header) (headed : IsHeader h) (k : Known) where
 
     -- of the command ring
     given_there : (c : Ring) → command_ring h ≡ Some c → command_given h k a w ≡ command_on (k.ring c.id) (positions_given c.shape (k.ring c.id) a w)
-    given_there c there =
-        given_is
-        ∙ ap (λ i. command_on (k.ring i) (given_on (shape_of h i) i)) (command_id_is h c there)
-        ∙ ap (λ s. command_on (k.ring c.id) (given_on s c.id)) (shape_there h headed c (commands_among h c there).0)
-
-    -- where there is none
-    none_there : command_ring h ≡ None → command_given h k a w ≡ None
-    unfolding shape_of positions_given due_positions
-    none_there none = search (rules, given_is, command_id, shape_or, no_ring)
+    given_there c there = rw (given_is, command_id_is h c there, shape_there h headed c (commands_among h c there).0) refl
 
     -- outside the command ring none is given
     pub none_outside : a % 4 ≡ 0 → ((c : Ring) → command_ring h ≡ Some c → is_inside c.shape a ≡ false) → command_given h k a w ≡ None
+    unfolding shape_of positions_given due_positions
     none_outside aligned outside = by (command_ring h) refl
       where
         by : (o : Option Ring) → command_ring h ≡ o → command_given h k a w ≡ None
-        by None none = none_there none
-        by (Some c) there =
-            given_there c there
-            ∙ ap (λ ps. command_on (k.ring c.id) ps) (gives_no_position c.shape (shape_allowed h headed c (commands_among h c there).0) a aligned (outside c there) (k.ring c.id) w)
+        by None none = (search (rules, given_is, command_id, shape_or, no_ring))
+        by (Some c) there = rw (given_there c there, gives_no_position c.shape (shape_allowed h headed c (commands_among h c there).0) a aligned (outside c there) (k.ring c.id) w) refl
 
     -- no ring has the word
     pub none_nowhere : a % 4 ≡ 0 → ((q : Ring) → IsAmong q h.rings → is_inside q.shape a ≡ false) → command_given h k a w ≡ None

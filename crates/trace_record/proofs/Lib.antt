@@ -13,3 +13,7 @@ pub mod Words
 pub mod RangeWords
 pub mod RingFinder
 pub mod DeviceSlots
+pub mod LowerLaws
+pub mod MiddleLaws
+pub mod UpperLaws
+pub mod Laws

@@ -1,13 +1,9 @@
 -- Of the rings of a header only the one that has a word can own it, or give something by its write
-use Rattle.trace_record.proofs.Words.{rules, ◌≡◌, ◌%◌, ◌++◌, ◌∙◌, ◌||◌, ℕ, [], Bool, true, false, ap, sym, map, append-nil, list_any, RingKind, is_inside, touches, overlap, address_of, link_address, positions_given, crossings_given, leased_positions, leased_crossings, touches-word, Ring, Header, IsHeader, is_driver_kind, is_event_kind, shape_or, driver_rings, event_ring, event_shape, Known, Position, Crossing, given_of, given_by, false_unless, or_false, any_append, any_map, IsAmong, Apart, same_or_apart, together, shape_allowed, shape_there, event_here, find_some, one_driver, no_driver, all_from_one, nothing_from, is_owned, rings_have}
+use Rattle.trace_record.proofs.MiddleLaws.{rules, ◌≡◌, ◌%◌, ◌++◌, ◌∙◌, ℕ, [], true, false, sym, map, append-nil, list_any, RingKind, is_inside, touches, overlap, address_of, link_address, positions_given, crossings_given, leased_positions, leased_crossings, touches-word, Ring, Header, IsHeader, is_driver_kind, is_event_kind, shape_or, driver_rings, event_ring, event_shape, Known, Position, Crossing, given_of, given_by, false_unless, or_false, any_append, any_map, IsAmong, Apart, same_or_apart, together, shape_allowed, shape_there, event_here, find_some, one_driver, no_driver, all_from_one, nothing_from, is_owned, rings_have, not_owned, gives_no_position, gives_no_crossing}
 use Rattle.ownership_rules.specs.OpenLeases as leases
-use Rattle.trace_record.proofs.WordsInside.{not_owned, gives_no_position, gives_no_crossing}
 
 pub no_driver_event : (kind : RingKind) → is_driver_kind kind ≡ true → is_event_kind kind ≡ true → ⊥
 no_driver_event kind h1 h2 = search rules
-
-or_true : (b : Bool) → (b || true) ≡ true
-or_true b = search rules
 
 module _ (h : Header) (headed : IsHeader h) (k : Known) (a : ℕ) (aligned : a % 4 ≡ 0) where
   pub inside_is : (q : Ring) → IsAmong q h.rings → touches q.shape a 4 ≡ is_inside q.shape a
@@ -54,7 +50,7 @@ module _ (h : Header) (headed : IsHeader h) (k : Known) (a : ℕ) (aligned : a %
 
   -- the event ring has it
   pub rings_in_events : (e : Ring) → IsAmong e h.rings → is_event_kind e.shape.kind ≡ true → touches e.shape a 4 ≡ true → true ≡ rings_have h k a
-  rings_in_events e among event touched = sym (rw (segments_cover, ap (λ s. touches s a 4) (event_here h headed e among event) ∙ touched) (or_true _))
+  rings_in_events e among event touched = search (rules, segments_cover, event_here h headed e among event, list_any, touches)
 
   -- a command or transfer ring has it
   module _ (r : Ring) (among : IsAmong r h.rings) (driver : is_driver_kind r.shape.kind ≡ true) (has : touches r.shape a 4 ≡ true) where
@@ -64,15 +60,11 @@ module _ (h : Header) (headed : IsHeader h) (k : Known) (a : ℕ) (aligned : a %
     others : (q : Ring) → IsAmong q h.rings → Apart r q → is_inside q.shape a ≡ false
     others q there apart = false_unless (is_inside q.shape a) (λ e. apart.memory a inside e)
 
-    no_event_segment : touches (event_shape h) a 4 ≡ false
-    no_event_segment = search (rules, not_in_events, same_or_apart, together, no_driver_event, is_driver_kind, others)
-
     pub rings_here : is_owned r.shape (k.ring r.id) a ≡ rings_have h k a
     unfolding driver_rings
-    rings_here = search (rules, one_driver, list_any, together, unowned, others, segments_cover, no_event_segment, owned_on, or_false, is_owned)
+    rings_here = search (rules, one_driver, list_any, together, unowned, others, segments_cover, not_in_events, same_or_apart, no_driver_event, is_driver_kind, owned_on, or_false, is_owned)
 
     pub given_by_one : (w : ℕ) → given_by h k a w ≡ map (Position r.id) (positions_given r.shape (k.ring r.id) a w) ++ map (Crossing r.id) (crossings_given r.shape (k.ring r.id) a w)
     unfolding given_by driver_rings
     given_by_one w =
-        all_from_one (λ q. given_of h k a w q.id) h.rings (together h headed) r among driver (λ q there apart. none_given w q there (others q there apart))
-        ∙ append-nil (given_of h k a w r.id) ∙ given_here w r among
+        search (rules, all_from_one (λ q. given_of h k a w q.id) h.rings (together h headed) r among driver, none_given, others, append-nil, given_here)

@@ -1,5 +1,5 @@
 -- The entries of the DCBAA under lease, by the slot whose entry has a word
-use Rattle.trace_record.proofs.Words.{rules, ◌≡◌, ◌≢◌, ◌+◌, ◌-◌, ◌*◌, ◌/◌, ◌%◌, ◌<◌, ◌≤◌, ◌∙◌, ◌&&◌, ◌⊎◌, ℕ, zero, suc, List, Bool, true, false, Option, refl, ap, sym, arith, inl, inr, is_some, list_any, range_with_len, cases_eq, nat_tests, overlap, Header, Dcbaap, register_or_zero, Known, entry_of, or_false, and_false, any_flat_map, entries_have}
+use Rattle.trace_record.proofs.LowerLaws.{rules, ◌≡◌, ◌≢◌, ◌+◌, ◌-◌, ◌*◌, ◌/◌, ◌%◌, ◌<◌, ◌≤◌, ◌∙◌, ◌&&◌, ◌⊎◌, ℕ, zero, suc, List, Bool, true, false, refl, ap, sym, arith, is_some, list_any, range_with_len, cases_eq, nat_tests, overlap, Header, Dcbaap, register_or_zero, Known, entry_of, or_false, and_false, any_flat_map, entries_have}
 use Rattle.ownership_rules.specs.OpenLeases as leases
 
 range_none : (p : ℕ → Bool) (first n : ℕ) → ((s : ℕ) → first ≤ s → s < first + n → p s ≡ false) → list_any p (range_with_len first n) ≡ false
@@ -8,10 +8,8 @@ range_none p first (suc n) none = rw (none first (omega arith) (omega arith)) (r
 
 range_one : (p : ℕ → Bool) (first n t : ℕ) → first ≤ t → t < first + n → ((s : ℕ) → s ≢ t → p s ≡ false) → list_any p (range_with_len first n) ≡ p t
 range_one p first zero t low high others = absurd (omega arith)
-range_one p first (suc n) t low high others = elim (cases_eq first t) [
-  | inl same ↦ rw (range_none p (first + 1) n (λ s above below. others s (λ e. omega (arith, e, same, above)))) (or_false (p first) ∙ ap p same)
-  | inr other ↦ rw (others first other) (range_one p (first + 1) n t (omega (arith, other)) (omega arith) others)
-]
+range_one p first (suc n) t low high others =
+    search (rules, cases_eq first t, range_none p (first + 1) n, or_false, range_one p (first + 1) n t, others first, list_any, range_with_len)
 
 and_true : (b : Bool) → (b && true) ≡ b
 and_true b = search rules
@@ -26,15 +24,11 @@ module _ (h : Header) (k : Known) (a : ℕ) where
   abbrev in_entry : ℕ → Bool
   in_entry s = is_some (k.device s) && overlap a 4 (base + 8 * s) 8
 
-  one_entry : (s : ℕ) (o : Option ℕ) → list_any (leases.covers h a 4) (leases.range_of_entry k s o) ≡ (is_some o && overlap a 4 (base + 8 * s) 8)
-  unfolding leases.range_of_entry leases.covers leases.lease_start leases.lease_bytes entry_of
-  one_entry s o = search (rules, or_false, overlap)
-
   entries_are : entries_have h k a ≡ list_any in_entry (range_with_len 1 255)
-  unfolding leases.entry_ranges leases.slots
+  unfolding leases.entry_ranges leases.slots leases.range_of_entry leases.covers leases.lease_start leases.lease_bytes entry_of
   entries_are =
       any_flat_map (leases.covers h a 4) (λ s. leases.range_of_entry k s (k.device s)) (range_with_len 1 255)
-      ∙ same_any (λ s. list_any (leases.covers h a 4) (leases.range_of_entry k s (k.device s))) in_entry (λ s. one_entry s (k.device s)) (range_with_len 1 255)
+      ∙ same_any (λ s. list_any (leases.covers h a 4) (leases.range_of_entry k s (k.device s))) in_entry (λ s. search (rules, or_false, overlap)) (range_with_len 1 255)
 
   misses : (s : ℕ) → overlap a 4 (base + 8 * s) 8 ≡ false → in_entry s ≡ false
   misses s away = ap (λ b. is_some (k.device s) && b) away ∙ and_false (is_some (k.device s))
@@ -57,13 +51,8 @@ module _ (h : Header) (k : Known) (a : ℕ) where
 
       -- no slot has this number
       pub no_slot : (slot ≡ 0) ⊎ (255 < slot) → false ≡ entries_have h k a
-      no_slot none = sym (entries_are ∙ range_none in_entry 1 255 (λ s low high. misses s (elsewhere s (λ e. elim none [
-        | inl first ↦ omega (arith, e, first, low)
-        | inr large ↦ omega (arith, e, large, high)
-      ]))))
+      no_slot none = sym (entries_are ∙ range_none in_entry 1 255 (λ s low high. misses s (elsewhere s (λ e. grind (arith, none, e, low, high)))))
 
       pub one_slot : slot ≢ 0 → slot ≤ 255 → is_some (k.device slot) ≡ entries_have h k a
       one_slot some few =
-          sym (entries_are
-          ∙ range_one in_entry 1 255 slot (omega (arith, some)) (omega (arith, few)) (λ s other. misses s (elsewhere s other))
-          ∙ ap (λ b. is_some (k.device slot) && b) in_slot ∙ and_true (is_some (k.device slot)))
+          search (rules, entries_are, range_one in_entry 1 255 slot (omega (arith, some)) (omega (arith, few)) (λ s other. misses s (elsewhere s other)), in_slot, and_true)

@@ -1,24 +1,15 @@
 -- What the place of a row says
-use Rattle.trace_record.proofs.Words.{rules, ◌≡◌, ℕ, true, Bool, Option, None, Some, subst, slice_get, positions_given, crossings_given, Ring, Header, Row, Write, is_driver_kind, is_event_kind, RingGiving, Known, positions_of, crossings_of, RowPlace, IsGivenBy, IsGivenOn, IsOwnedSo, IsPlaced, Block, Read, ap, command_on, false, is_some, RingKind, is_command_kind}
-use Rattle.std.proofs.Common.{option_and_then}
-use Rattle.trace_record.specs.RowPlaces.{command_by, command_of_place}
-use Rattle.trace_record.proofs.OneRingHas.{no_driver_event}
+use Rattle.trace_record.proofs.UpperLaws.{rules, ◌≡◌, ℕ, true, Bool, Option, None, Some, slice_get, positions_given, crossings_given, Ring, Header, Row, Write, is_driver_kind, is_event_kind, RingGiving, Known, positions_of, crossings_of, RowPlace, IsGivenBy, IsPlaced, Block, Read, ap, command_on, false, is_some, RingKind, is_command_kind, option_and_then, command_by, command_of_place, no_driver_event}
 
 module _ (h : Header) (k : Known) (at word n : ℕ) (ring : Ring) (here : slice_get h.rings n ≡ Some ring) where
-  same_ring : (q : Ring) → slice_get h.rings n ≡ Some q → ring ≡ q
-  same_ring q there = search rules
-
-  given_by_this : (giving : Option RingGiving) → IsGivenOn k at word ring giving → IsGivenBy h k at word (Some n) giving
-  given_by_this giving on = λ q there. subst (λ (y : Ring). IsGivenOn k at word y giving) (same_ring q there) on
-
   -- of the event ring nothing is given
   pub nothing_of_events : is_event_kind ring.shape.kind ≡ true → IsGivenBy h k at word (Some n) None
-  nothing_of_events event = search (rules, given_by_this, no_driver_event)
+  nothing_of_events event = search (rules, no_driver_event)
 
   -- what is given of a command or transfer ring
   pub given_on : is_driver_kind ring.shape.kind ≡ true → (giving : Option RingGiving) → positions_given ring.shape (k.ring ring.id) at word ≡ positions_of giving →
       crossings_given ring.shape (k.ring ring.id) at word ≡ crossings_of giving → IsGivenBy h k at word (Some n) giving
-  given_on driver giving positions crossings = search (rules, given_by_this, no_driver_event)
+  given_on driver giving positions crossings = search (rules, no_driver_event)
 
   -- its command is that of its ring
   pub command_here : (lent : Bool) (giving : Option RingGiving) → command_of_place h k (record { ring = Some n; is_lent = lent; giving = giving; command = None }) ≡ command_by k giving ring
@@ -45,6 +36,3 @@ command_is h k p n ring here on commands = search rules
 -- nothing is said of a row that neither writes memory nor reads an event
 pub placed_other : (h : Header) (k : Known) (row : Row) (p : RowPlace) → ((at word : ℕ) → row ≡ Write at word → ⊥) → ((event : Block) → row ≡ Read event → ⊥) → IsPlaced h k row p
 placed_other h k row p h1 h2 = search rules
-
-pub owned_other : (h : Header) (k : Known) (row : Row) (owned : Bool) → ((at word : ℕ) → row ≡ Write at word → ⊥) → IsOwnedSo h k row owned
-owned_other h k row owned h1 = search rules

@@ -1,5 +1,5 @@
 -- Whether the segment table, which is under lease, has a word
-use Rattle.trace_record.proofs.Words.{◌≡◌, ◌∙◌, ℕ, Bool, false, Option, Some, None, ap, sym, list_any, Evt, overlap, table_bytes, Header, event_ring, event_shape, shape_or, base_address, covers, table_range, lease_start, lease_bytes, or_false}
+use Rattle.trace_record.proofs.LowerLaws.{◌≡◌, ◌∙◌, ℕ, Bool, false, Option, Some, None, ap, sym, list_any, Evt, overlap, table_bytes, Header, event_ring, event_shape, shape_or, base_address, covers, table_range, lease_start, lease_bytes, or_false}
 
 pub has_word : (h : Header) (a : ℕ) (o : Option ℕ) (v : ℕ) (b : Bool) → o ≡ Some v → b ≡ overlap a 4 (base_address v) (table_bytes (event_shape h)) → b ≡ list_any (covers h a 4) (table_range h o)
 unfolding table_range covers lease_start lease_bytes

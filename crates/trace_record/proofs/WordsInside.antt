@@ -1,5 +1,5 @@
 -- A word outside a ring is none that the ring owns, and its write gives nothing of the ring
-use Rattle.trace_record.proofs.Words.{rules, common_steps, ◌≡◌, ◌+◌, ◌/◌, ◌%◌, ◌<◌, ◌≤◌, ◌∙◌, ℕ, [], true, false, sym, arith, not, nat_lt, filter, ltb-true, eqb-true, nat_le, false≢true, Data, Link, Shape, IsShape, place_count, address_of, cycle_of, is_inside, is_crossing, link_address, overlap, RingView, Writes, changed, gives, gives_crossing, is_due, is_crossing_due, positions_given, crossings_given, leased_positions, leased_crossings, due_positions, due_crossings, floor_number, place_below, address_aligned, link_aligned, place_at-data, place_at-link, is_inside-place_at, crosses, crossed_link, link_address_is, is_owned, false_unless, and_false, or_false, any_nowhere, any_filter, filter_nothing}
+use Rattle.trace_record.proofs.LowerLaws.{rules, common_steps, ◌≡◌, ◌+◌, ◌/◌, ◌%◌, ◌<◌, ◌≤◌, ℕ, [], true, false, arith, not, nat_lt, filter, ltb-true, eqb-true, nat_le, false≢true, Data, Shape, IsShape, place_count, address_of, cycle_of, is_inside, is_crossing, link_address, overlap, RingView, Writes, changed, gives, gives_crossing, is_due, is_crossing_due, positions_given, crossings_given, leased_positions, leased_crossings, due_positions, due_crossings, floor_number, place_below, address_aligned, link_aligned, place_at-data, place_at-link, is_inside-place_at, crosses, crossed_link, link_address_is, is_owned, false_unless, and_false, or_false, any_nowhere, any_filter, filter_nothing}
 use Rattle.trace_record.proofs.RingFinder.ListTests.{and_left, and_right}
 
 module _ (shape : Shape) (allowed : IsShape shape) (a : ℕ) (aligned : a % 4 ≡ 0) where
@@ -10,9 +10,7 @@ module _ (shape : Shape) (allowed : IsShape shape) (a : ℕ) (aligned : a % 4 �
   link_inside : (q : ℕ) → is_crossing shape q ≡ true → link_address shape q ≤ a → a < link_address shape q + 16 → is_inside shape a ≡ true
   link_inside q crossing low high =
       let over = crossed_link shape q crossing in
-      let at = link_address_is shape q over.0 over.1 in
-      is_inside-place_at shape allowed a (Link over.0 (a % 16 / 4))
-      (place_at-link shape allowed over.0 a (crosses shape q over.0 over.1).link aligned (omega (arith, at, low)) (omega (arith, at, high)))
+      search (rules, link_address_is shape q over.0 over.1, (crosses shape q over.0 over.1).link, place_at-link shape allowed over.0 a, is_inside-place_at shape allowed a)
 
   -- a word overlaps 16 bytes on a boundary of 16 only where it lies in them
   in_block : (b : ℕ) → b % 16 ≡ 0 → overlap a 4 b 16 ≡ true → (b ≤ a) × (a < b + 16)
@@ -23,14 +21,10 @@ module _ (shape : Shape) (allowed : IsShape shape) (a : ℕ) (aligned : a % 4 �
 
   module _ (outside : is_inside shape a ≡ false) where
     no_block : (p : ℕ) → overlap a 4 (address_of shape p) 16 ≡ false
-    no_block p = false_unless (overlap a 4 (address_of shape p) 16) (λ e.
-        let bounds = in_block (address_of shape p) (address_aligned shape allowed p) e in
-        false≢true (sym outside ∙ block_inside p bounds.0 bounds.1))
+    no_block p = search (rules, false_unless, in_block (address_of shape p) (address_aligned shape allowed p), false≢true, block_inside, address_of)
 
     no_link : (q : ℕ) → is_crossing shape q ≡ true → overlap a 4 (link_address shape q) 16 ≡ true → ⊥
-    no_link q crossing e =
-        let bounds = in_block (link_address shape q) (link_boundary q crossing) e in
-        false≢true (sym outside ∙ link_inside q crossing bounds.0 bounds.1)
+    no_link q crossing e = search (rules, in_block, link_address, link_boundary, false≢true, link_inside, in_block (link_address shape q) (link_boundary q crossing) e)
 
     pub not_owned : (v : RingView) → is_owned shape v a ≡ false
     unfolding leased_positions leased_crossings

@@ -1,19 +1,12 @@
 -- Masks and single bits of a word
-use Rattle.std.proofs.Common.{◌≡◌, ◌+◌, ◌-◌, ◌*◌, ◌/◌, ◌%◌, ◌^◌, ◌<◌, ◌∙◌, if◌then◌else◌, ℕ, Bool, true, false, bit_and, bit_or, arith, lit<}
-use Rattle.std.specs.Int.{from_bool}
-use Rattle.std.proofs.lemmas.Nat.{one_shl, and_mask, or_shifted}
-use Rattle.std.proofs.lemmas.Nat.Bits.{and_high_mask}
-use Rattle.trb.specs.Bits.{bits}
+use Rattle.trb.proofs.Words.{rules, ◌≡◌, ◌+◌, ◌-◌, ◌*◌, ◌/◌, ◌%◌, ◌^◌, ◌<◌, if◌then◌else◌, ℕ, Bool, true, false, bit_and, bit_or, arith, lit<, from_bool, one_shl, and_mask, or_shifted, and_high_mask, bits}
 
 -- a shift and a mask give a field
 pub bits-by_mask : (word low count : ℕ) → count < 32 → bit_and (word / 2 ^ low) (1 * 2 ^ count % 2 ^ 32 - 1) ≡ bits word low count
 bits-by_mask word low count within = rw (one_shl count 32 within) (and_mask (word / 2 ^ low) count)
 
 lowest_bit : (word c : ℕ) → word < 2 ^ 32 → c < 2 → bit_or (bit_and word (2 ^ 32 - 2)) c ≡ word - bits word 0 1 + c
-lowest_bit word c fits bit =
-    let cleared : bit_and word (2 ^ 32 - 2) ≡ word / 2 * 2 = and_high_mask 32 1 (omega arith) word fits in
-    let shifted : bit_or (word / 2 * 2) c ≡ word / 2 * 2 + c = or_shifted (word / 2) 1 c bit in
-    rw cleared (shifted ∙ omega arith)
+lowest_bit word c fits bit = search (rules, bit_and, and_high_mask, bit_or, or_shifted, and_high_mask 32 1 (omega arith) word fits, or_shifted (word / 2) 1 c bit)
 
 -- a mask and a bit give a word with another lowest bit
 pub lowest_bit-by_mask :

@@ -1,10 +1,6 @@
 -- The Chain bits of a descriptor, by the blocks before the last and the last
-use Rattle.std.proofs.Common.{◌≡◌, ◌-◌, ◌≤◌, not, ◌&&◌, List, [], ◌∷◌, length, take, get_or, arith, refl, sym, ap, ◌∙◌}
+use Rattle.trb.proofs.Words.{◌≡◌, ◌-◌, ◌≤◌, not, ◌&&◌, List, [], ◌∷◌, length, take, get_or, arith, refl, sym, ap, ◌∙◌, list_all, Block, is_chained, is_chain}
 use Rattle.std.proofs.Math.Bool.{and_assoc}
-use Rattle.std.specs.List.{list_all}
-use Rattle.trb.specs.declared.block.Block.{Block}
-use Rattle.trb.specs.Block.{is_chained}
-use Rattle.trb.specs.Descriptor.{is_chain}
 
 is_chain-cons :
     (b : Block) (rest : List Block) (d : Block)

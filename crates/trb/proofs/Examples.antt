@@ -1,10 +1,5 @@
 -- Worked examples of descriptors: each allowed form, and each way to be wrong
-use Rattle.std.proofs.Common.{◌≡◌, ℕ, ◌+◌, ◌*◌, List, [], ◌∷◌, ◌++◌, map, replicate, Option, Some, None, refl}
-use Rattle.trb.specs.declared.block.Block.{Block}
-use Rattle.trb.specs.declared.fault.Fault.{Fault}
-use Rattle.trb.specs.declared.fault.Fault.TheVariants.{BadDescriptor, NotInProfile}
-use Rattle.trb.specs.declared.ring_kind.RingKind.TheVariants.{Cmd, Evt, Xfer}
-use Rattle.trb.specs.Descriptor.{fault_of}
+use Rattle.trb.proofs.Words.{◌≡◌, ℕ, ◌+◌, ◌*◌, List, [], ◌∷◌, ◌++◌, map, replicate, Option, Some, None, refl, Block, Fault, BadDescriptor, NotInProfile, Cmd, Evt, Xfer, fault_of}
 
 -- a block of a type, by word 2, its control bits (word 3 but for the type) and its type
 abbrev block : ℕ → ℕ → ℕ → Block

@@ -1,10 +1,5 @@
 -- Which numbers have a type with a name
-use Rattle.std.proofs.Common.{◌≡◌, ℕ, Bool, true, false, not, ◌&&◌, ◌||◌, ◌==◌, nat_le, ap, inl, inr, refl, ◌∙◌}
-use Rattle.std.proofs.lemmas.Bool.{agree_below_at, cases_lt, eqb-true}
-use Rattle.std.proofs.lemmas.List.{get_or_past}
-use Rattle.trb.specs.declared.kind.BlockKind.{BlockKind}
-use Rattle.trb.specs.declared.kind.BlockKind.TheVariants.{Unknown}
-use Rattle.trb.specs.Kind.{kinds, kind_numbered}
+use Rattle.trb.proofs.Words.{◌≡◌, ℕ, Bool, true, false, not, ◌&&◌, ◌||◌, ◌==◌, nat_le, ap, inl, inr, refl, ◌∙◌, agree_below_at, cases_lt, eqb-true, get_or_past, BlockKind, Unknown, kinds, kind_numbered}
 
 abbrev pub is_unknown : BlockKind → ℕ → Bool
 is_unknown (Unknown m) n = m == n

@@ -4,3 +4,5 @@ pub mod ChainLemmas
 pub mod Examples
 pub mod FlagLemmas
 pub mod KindLemmas
+pub mod Words
+pub mod Laws

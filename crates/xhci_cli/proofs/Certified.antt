@@ -1,6 +1,5 @@
 -- That what is right of the bytes that were read is right of the certificate's input
-use Rattle.xhci_cli.proofs.Words.{CertFault, Err, IfSome, IsCertificateOf, IsLeastFault, IsUncertified, Lease, List, None, Ok, Option, Some, answer_of_cert_fault, certificate_of, subst, ℕ, ◌≡◌, ◌≢◌}
-use Rattle.certificate.specs.declared.fault.CertFault.TheVariants.{Memory as NoLeaseMemory}
+use Rattle.xhci_cli.proofs.Words.{CertFault, Err, IfSome, IsCertificateOf, IsLeastFault, IsUncertified, Lease, List, None, Ok, Option, Some, answer_of_cert_fault, certificate_of, subst, ℕ, ◌≡◌, ◌≢◌, NoLeaseMemory}
 
 pub certificate_held : (known : Option (List ℕ)) (bytes : List ℕ) (leases : List Lease) → IfSome known (λ xs. bytes ≡ xs) → certificate_of bytes ≡ Ok leases → IsCertificateOf known leases
 certificate_held None bytes leases same read = tt

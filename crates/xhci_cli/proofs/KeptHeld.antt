@@ -1,8 +1,8 @@
 -- That what is right of the bytes that were read is right of the input, of which nothing may be known
-use Rattle.xhci_cli.proofs.Words.{Answer, BadLine, Err, IfSome, List, None, Ok, Option, ReadFault, Some, TraceText, answer_of_fault, inl, inr, subst, trace_of, true, ℕ, ◌≡◌}
+use Rattle.xhci_cli.proofs.Words.{Answer, BadLine, Err, IfSome, List, None, Ok, Option, ReadFault, Some, TraceText, answer_of_fault, inl, inr, subst, trace_of, true, ℕ, ◌≡◌, OutOfMemory, IsTextOf, IsUnread}
 use Rattle.trace_reader.specs.Entries.{IfBadLine}
-use Rattle.trace_reader.specs.declared.fault.ReadFault.TheVariants.{Line, Memory as OutOfMemory}
-use Rattle.xhci_cli.specs.KeptTexts.{IsTextOf, IsTraceAnswer, IsUnread}
+use Rattle.trace_reader.specs.declared.fault.ReadFault.TheVariants.{Line}
+use Rattle.xhci_cli.specs.KeptTexts.{IsTraceAnswer}
 
 pub text_held : (known : Option (List ℕ)) (text : List ℕ) (trace : TraceText) → IfSome known (λ xs. text ≡ xs) → trace_of true text ≡ Ok trace → IsTextOf known trace
 text_held None text trace same read = tt

@@ -5,3 +5,4 @@ pub mod HeldAnswers
 pub mod KeptHeld
 pub mod Replayed
 pub mod Streamed
+pub mod Laws

@@ -1,9 +1,6 @@
 -- That what is right of the text that a device gave, with what it still holds, is right of the input, of which nothing may be known
-use Rattle.xhci_cli.proofs.Words.{Accepted, Answer, BadLine, Bool, Device, Err, FoundHarm, HarmShown, IfBadLineIn, IfErr, IfOk, IfRefusedIn, IsBadLine, IsCheckAnswer, IsFirstBad, IsHarmFound, IsHindered, IsKept, IsKeptInPart, IsSound, IsVerdictAlone, IsVerdictBeside, IsVerified, Lease, LineFault, List, Memory, None, OfStream, OfTrace, Ok, Option, Refused, Result, Some, StreamCheckFault, StreamFault, TraceText, Unread, Verified, answer_of_check_fault, answer_of_stream_fault, false, inl, inr, is_some, known_text, length, not, refl, ring_row, ring_verdict, subst, sym, text_is_trace, text_taken, trace_of, true, ℕ, ◌∙◌, ◌≡◌}
-use Rattle.trace_reader.specs.declared.row_reader.fault.StreamFault.TheVariants.{Line, Device as NoDevice, Memory as NoMemory}
-use Rattle.trace_reader.specs.Streaming.Streams.{IfBadLine}
-use Rattle.ownership_checker.specs.declared.fault.StreamCheckFault.TheVariants.{Refused as RefusedRow}
-use Rattle.xhci_cli.specs.JudgedTexts.{IsTextOf, IsTraceAnswer, IsUnread}
+use Rattle.xhci_cli.proofs.Words.{Accepted, Answer, BadLine, Bool, Device, Err, FoundHarm, HarmShown, IfBadLineIn, IfErr, IfOk, IfRefusedIn, IsBadLine, IsCheckAnswer, IsFirstBad, IsHarmFound, IsHindered, IsKept, IsKeptInPart, IsSound, IsVerdictAlone, IsVerdictBeside, IsVerified, Lease, LineFault, List, Memory, None, OfStream, OfTrace, Ok, Option, Refused, Result, Some, StreamCheckFault, StreamFault, TraceText, Unread, Verified, answer_of_check_fault, answer_of_stream_fault, false, inl, inr, is_some, known_text, length, not, refl, ring_row, ring_verdict, subst, sym, text_is_trace, text_taken, trace_of, true, ℕ, ◌∙◌, ◌≡◌, Line, NoDevice, NoMemory, IfBadLine, RefusedRow, IsTraceAnswer}
+use Rattle.xhci_cli.specs.JudgedTexts.{IsTextOf, IsUnread}
 
 text_known : (keeps : Bool) (known known' : Option (List ℕ)) (trace : TraceText) → OfStream known known' (λ text. text_taken keeps ring_row text ≡ Ok trace) → IsTextOf keeps known trace
 text_known keeps None known' trace read = tt

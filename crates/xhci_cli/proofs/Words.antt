@@ -10,6 +10,7 @@ pub use Rattle.answers.specs.declared.answer.Answer.TheVariants.{Accepted, BadLi
 pub use Rattle.answers.specs.declared.answer.FoundHarm.{FoundHarm}
 pub use Rattle.certificate.specs.Spelling.{certificate_of, spelling}
 pub use Rattle.certificate.specs.declared.fault.CertFault.{CertFault}
+pub use Rattle.certificate.specs.declared.fault.CertFault.TheVariants.{Memory as NoLeaseMemory}
 pub use Rattle.ownership_checker.proofs.RingPasses.RowsTaken.{text_is_trace}
 pub use Rattle.ownership_checker.specs.RingPasses.Accepted.{IsSound}
 pub use Rattle.ownership_checker.specs.RingPasses.Reading.{IsBadLine, OfTrace}
@@ -17,27 +18,30 @@ pub use Rattle.ownership_checker.specs.RingPasses.RingRows.{ring_row}
 pub use Rattle.ownership_checker.specs.RingPasses.Rules.{ring_verdict}
 pub use Rattle.ownership_checker.specs.Streams.{IfBadLineIn, IfRefusedIn}
 pub use Rattle.ownership_checker.specs.declared.fault.StreamCheckFault.{StreamCheckFault}
-pub use Rattle.ownership_checker.specs.declared.fault.StreamCheckFault.TheVariants.{Unread}
+pub use Rattle.ownership_checker.specs.declared.fault.StreamCheckFault.TheVariants.{Refused as RefusedRow, Unread}
 pub use Rattle.ownership_rules.specs.declared.refusal.Refusal.{Refusal}
 pub use Rattle.ring_knowledge.specs.declared.lease.Lease.{Lease}
-pub use Rattle.std.proofs.Common.{Bool, Err, List, None, Ok, Option, Result, Some, ap, arith, false, inl, inr, length, nat_lt, not, refl, subst, sym, true, ℕ, ◌∙◌, ◌≡◌, ◌≢◌, ◌⊎◌}
+pub use Rattle.std.proofs.Common.{Bool, Err, List, None, Ok, Option, Result, Some, ap, arith, false, inl, inr, length, nat_lt, not, refl, subst, sym, true, ℕ, ◌∙◌, ◌≡◌, ◌≢◌}
 pub use Rattle.std.specs.Io.KnownBytes.{Consumes}
 pub use Rattle.std.specs.Prelude.{IfErr, IfOk, IfSome, is_some}
 pub use Rattle.trace_reader.proofs.Streaming.Streams.{known_text}
 pub use Rattle.trace_reader.specs.DriverRows.{text_taken}
 pub use Rattle.trace_reader.specs.Reading.{TraceText, trace_of}
 pub use Rattle.trace_reader.specs.Schedules.{schedule_of}
-pub use Rattle.trace_reader.specs.Streaming.Streams.{OfStream}
+pub use Rattle.trace_reader.specs.Streaming.Streams.{IfBadLine, OfStream}
 pub use Rattle.trace_reader.specs.Streaming.TextRows.{trace_kept}
 pub use Rattle.trace_reader.specs.declared.fault.LineFault.{LineFault}
 pub use Rattle.trace_reader.specs.declared.fault.ReadFault.{ReadFault}
+pub use Rattle.trace_reader.specs.declared.fault.ReadFault.TheVariants.{Memory as OutOfMemory}
 pub use Rattle.trace_reader.specs.declared.row_reader.fault.StreamFault.{StreamFault}
+pub use Rattle.trace_reader.specs.declared.row_reader.fault.StreamFault.TheVariants.{Device as NoDevice, Line, Memory as NoMemory}
 pub use Rattle.traces.specs.Header.{IsHeader}
 pub use Rattle.traces.specs.declared.header.Header.{Header}
 pub use Rattle.traces.specs.declared.schedule.Schedule.{Schedule}
 pub use Rattle.xhci_cli.specs.CheckAnswers.{IsCheckAnswer, IsHindered, IsVerdictAlone, answer_of_check_fault}
 pub use Rattle.xhci_cli.specs.HarmAnswers.{IsHarmFound}
-pub use Rattle.xhci_cli.specs.JudgedTexts.{IsFirstBad}
+pub use Rattle.xhci_cli.specs.JudgedTexts.{IsFirstBad, IsTraceAnswer}
+pub use Rattle.xhci_cli.specs.KeptTexts.{IsTextOf, IsUnread}
 pub use Rattle.xhci_cli.specs.PlanAnswers.{IsPlanAnswer}
 pub use Rattle.xhci_cli.specs.ReplayAnswers.{IsReplayBeside, IsReplayed}
 pub use Rattle.xhci_cli.specs.ScheduleAnswers.{IsScheduleAnswer, IsScheduled}

@@ -1,6 +1,5 @@
 -- A trace, row by row: what was checked so far, and how far the list was followed
-use Rattle.certificate.proofs.Words.{◌≡◌, ℕ, ◌+◌, ◌<◌, ◌≤◌, List, [], ◌∷◌, Some, ap, sym, ◌∙◌, arith, length, subst, get_or, reverse, take, common_steps, Row, Header, IsHeader, Known, nothing, known, Lease, Refusal, verdict_from, without_end, lents, RangeIndexes, FollowsBook, IsCleanRow, TraceRecord, FollowsTrace, IsWithin, IsRowStep, CertificateLog, FollowsCertificate, IsAccepted, IsTracked, lenient_history, lenient_row, IsFollowed}
-use Rattle.ownership_rules.specs.Leases.{leases as leases_of}
+use Rattle.certificate.proofs.Words.{◌≡◌, ℕ, ◌+◌, ◌<◌, ◌≤◌, List, [], ◌∷◌, Some, ap, sym, ◌∙◌, arith, length, subst, get_or, reverse, take, common_steps, Row, Header, IsHeader, Known, nothing, known, Lease, Refusal, verdict_from, without_end, lents, RangeIndexes, FollowsBook, IsCleanRow, TraceRecord, FollowsTrace, IsWithin, IsRowStep, CertificateLog, FollowsCertificate, IsAccepted, IsTracked, lenient_history, lenient_row, IsFollowed, leases_of}
 use Rattle.ownership_checker.proofs.JudgedRows.Passes as passes
 
 length_reversed : (rows : List Row) → length (reverse rows) ≡ length rows
@@ -12,10 +11,7 @@ reversed_twice rows = grind (arith, common_steps)
 module _ (h : Header) (rows : List Row) (first : ℕ) (list : List Lease) where
   pub started : IsHeader h → (kept : TraceRecord) (m : ℕ → ℕ) (log : CertificateLog) (ranges : RangeIndexes) → FollowsTrace h nothing kept m → IsWithin kept.events 0 →
       FollowsBook (FollowsCertificate list) h first [] log ranges → IsFollowed h rows first list 0 first kept m log ranges
-  started headed kept m log ranges f unread lent = record {
-    pass = passes.started h rows first headed kept m f unread;
-    lent = subst (λ (xs : List Row). FollowsBook (FollowsCertificate list) h first xs log ranges) (sym (passes.none_taken rows)) lent;
-  }
+  started headed kept m log ranges f unread lent = assumption (passes.started h rows first headed kept m f unread, subst (λ (xs : List Row). FollowsBook (FollowsCertificate list) h first xs log ranges) (sym (passes.none_taken rows)) lent)
 
   pub stepped : IsHeader h → (i number : ℕ) (kept after : TraceRecord) (m o : ℕ → ℕ) (row d : Row) (log later : CertificateLog) (ranges further : RangeIndexes) → first + length rows ≤ without_end →
       IsFollowed h rows first list i number kept m log ranges → i < length rows → get_or rows i d ≡ row → IsWithin after.events (i + 1) →
@@ -56,11 +52,7 @@ module _ (h : Header) (rows : List Row) (first : ℕ) (list : List Lease) where
     held = subst (λ (xs : List Row). FollowsCertificate list h (lents h first (reverse xs)) log) whole p.lent.held
 
     pub accepted : list ≡ leases_of h first (reverse (reverse rows)) → IsAccepted h rows first list
-    accepted is = record {
-      clean = passes.ended_clean h rows first i number kept m p.pass all;
-      verdict = passes.ended_verdict h rows first i number kept m p.pass all;
-      certified = is ∙ ap (λ xs. leases_of h first xs) (reversed_twice rows);
-    }
+    accepted is = assumption (passes.ended_clean h rows first i number kept m p.pass all, passes.ended_verdict h rows first i number kept m p.pass all, is ∙ ap (λ xs. leases_of h first xs) (reversed_twice rows))
 
     pub listed : IsAccepted h rows first list → list ≡ leases_of h first (reverse (reverse rows))
     listed a = a.certified ∙ ap (λ xs. leases_of h first xs) (sym (reversed_twice rows))

@@ -1,5 +1,5 @@
 -- What a pass over the rows of a trace says of a list of leases
-use Rattle.certificate.proofs.Words.{◌≡◌, ◌≢◌, ◌++◌, ◌∙◌, ℕ, Bool, true, false, List, Option, Some, Err, refl, ap, subst, sym, map, reverse, Header, TraceText, Lease, Refusal, Lent, lease_of, CertificateLog, FollowsCertificate, StreamFault, Line, Device, Memory, IsOpened, IfBadLine, joined_behind, taken_by_calls, calls_say_what_is_taken, header_now, ring_lents, Passed, Whole, Refused, IsVerified, IfRefusedRow, IfWhole, IsBadLine, IsWholeLog, ring_row, ring_verdict}
+use Rattle.certificate.proofs.Words.{rules, ◌≡◌, ◌≢◌, ◌++◌, ◌∙◌, ℕ, Bool, true, false, List, Option, Some, Err, refl, ap, subst, sym, map, reverse, Header, TraceText, Lease, Refusal, Lent, lease_of, CertificateLog, FollowsCertificate, StreamFault, Line, Device, Memory, IsOpened, IfBadLine, joined_behind, taken_by_calls, calls_say_what_is_taken, header_now, ring_lents, Passed, Whole, Refused, IsVerified, IfRefusedRow, IfWhole, IsBadLine, IsWholeLog, ring_row, ring_verdict}
 
 -- a bad line before the rows
 pub opened_bad : (keeps : Bool) (held held' : Option (List ℕ)) (e : StreamFault) → IsOpened keeps held held' (Err e) → IfBadLine e (IsBadLine keeps held held')
@@ -21,13 +21,7 @@ module _ (trace : TraceText) (leases : List Lease) where
       ((list : List Lease) (h : Header) (ts : List Lent) → FollowsCertificate list h ts log → whole ≡ true → list ≡ map lease_of ts) →
       ((list : List Lease) (h : Header) (ts : List Lent) → FollowsCertificate list h ts log → whole ≡ false → list ≢ map lease_of ts) →
       IsWholeLog (FollowsCertificate leases) trace log → IsVerified trace leases whole
-  verified log true listed unlisted w =
-      let past = reverse trace.rows in
-      record {
-        accepted = record { verdict = w.verdict; certified = listed leases (header_now trace.header past) (ring_lents trace.header trace.first past) w.kept refl };
-        walk = w.walk;
-        harmless = w.harmless;
-      }
+  verified log true listed unlisted w = search rules
   verified log false listed unlisted w = λ is.
       let past = reverse trace.rows in
       unlisted leases (header_now trace.header past) (ring_lents trace.header trace.first past) w.kept refl is.certified

@@ -1,6 +1,5 @@
 -- Areas that end above 2^64 are bad
-use Rattle.driver_rows.proofs.Words.{rules, ◌≡◌, ℕ, ◌+◌, ◌^◌, ◌<◌, ◌≤◌, true, refl, sym, arith, Header, Known, entry_of, is_bad_area, is_soiled, has_bad_entry}
-use Rattle.driver_rows.proofs.ContextRules.Chains.{stops}
+use Rattle.driver_rows.proofs.LowerLaws.{rules, ◌≡◌, ℕ, ◌+◌, ◌^◌, ◌<◌, ◌≤◌, true, refl, sym, arith, Header, Known, entry_of, is_bad_area, is_soiled, has_bad_entry, stops}
 
 pub bad_above : (h : Header) (k : Known) (from len : ℕ) → 2 ^ 64 < from + len → is_bad_area h k from len ≡ true
 unfolding is_bad_area

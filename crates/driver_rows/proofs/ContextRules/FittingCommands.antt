@@ -1,12 +1,8 @@
 -- The input contexts of commands lie on words, and those of commands that may be given within the address space
-use Rattle.driver_rows.proofs.Words.{rules, ◌≡◌, ℕ, ◌+◌, ◌*◌, ◌/◌, ◌%◌, ◌^◌, ◌≤◌, if◌then◌else◌, Bool, false, Option, Some, None, subst, arith, ◌||◌, option_and_then, slice_get, ltb-false, Block, BlockKind, kind, is_command_left_out, Command, command_by_kind, command_of, Header, command_id, Known, command_at, is_bad_area, has_bad_context, is_bad_command, FitsMemory, IsAligned}
-use Rattle.trb.specs.Block.{aligned as address}
+use Rattle.driver_rows.proofs.Words.{rules, ◌≡◌, ℕ, ◌+◌, ◌*◌, ◌/◌, ◌%◌, ◌^◌, ◌≤◌, if◌then◌else◌, Bool, false, Option, Some, None, subst, arith, ◌||◌, option_and_then, slice_get, ltb-false, Block, BlockKind, kind, is_command_left_out, Command, command_by_kind, command_of, Header, command_id, Known, command_at, is_bad_area, has_bad_context, is_bad_command, FitsMemory, IsAligned, address}
 
 left_false : (a b : Bool) → (a || b) ≡ false → a ≡ false
 left_false a b e = search rules
-
-right_false : (a b : Bool) → (a || b) ≡ false → b ≡ false
-right_false a b e = search rules
 
 -- an area that isn't bad ends at or below 2^64
 pub good_inside : (h : Header) (k : Known) (from len : ℕ) → is_bad_area h k from len ≡ false → from + len ≤ 2 ^ 64
@@ -16,27 +12,21 @@ good_inside h k from len good = ltb-false (2 ^ 64) (from + len) (left_false _ _ 
 -- what a command that isn't bad names ends there
 pub good_fits : (h : Header) (k : Known) (c : Command) → is_bad_command h k c ≡ false → IsAligned c → FitsMemory h.context_size c
 unfolding is_bad_command has_bad_context
-good_fits h k c good on_words a named = search (rules, right_false, left_false, good_inside)
+good_fits h k c good on_words a named = search (rules, left_false, good_inside)
 
 -- a command of a block names a context that lies on words
 abbrev OnWords : Option Command → Type 0
 OnWords None = Unit {0}
 OnWords (Some c) = IsAligned c
 
-some_is : (a b : ℕ) → Some a ≡ Some b → a ≡ b
-some_is a b e = cc
-
 none_named : (a : ℕ) → None ≡ Some a → a % 4 ≡ 0
 none_named a e = absurd (cc)
 
 pointed : (p a : ℕ) → Some (address p) ≡ Some a → a % 4 ≡ 0
-pointed p a e = let is : p / 16 * 16 ≡ a = some_is (address p) a e in omega arith
-
-unless : (dc : Bool) (p a : ℕ) → (if dc then None else Some (address p)) ≡ Some a → a % 4 ≡ 0
-unless dc p a e = search (rules, pointed)
+pointed p a e = let is : p / 16 * 16 ≡ a = cc in omega arith
 
 by_kind : (kd : BlockKind) (b : Block) → OnWords (command_by_kind kd b)
-by_kind kd b = search (rules, none_named, pointed, unless)
+by_kind kd b = search (rules, none_named, pointed)
 
 by_type : (left_out : Bool) (b : Block) → OnWords (if left_out then None else command_by_kind (kind b) b)
 by_type left_out b = search (rules, by_kind)

@@ -1,16 +1,11 @@
 -- The ranges under lease, by the addresses at which they start
-use Rattle.driver_rows.proofs.Words.{rules, ◌≡◌, ℕ, List, [], ◌∷◌, Bool, false, Option, Some, None, refl, sym, ◌∙◌, ◌||◌, ◌&&◌, is_some, list_any, filter_map, cons_option, overlap, table_bytes, device_context_bytes, input_context_bytes, Command, named_context, Header, Erstba, event_shape, base_address, Known, entry_of, command_at, unfinished, unfinished_positions, is_in_range_lease, context_ranges, covers, device_ranges, entry_ranges, lease_bytes, lease_start, open_ranges, range_of_command, range_of_context, range_of_device, range_of_entry, segment_ranges, slots, table_range, any_append, any_map, any_flat_map, or_false, device_contexts, inputs_of, touches_entry, touches_event_segment}
-use Rattle.driver_rows.proofs.ContextRules.RestOfRange.{any_left}
-
-found_step : {Y : Type 0} (test : Y → Bool) (found : Option Y → Bool) (ys : List Y) (o : Option Y) → found None ≡ false → ((y : Y) → found (Some y) ≡ test y) →
-    list_any test (cons_option o ys) ≡ (found o || list_any test ys)
-found_step test found ys o e f = search rules
+use Rattle.driver_rows.proofs.LowerLaws.{rules, ◌≡◌, ℕ, List, [], ◌∷◌, Bool, false, Option, Some, None, refl, sym, ◌∙◌, ◌||◌, ◌&&◌, is_some, list_any, filter_map, overlap, table_bytes, device_context_bytes, input_context_bytes, Command, named_context, Header, Erstba, event_shape, base_address, Known, entry_of, command_at, unfinished, unfinished_positions, is_in_range_lease, context_ranges, covers, device_ranges, entry_ranges, lease_bytes, lease_start, open_ranges, range_of_command, range_of_context, range_of_device, range_of_entry, segment_ranges, slots, table_range, any_append, any_map, any_flat_map, or_false, device_contexts, inputs_of, touches_entry, touches_event_segment, any_left}
 
 -- a test of what is found of the elements
 any_found : {X Y : Type 0} (test : Y → Bool) (f : X → Option Y) (xs : List X) (found : Option Y → Bool) → found None ≡ false → ((y : Y) → found (Some y) ≡ test y) →
     list_any test (filter_map f xs) ≡ list_any (λ x. found (f x)) xs
 any_found test f [] found none some = refl
-any_found test f (x ∷ xs) found none some = search (rules, found_step, any_found test f xs found none some)
+any_found test f (x ∷ xs) found none some = search (rules, any_found test f xs found none some)
 
 -- so many bytes from an address on touch a segment table whose base ERSTBA names
 abbrev pub of_table : Header → ℕ → ℕ → Option ℕ → Bool
@@ -31,8 +26,7 @@ module _ (h : Header) (k : Known) (from len : ℕ) where
       of_device (Some a) = overlap from len a (device_context_bytes h.context_size)
 
       same : (s : ℕ) (d : Option ℕ) → list_any (covers h from len) (range_of_device h s d) ≡ of_device d
-      same s None = refl
-      same s (Some a) = or_false (overlap from len a (device_context_bytes h.context_size))
+      same s d = search (rules, or_false)
 
   -- input contexts of unfinished commands
   pub any_context : list_any (covers h from len) (context_ranges h k) ≡ list_any (λ a. overlap from len a (input_context_bytes h.context_size)) (inputs_of (unfinished h k))
@@ -55,12 +49,10 @@ module _ (h : Header) (k : Known) (from len : ℕ) where
       of_command (Some c) = of_input c
 
       context : (p : ℕ) (a : Option ℕ) → list_any (covers h from len) (range_of_context h p a) ≡ of_context a
-      context p None = refl
-      context p (Some a) = or_false (overlap from len a (input_context_bytes h.context_size))
+      context p a = search (rules, or_false)
 
       same : (p : ℕ) (c : Option Command) → list_any (covers h from len) (range_of_command h p c) ≡ of_command c
-      same p None = refl
-      same p (Some c) = context p (named_context c)
+      same p c = search (rules, context)
 
   -- the segment table
   pub any_table : (v : Option ℕ) → list_any (covers h from len) (table_range h v) ≡ of_table h from len v
@@ -75,8 +67,7 @@ module _ (h : Header) (k : Known) (from len : ℕ) where
       ∙ (λ i. list_any (λ s. same s (k.device s) i) slots)
     where
       same : (s : ℕ) (d : Option ℕ) → list_any (covers h from len) (range_of_entry k s d) ≡ (is_some d && overlap from len (entry_of k s) 8)
-      same s None = refl
-      same s (Some a) = or_false (overlap from len (entry_of k s) 8)
+      same s d = search (rules, or_false)
 
   -- all ranges
   pub any_range : is_in_range_lease h k from len ≡

@@ -1,16 +1,13 @@
 -- The left-out endpoints of a command, by the words of memory
 use Rattle.driver_rows.proofs.Words.{rules, ◌≡◌, ◌&&◌, ◌||◌, ◌∷◌, ℕ, Bool, true, false, not, List, [], refl, sym, ap, ◌∙◌, list_any, Command, NoOp, EnableSlot, DisableSlot, AddressDevice, ConfigureEndpoint, EvaluateContext, ResetEndpoint, StopEndpoint, SetTrDequeue, ResetDevice, Header, is_three, Known, adds_isochronous, adds_streams, type_in, streams_in, has_left_out_endpoint, adds_left_out, is_left_out_by, is_left_out_in}
 
-shuffle : (b f g x y : Bool) → (((f && b) || g) || ((x && b) || y)) ≡ (((f || x) && b) || (g || y))
-shuffle b f g x y = search rules
-
 nothing_else : (b : Bool) → false ≡ ((false && b) || false)
 nothing_else b = search rules
 
 -- of some of them the one or the other
 some_of_both : (b : Bool) (f g : ℕ → Bool) (xs : List ℕ) → list_any (λ x. (f x && b) || g x) xs ≡ ((list_any f xs && b) || list_any g xs)
 some_of_both b f g [] = nothing_else b
-some_of_both b f g (x ∷ xs) = ap (λ t. ((f x && b) || g x) || t) (some_of_both b f g xs) ∙ shuffle b (f x) (g x) (list_any f xs) (list_any g xs)
+some_of_both b f g (x ∷ xs) = ap (λ t. ((f x && b) || g x) || t) (some_of_both b f g xs) ∙ (search rules)
 
 known : (h : Header) (k : Known) (c : Command) → is_left_out_by (not (is_three h.version)) k.memory h.context_size c ≡ has_left_out_endpoint h k c
 unfolding has_left_out_endpoint adds_isochronous adds_streams type_in streams_in adds_left_out is_left_out_in

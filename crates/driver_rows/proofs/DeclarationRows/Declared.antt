@@ -1,7 +1,5 @@
 -- A declaration that was checked, from what was checked of one ring
-use Rattle.driver_rows.proofs.Words.{◌≡◌, ◌≢◌, ℕ, ◌<◌, List, true, false, inl, inr, Some, Result, Ok, Err, refl, ap, sym, ◌∙◌, subst, ◌==◌, slice_get, IfErr, OnOk, cases_Bool, Block, RingView, Declares, changed, declared, Ring, Header, Sub, IsHeader, command_id, is_command_kind, is_driver_kind, is_event_kind, RingRecord, FollowsRing, Known, learned, on_ring, unfinished, after_declaration, unfinished_declared, unfinished_same, same_blocks, ring_elsewhere, IsAmong, among_at, ring_found, no_command_here, NotDeclared, first_broken, DriverKeeps, IsDriverRing, StepFault, Refused, Memory, TraceRecord, FollowsTrace, IfRefused, IsLeast, IsRowStep, IsDeclared, room_tests, nothing_broken, command_id_is, command_found}
-use Rattle.driver_rows.proofs.DeclarationRows.DeclarationRules.{declared_nowhere, declared_on_events, declared_on_ring}
-use Rattle.driver_rows.proofs.DoorbellRows.Followed.{followed, here_on, only_on, rings_with}
+use Rattle.driver_rows.proofs.MiddleLaws.{◌≡◌, ◌≢◌, ℕ, ◌<◌, List, true, false, inl, inr, Some, Result, Ok, Err, refl, ap, sym, ◌∙◌, subst, ◌==◌, slice_get, IfErr, OnOk, cases_Bool, Block, RingView, Declares, changed, declared, Ring, Header, Sub, IsHeader, command_id, is_command_kind, is_driver_kind, is_event_kind, RingRecord, FollowsRing, Known, learned, on_ring, unfinished, after_declaration, unfinished_declared, unfinished_same, same_blocks, ring_elsewhere, IsAmong, among_at, ring_found, no_command_here, NotDeclared, first_broken, DriverKeeps, IsDriverRing, StepFault, Refused, Memory, TraceRecord, FollowsTrace, IfRefused, IsLeast, IsRowStep, IsDeclared, room_tests, nothing_broken, command_id_is, command_found, declared_nowhere, declared_on_events, declared_on_ring, followed, here_on, only_on, rings_with, rules}
 use Rattle.driver_rows.proofs.RingRows.OneRing.{with_record}
 
 module _ (h : Header) (headed : IsHeader h) (id : ℕ) (blocks : List Block) where
@@ -35,7 +33,7 @@ module _ (h : Header) (headed : IsHeader h) (id : ℕ) (blocks : List Block) whe
               let is_ring : IsDriverRing h ring.id = record { ring = ring; found = ring_found h headed ring among; kind = driver } in
               unfinished_declared h k ring.id blocks (λ p given.
               subst (λ (r : ℕ). p < declared (k.ring r)) (sym here_id) ((keeps.rings ring.id is_ring).given_declared p (ap (λ (r : ℕ). (k.ring r).given p) (sym here_id) ∙ given)))
-          | inr other ↦ unfinished_same h k (learned h k (Sub ring.id blocks)) (same_blocks _ _ (apart_ring (λ e. no_command_here h headed ring among other (sym e))))
+          | inr other ↦ search (rules, unfinished_same, same_blocks, apart_ring, no_command_here, among)
         ]
 
         followed_after : DriverKeeps h k → (new : RingRecord) → FollowsRing ring.shape (changed ring.shape (k.ring ring.id) (Declares blocks)) new → FollowsTrace h after (with_record kept n new) m
@@ -47,10 +45,8 @@ module _ (h : Header) (headed : IsHeader h) (id : ℕ) (blocks : List Block) whe
 
         step : DriverKeeps h k → k.stopped ≡ false → (new : RingRecord) → IsDeclared ring.shape (k.ring ring.id) blocks new → IsRowStep h k (Sub ring.id blocks) (with_record kept n new) m
         unfolding learned after
-        step keeps on new s = record {
-          clean = nothing_broken _ (declared_on_ring h k on ring.id blocks headed ring among refl driver ∙ s.clean);
-          followed = followed_after keeps new s.followed;
-        }
+        step keeps on new s =
+            record { clean = nothing_broken _ (declared_on_ring h k on ring.id blocks headed ring among refl driver ∙ s.clean); followed = followed_after keeps new s.followed }
 
       pub declared_ok : {X : Type 0} (new : RingRecord) (result : Result X StepFault) → OnOk result ((v : RingView) → FollowsRing ring.shape v old → IsDeclared ring.shape v blocks new) →
           OnOk result ((k : Known) (m : ℕ → ℕ) → FollowsTrace h k kept m → DriverKeeps h k → k.stopped ≡ false → IsRowStep h k (Sub id blocks) (with_record kept n new) m)

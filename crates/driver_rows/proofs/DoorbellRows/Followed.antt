@@ -1,9 +1,7 @@
 -- What the record of a trace holds after rings and endpoints have changed
 pub use Rattle.trace_record.proofs.RingFinder.CommandRings.{command_id_is, found_at}
-use Rattle.driver_rows.proofs.Words.{rules, ◌≡◌, ◌≢◌, ◌≤◌, ℕ, List, Bool, true, false, Some, None, ap, sym, ◌∙◌, arith, inl, inr, set, subst, length, slice_get, position, and_parts, length-set, same_Some, none-some, slice_get_cases, slice_get_within, is_off, EndpointState, put_pair, RingView, RingChange, changed, Ring, Header, IsHeader, is_driver_kind, RingRecord, FollowsRing, Known, on_ring, unfinished, FollowsDevices, ring_elsewhere, FollowsRings, IsAmong, among_at, each_among, numbers_apart, together, shape_there, position-None, TraceRecord, FollowsTrace, binds_same, bound_same, Apart, SameRegisters}
+use Rattle.driver_rows.proofs.LowerLaws.{rules, ◌≡◌, ◌≢◌, ◌≤◌, ℕ, List, Bool, true, false, Some, None, ap, sym, ◌∙◌, arith, inl, inr, set, subst, length, slice_get, position, and_parts, length-set, same_Some, none-some, slice_get_cases, slice_get_within, is_off, EndpointState, put_pair, RingView, RingChange, changed, Ring, Header, IsHeader, is_driver_kind, RingRecord, FollowsRing, Known, on_ring, unfinished, FollowsDevices, ring_elsewhere, FollowsRings, IsAmong, among_at, each_among, numbers_apart, together, shape_there, position-None, TraceRecord, FollowsTrace, binds_same, bound_same, Apart, SameRegisters, at_set, registers_still, events_still}
 use Rattle.trace_record.proofs.DeviceSlots.UnfinishedSame.{ring_here}
-use Rattle.driver_rows.proofs.RingRows.Lists.{at_set}
-use Rattle.driver_rows.proofs.WriteEffects.Followed.{registers_still, events_still}
 
 -- ---- the records of rings
 
@@ -13,10 +11,8 @@ none_past xs n past = search (rules, slice_get_cases)
 
 -- there is a record of each ring
 pub has_record : (h : Header) (k : Known) (items : List RingRecord) → FollowsRings h k items → (n : ℕ) (ring : Ring) → slice_get h.rings n ≡ Some ring → (r : RingRecord) × (slice_get items n ≡ Some r)
-has_record h k items f n ring at = elim (slice_get_cases items n).1 [
-  | inl found ↦ (found.0, found.2)
-  | inr past ↦ let below = slice_get_within h.rings n ring at in absurd (omega (arith, f.as_many, past.0, below))
-]
+has_record h k items f n ring at =
+    elim (slice_get_cases items n).1 [ inl found ↦ (found.0, found.2) | inr past ↦ absurd (omega (arith, f.as_many, past.0, slice_get_within h.rings n ring at)) ]
 
 -- of all other rings the same is known
 abbrev pub IsOnly : Known → Known → ℕ → Type 0
@@ -25,10 +21,8 @@ IsOnly k l r = (q : ℕ) → q ≢ r → l.ring q ≡ k.ring q
 module _ (h : Header) (headed : IsHeader h) (k l : Known) (items : List RingRecord) (f : FollowsRings h k items) where
   -- the same is known of all rings of the header
   pub rings_same : ((q : Ring) → IsAmong q h.rings → l.ring q.id ≡ k.ring q.id) → FollowsRings h l items
-  rings_same same = record {
-    as_many = f.as_many;
-    each = λ i q r there is driver. subst (λ (v : RingView). FollowsRing q.shape v r) (sym (same q (among_at h.rings i q there))) (f.each i q r there is driver);
-  }
+  rings_same same =
+      record { as_many = f.as_many; each = λ i q r at is d. subst (λ (v : RingView). FollowsRing q.shape v r) (sym (same q (among_at h.rings i q at))) (f.each i q r at is d) }
 
   module _ (n : ℕ) (ring : Ring) (at : slice_get h.rings n ≡ Some ring) where
     -- a new record of one ring, where those of all others still follow

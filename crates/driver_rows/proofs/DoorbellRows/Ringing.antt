@@ -1,20 +1,12 @@
 -- What a doorbell adds to the record of a trace
-use Rattle.driver_rows.proofs.Words.{rules, ◌≡◌, ◌≢◌, ℕ, List, true, false, Option, Some, None, refl, ap, sym, ◌∙◌, inl, inr, subst, ◌==◌, slice_get, position, if◌then◌else◌, cases_eq, eqb-true, eq-eqb, ne_eqb, cond_both, false≢true, Opens, Ring, Header, Bell, IsHeader, is_command_kind, command_id, RingRecord, Known, on_ring, unfinished, rung, endpoint_rung, learned, FollowsDevices, rung_first, rung_later, ring_elsewhere, unfinished_rung, FollowsRings, IsAmong, among_at, no_command_here, TraceRecord, FollowsTrace, number_of, number_rung, found_at, command_found, command_id_is}
-use Rattle.driver_rows.proofs.DoorbellRows.Followed.{AreOffAs, IsBeside, put_on, rings_same, followed, none_found}
+use Rattle.driver_rows.proofs.MiddleLaws.{rules, ◌≡◌, ◌≢◌, ℕ, List, true, false, Option, Some, None, refl, ap, sym, ◌∙◌, inl, inr, subst, ◌==◌, slice_get, position, if◌then◌else◌, cases_eq, eqb-true, eq-eqb, ne_eqb, cond_both, false≢true, Opens, Ring, Header, Bell, IsHeader, is_command_kind, command_id, RingRecord, Known, on_ring, rung, endpoint_rung, learned, FollowsDevices, rung_first, rung_later, ring_elsewhere, unfinished_rung, FollowsRings, IsAmong, among_at, no_command_here, TraceRecord, FollowsTrace, number_of, number_rung, found_at, command_found, command_id_is, AreOffAs, IsBeside, put_on, rings_same, followed}
+use Rattle.driver_rows.proofs.DoorbellRows.Followed.{none_found}
 
 module _ (h : Header) (k : Known) (s t : ℕ) where
   -- nothing but rings and the state of endpoints changes
-  opened_beside : (r : ℕ) → IsBeside k (on_ring h k r Opens)
-  unfolding on_ring
-  opened_beside r = record { memory = refl; started = refl; stopped = refl; register = refl; reads = refl; dequeue = refl; device = refl; soiled = refl }
-
-  endpoint_beside : (o : Option ℕ) → IsBeside k (endpoint_rung h k s t o)
-  unfolding endpoint_rung on_ring
-  endpoint_beside o = search rules
-
   rung_beside : IsBeside k (rung h k s t)
-  unfolding rung
-  rung_beside = cond_both (s == 0) (on_ring h k (command_id h) Opens) (endpoint_rung h k s t (k.ring_of s t)) (λ l. IsBeside k l) (λ _. opened_beside (command_id h)) (λ _. endpoint_beside (k.ring_of s t))
+  unfolding rung endpoint_rung on_ring
+  rung_beside = search rules
 
   -- a Stopped endpoint is on, and so is a Running one
   endpoint_off : (o : Option ℕ) → AreOffAs k (endpoint_rung h k s t o)
@@ -24,10 +16,6 @@ module _ (h : Header) (k : Known) (s t : ℕ) where
   rung_off : AreOffAs k (rung h k s t)
   unfolding rung on_ring
   rung_off = cond_both (s == 0) (on_ring h k (command_id h) Opens) (endpoint_rung h k s t (k.ring_of s t)) (λ l. AreOffAs k l) (λ _ q. refl) (λ _. endpoint_off (k.ring_of s t))
-
-  rung_unfinished : unfinished h (rung h k s t) ≡ unfinished h k
-  unfolding learned
-  rung_unfinished = unfinished_rung h k s t
 
   module _ (headed : IsHeader h) (items after : List RingRecord) (f : FollowsRings h k items) where
     -- a ring that none of the header is
@@ -77,4 +65,4 @@ module _ (h : Header) (k : Known) (s t : ℕ) where
       ((o : Option ℕ) (n : ℕ) (ring : Ring) → o ≡ number_rung h k s t → o ≡ Some n → slice_get h.rings n ≡ Some ring → FollowsRings h (on_ring h k ring.id Opens) after.rings.items) →
       (number_rung h k s t ≡ None → after.rings.items ≡ before.rings.items) → FollowsDevices (rung h k s t) after.devices → FollowsTrace h (learned h k (Bell s t)) after m
   unfolding learned
-  follows_rung headed before after m f is opened none devices = search (rules, followed, rung_beside, rung_off, rung_unfinished, rung_rings)
+  follows_rung headed before after m f is opened none devices = search (rules, followed, rung_beside, rung_off, unfinished_rung, rung_rings)

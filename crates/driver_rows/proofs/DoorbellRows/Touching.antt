@@ -1,5 +1,5 @@
 -- Which endpoints an unfinished command may change
-use Rattle.driver_rows.proofs.Words.{rules, common_steps, ◌≡◌, ℕ, zero, suc, ◌+◌, ◌<◌, ◌≤◌, ◌%◌, ◌^◌, List, Bool, true, false, Option, Some, None, refl, ap, sym, ◌∙◌, arith, get_or, ◌==◌, ◌&&◌, ◌||◌, not, nat_le, nat_lt, map, All, IfSome, list_any, range_with_len, lt-ltb, and_parts, nat_tests, list_any_none, ContextSize, added_endpoints, input_add_flag, input_drop_flag, input_context_bytes, Command, ConfigureEndpoint, named_context, placed_by_context, changes, Header, Known, unfinished, and_false, any_map, any_filter, any_nowhere, IsOnlyAbout, is_about, FollowsUnfinished, as_list, UnfinishedCommands, any_either, any_same, touched_about, is_touched, touches_endpoint, FitsMemory}
+use Rattle.driver_rows.proofs.Words.{rules, common_steps, ◌≡◌, ℕ, zero, suc, ◌+◌, ◌<◌, ◌≤◌, ◌%◌, ◌^◌, List, Bool, true, false, Option, Some, None, ap, sym, ◌∙◌, arith, get_or, ◌==◌, ◌&&◌, ◌||◌, not, nat_le, nat_lt, map, All, IfSome, list_any, range_with_len, lt-ltb, and_parts, nat_tests, list_any_none, ContextSize, added_endpoints, input_add_flag, input_drop_flag, input_context_bytes, Command, ConfigureEndpoint, named_context, placed_by_context, changes, Header, Known, unfinished, and_false, any_map, any_filter, any_nowhere, IsOnlyAbout, is_about, FollowsUnfinished, as_list, UnfinishedCommands, any_either, any_same, touched_about, is_touched, touches_endpoint, FitsMemory}
 use Rattle.commands.specs.Changes.{touches}
 
 -- ---- an input context
@@ -18,16 +18,9 @@ added_any size m s t c i below =
     ∙ any_filter (λ j. s == t && i == j) (input_add_flag m c) (range_with_len 2 30)
     ∙ by (s == t)
   where
-    none : (xs : List ℕ) → list_any (λ j. input_add_flag m c j && (false && i == j)) xs ≡ false
-    none xs = any_nowhere (λ j. input_add_flag m c j && (false && i == j)) (λ j. and_false (input_add_flag m c j)) xs
-
-    shorter : (b : Bool) → (b && true && input_add_flag m c i) ≡ (b && input_add_flag m c i)
-    shorter true = refl
-    shorter false = refl
-
     by : (b : Bool) → list_any (λ j. input_add_flag m c j && (b && i == j)) (range_with_len 2 30) ≡ (b && (nat_le 2 i && input_add_flag m c i))
-    by true = any_from (input_add_flag m c) i 2 30 ∙ ap (λ b. nat_le 2 i && b && input_add_flag m c i) (lt-ltb i 32 below) ∙ shorter (nat_le 2 i)
-    by false = none (range_with_len 2 30)
+    by true = search (rules, any_from (input_add_flag m c) i 2 30, lt-ltb i 32 below)
+    by false = any_nowhere (λ j. input_add_flag m c j && (false && i == j)) (λ j. and_false (input_add_flag m c j)) (range_with_len 2 30)
 
 -- those that a Configure Endpoint with this context drops or adds
 pub configured_any : (size : ContextSize) (m : ℕ → ℕ) (s t c i : ℕ) (d : Bool) → i < 32 →
@@ -62,28 +55,17 @@ pub record IsThat (s i : ℕ) (all : List Command) (o : Option Command) : Type 0
 pub that_is : (s i : ℕ) (all : List Command) (u : UnfinishedCommands) (o : Option Command) → FollowsUnfinished all u →
     ((all : List Command) (p : Command → Bool) → FollowsUnfinished all u → IsOnlyAbout s i p → list_any p (as_list o) ≡ list_any p all) →
     IfSome o (λ c. (all : List Command) → FollowsUnfinished all u → is_about s i c ≡ true) → IsThat s i all o
-that_is s i all u o f one named = record { named = by o named; one = λ p only. one all p f only }
-  where
-    by : (o : Option Command) → IfSome o (λ c. (all : List Command) → FollowsUnfinished all u → is_about s i c ≡ true) → IfSome o (λ c. is_about s i c ≡ true)
-    by None named = tt
-    by (Some c) named = named all f
+that_is s i all u None f one named = record { named = tt; one = λ p only. one all p f only }
+that_is s i all u (Some c) f one named = record { named = named all f; one = λ p only. one all p f only }
 
 -- what each unfinished command names ends within the address space, also what that of a slot or an endpoint names
 pub named_fits : (size : ContextSize) (s i : ℕ) (all : List Command) (o : Option Command) → All (FitsMemory size) all → IsThat s i all o → IfSome o (FitsMemory size)
 named_fits size s i all None each that = tt
 named_fits size s i all (Some c) each that =
-    true_fits size (named_context c) (by (is_about s i c) (fits_at size (named_context c)) that.named
-    (that.one (misfits size s i) (λ d e. (and_parts (is_about s i d) (not (fits_at size (named_context d))) e).0) ∙ none))
+    true_fits size (named_context c) (grind (arith, that.named, that.one (misfits size s i) (λ d e. (and_parts (is_about s i d) (not (fits_at size (named_context d))) e).0), none))
   where
-    fails : (x y : Bool) → y ≡ true → (x && not y) ≡ false
-    fails x y e = search rules
-
     none : list_any (misfits size s i) all ≡ false
-    none = list_any_none (misfits size s i) all (λ k d below. fails (is_about s i (get_or all k d)) (fits_at size (named_context (get_or all k d))) (fits_true size (named_context (get_or all k d)) (each k d below)))
-
-    by : (x y : Bool) → x ≡ true → ((x && not y) || false) ≡ false → y ≡ true
-    by true true e f = refl
-    by _ _ e f = absurd (cc)
+    none = list_any_none (misfits size s i) all (λ k d below. search (rules, and_false, fits_true size (named_context (get_or all k d)) (each k d below)))
 
 module _ (s : ℕ) (all : List Command) (p : Command → Bool) where
   abbrev with_test : ℕ → Command → Bool
@@ -105,12 +87,7 @@ module _ (s : ℕ) (all : List Command) (p : Command → Bool) where
       ∙ any_same (λ c. with_test 0 c || with_test i c) p all (λ c. by (is_about s 0 c) (is_about s i c) (p c) (only c))
     where
       by : (x y b : Bool) → (b ≡ true → (x || y) ≡ true) → ((x && b) || (y && b)) ≡ b
-      by true y true only = refl
-      by true true false only = refl
-      by true false false only = refl
-      by false true b only = refl
-      by false false true only = only refl
-      by false false false only = refl
+      by x y b only = search rules
 
 -- of the unfinished commands those of the slot as a whole and of the endpoint alone can touch it
 pub touched_is : (h : Header) (k : Known) (s i : ℕ) (slots endpoints : Option Command) → IsThat s 0 (unfinished h k) slots → IsThat s i (unfinished h k) endpoints →

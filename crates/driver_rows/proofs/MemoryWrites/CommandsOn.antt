@@ -1,7 +1,6 @@
 -- The command ring is neither moved nor bound
-use Rattle.driver_rows.proofs.Words.{rules, ◌≡◌, ℕ, true, false, Option, Some, None, refl, ap, sym, ◌∙◌, ◌==◌, ◌&&◌, eqb-true, RingKind, is_open, Command, Ring, Header, IsHeader, is_command_kind, is_transfer_kind, is_ring, ring_having, ring_with, Known, unfinished, DriverKeeps, IsTransferRing, false_unless, and_false, any_nowhere, IsAmong, ring_found}
+use Rattle.driver_rows.proofs.LowerLaws.{rules, ◌≡◌, ℕ, true, false, Option, Some, None, refl, ap, sym, ◌∙◌, ◌==◌, ◌&&◌, eqb-true, RingKind, is_open, Command, Ring, Header, IsHeader, is_command_kind, is_transfer_kind, is_ring, ring_having, ring_with, Known, unfinished, DriverKeeps, IsTransferRing, false_unless, and_false, any_nowhere, IsAmong, ring_found, having_transfer}
 use Rattle.ownership_rules.specs.Moves as moves
-use Rattle.driver_rows.proofs.RingBindings.RingRecords.{having_transfer}
 
 -- a ring of commands is no transfer ring
 two_kinds : (kind : RingKind) → is_command_kind kind ≡ true → is_transfer_kind kind ≡ true → ⊥

@@ -1,17 +1,8 @@
 -- What is asked of a write which gives one position, or one crossing
-use Rattle.driver_rows.proofs.Words.{rules, ◌≡◌, ℕ, List, [], ◌∷◌, true, false, Some, None, refl, ap, sym, ◌∙◌, length, ◌==◌, not, nat_le, slice_get, slice_index, if◌then◌else◌, cases_lt, nat_tests, slice_get-get_or, slice_get_within, put, Block, is_set, block_at, same_words, with_cycle, word, Shape, address_of, cycle_of, links, link_address, RingView, is_other_than_declared, is_declared_as, is_not_declared, leads_wrong, interrupts, is_wrong_link, link_of, cycle_of_bit, NotDeclared, first_broken, position_tests, inl, inr, get_or, le-leb}
+use Rattle.driver_rows.proofs.Words.{rules, ◌≡◌, ℕ, List, [], ◌∷◌, true, false, Some, None, refl, ap, sym, length, ◌==◌, not, nat_le, slice_get, slice_index, if◌then◌else◌, nat_tests, slice_get_within, put, Block, is_set, block_at, same_words, with_cycle, word, Shape, address_of, cycle_of, links, link_address, RingView, is_other_than_declared, is_declared_as, is_not_declared, leads_wrong, interrupts, is_wrong_link, link_of, cycle_of_bit, NotDeclared, first_broken, position_tests, arith, slice_get_cases}
 
 nothing_there : (xs : List Block) (p : ℕ) → slice_get xs p ≡ None → nat_le (length xs) p ≡ true
-nothing_there xs p none = elim (cases_lt p (length xs)) [
-  | inl below ↦ absurd (some_none (get_or xs p no_block) (sym (slice_get-get_or xs p no_block below) ∙ none))
-  | inr past ↦ le-leb (length xs) p past
-]
-  where
-    no_block : Block
-    no_block = record { w = [] }
-
-    some_none : (b : Block) → Some b ≡ None → ⊥
-    some_none b e = cc
+nothing_there xs p none = grind (arith, slice_get_cases xs p, nat_tests)
 
 -- the Cycle bit as a number
 pub cycle_bit : (shape : Shape) (p : ℕ) → (if cycle_of shape p == 1 then 1 else 0) ≡ cycle_of shape p

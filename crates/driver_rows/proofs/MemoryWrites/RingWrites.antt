@@ -1,9 +1,8 @@
 -- Which rules a write breaks
-use Rattle.driver_rows.proofs.Words.{rules, ◌≡◌, ℕ, ◌%◌, ◌&&◌, not, List, [], ◌∷◌, Bool, true, false, Option, None, Some, refl, ap, ◌∙◌, ◌||◌, map, list_any, touches, positions_given, crossings_given, is_other_than_declared, is_not_declared, is_not_whole, leads_wrong, interrupts, Ring, Header, Write, IsHeader, is_driver_kind, is_event_kind, shape_of, is_three, Command, Known, command_given, positions_of, crossings_of, RingGiving, Position, WriteToOwned, NotAsSubmitted, NotDeclared, NotWhole, LinkFault, BadCommand, Busy, NotInProfile, BadMove, Test, first_of, first_broken, is_the_controllers, has_busy_slot, has_left_out_endpoint, older, places_badly, stricter, writes_to_owned, write_tests, changes_owned, some_given, some_crossed, some_command, holds_of, on_position, on_crossing, broken, lenient_tests, tests, IsLeast, or_left, or_right, or_false, any_append, any_map, any_nowhere, IsAmong, shape_there, GivesOnPosition, given_tests, first_broken-is}
+use Rattle.driver_rows.proofs.LowerLaws.{rules, ◌≡◌, ℕ, ◌%◌, ◌&&◌, not, List, [], ◌∷◌, Bool, true, false, Option, None, Some, refl, ap, ◌∙◌, ◌||◌, list_any, touches, positions_given, crossings_given, is_other_than_declared, is_not_declared, is_not_whole, leads_wrong, interrupts, Ring, Header, Write, IsHeader, is_driver_kind, is_event_kind, shape_of, is_three, Command, Known, command_given, positions_of, crossings_of, RingGiving, Position, WriteToOwned, NotAsSubmitted, NotDeclared, NotWhole, LinkFault, BadCommand, Busy, NotInProfile, BadMove, Test, first_of, first_broken, is_the_controllers, has_busy_slot, has_left_out_endpoint, older, places_badly, stricter, writes_to_owned, write_tests, changes_owned, some_given, some_crossed, some_command, holds_of, on_position, on_crossing, broken, lenient_tests, tests, IsLeast, or_left, or_right, or_false, any_append, any_map, any_nowhere, IsAmong, shape_there, GivesOnPosition, given_tests, first_broken-is, given_by_one, given_nowhere, owned_in_events, or_assoc}
 use Rattle.ring_knowledge.specs.Rings as rings
 use Rattle.ownership_rules.specs.Commands as commands
 use Rattle.ownership_rules.specs.Moves as moves
-use Rattle.driver_rows.proofs.MemoryWrites.OnRing.{given_by_one, given_nowhere, owned_in_events}
 
 -- the tests of a write that isn't to what the controller owns, of what is given of one ring
 module _ (h : Header) (k : Known) (a w : ℕ) (r : Ring) where
@@ -57,9 +56,6 @@ module _ (h : Header) (headed : IsHeader h) (k : Known) (on : k.stopped ≡ fals
       (holds_of (has_left_out_endpoint h k) (command_given h k a w) || some_crossed h k a w (λ r q. interrupts (shape_of h r) k.memory a w q))
       (holds_of (places_badly h k) (command_given h k a w))
 
-  or_assoc : (x y z : Bool) → (x || (y || z)) ≡ ((x || y) || z)
-  or_assoc x y z = search rules
-
   -- the rule on commands of one slot, as the trace's version has it
   busy_is : (c : Option Command) (given crossed : Bool) →
       ((holds_of (commands.shares_slot h k) c && not (is_three h.version)) || (holds_of (commands.is_busy h k) c || given || crossed)) ≡ (holds_of (has_busy_slot h k) c || given || crossed)
@@ -106,25 +102,11 @@ module _ (h : Header) (headed : IsHeader h) (k : Known) (on : k.stopped ≡ fals
     module _ (r : Ring) (among : IsAmong r h.rings) (driver : is_driver_kind r.shape.kind ≡ true) (has : touches r.shape a 4 ≡ true) (free : writes_to_owned h k a w ≡ false) where
       given_is : (test : ℕ → ℕ → Bool) → some_given h k a w test ≡ list_any (test r.id) (positions_given r.shape (k.ring r.id) a w)
       unfolding some_given on_position
-      given_is test =
-          ap (λ gs. list_any (on_position test) gs) (given_by_one h headed k a aligned r among driver has w)
-          ∙ any_append (on_position test) (map (rings.Position r.id) (positions_given r.shape (k.ring r.id) a w)) (map (rings.Crossing r.id) (crossings_given r.shape (k.ring r.id) a w))
-          ∙ rw (
-            any_map (on_position test) (rings.Position r.id) (positions_given r.shape (k.ring r.id) a w),
-            any_map (on_position test) (rings.Crossing r.id) (crossings_given r.shape (k.ring r.id) a w),
-            any_nowhere (λ q. on_position test (rings.Crossing r.id q)) (λ q. refl) (crossings_given r.shape (k.ring r.id) a w),
-          ) (or_false _)
+      given_is test = search (rules, given_by_one h headed k a aligned r among driver has w, any_append, any_map, any_nowhere, or_false)
 
       crossed_is : (test : ℕ → ℕ → Bool) → some_crossed h k a w test ≡ list_any (test r.id) (crossings_given r.shape (k.ring r.id) a w)
       unfolding some_crossed on_crossing
-      crossed_is test =
-          ap (λ gs. list_any (on_crossing test) gs) (given_by_one h headed k a aligned r among driver has w)
-          ∙ any_append (on_crossing test) (map (rings.Position r.id) (positions_given r.shape (k.ring r.id) a w)) (map (rings.Crossing r.id) (crossings_given r.shape (k.ring r.id) a w))
-          ∙ rw (
-            any_map (on_crossing test) (rings.Position r.id) (positions_given r.shape (k.ring r.id) a w),
-            any_nowhere (λ p. on_crossing test (rings.Position r.id p)) (λ p. refl) (positions_given r.shape (k.ring r.id) a w),
-            any_map (on_crossing test) (rings.Crossing r.id) (crossings_given r.shape (k.ring r.id) a w),
-          ) refl
+      crossed_is test = search (rules, given_by_one h headed k a aligned r among driver has w, any_append, any_map, any_nowhere)
 
       module _ (giving : Option RingGiving) (command : Option Command) (positions : positions_given r.shape (k.ring r.id) a w ≡ positions_of giving)
           (crossings : crossings_given r.shape (k.ring r.id) a w ≡ crossings_of giving) (gives : command_given h k a w ≡ command) where

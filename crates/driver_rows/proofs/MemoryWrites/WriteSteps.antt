@@ -1,8 +1,5 @@
 -- What the check of a write answers
-use Rattle.driver_rows.proofs.Words.{rules, ◌≡◌, ℕ, ◌%◌, true, false, Option, None, Some, ap, sym, ◌∙◌, if◌then◌else◌, slice_get, fun_ext, touches, positions_given, crossings_given, Ring, Header, Write, IsHeader, is_command_kind, is_driver_kind, Command, Known, command_given, positions_of, crossings_of, RingGiving, Refusal, first_of, first_broken, writes_to_owned, broken, DriverKeeps, IsAmong, among_at, TraceRecord, FollowsTrace, command_on, given_by_ring, none_nowhere, GivesOnPosition, given_tests, IsAllowed, nothing_broken}
-use Rattle.driver_rows.proofs.MemoryWrites.OnRing.{inside, inside_is}
-use Rattle.driver_rows.proofs.MemoryWrites.CommandsOn.{awaits_none, stays_put}
-use Rattle.driver_rows.proofs.MemoryWrites.RingWrites.{IsStill, nothing_breaks, least_of_ring}
+use Rattle.driver_rows.proofs.MiddleLaws.{rules, ◌≡◌, ℕ, ◌%◌, true, false, Option, None, Some, ap, sym, ◌∙◌, if◌then◌else◌, slice_get, fun_ext, touches, positions_given, crossings_given, Ring, Header, Write, IsHeader, is_command_kind, is_driver_kind, Command, Known, command_given, positions_of, crossings_of, RingGiving, Refusal, first_of, first_broken, writes_to_owned, broken, DriverKeeps, IsAmong, among_at, TraceRecord, FollowsTrace, command_on, given_by_ring, none_nowhere, GivesOnPosition, given_tests, IsAllowed, nothing_broken, inside, inside_is, awaits_none, stays_put, IsStill, nothing_breaks, least_of_ring}
 
 none_some : {X Y : Type 0} (x : X) → None ≡ Some x → Y
 none_some x e = cc
@@ -12,10 +9,7 @@ pub nowhere_allowed : (h : Header) → IsHeader h → (k : Known) → k.stopped 
     ((q : Ring) → IsAmong q h.rings → touches q.shape a 4 ≡ false) → IsAllowed h k a w None
 nowhere_allowed h headed k on a w aligned free none =
     let no_command : command_given h k a w ≡ None = none_nowhere h headed k a w aligned (λ q among. sym (inside_is h headed k a aligned q among) ∙ none q among) in
-    record {
-      clean = nothing_broken (broken h k (Write a w)) (nothing_breaks h headed k on a w aligned none free no_command);
-      command = no_command;
-    }
+    record { clean = nothing_broken (broken h k (Write a w)) (nothing_breaks h headed k on a w aligned none free no_command); command = no_command }
 
 -- one has it
 module _ (h : Header) (headed : IsHeader h) (a w : ℕ) (aligned : a % 4 ≡ 0) (n : ℕ) (r : Ring) (at : slice_get h.rings n ≡ Some r)

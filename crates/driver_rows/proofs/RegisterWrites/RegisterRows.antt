@@ -62,10 +62,7 @@ module _ (h : Header) (r : Register) (v : ℕ) where
       followed_is : FollowsTrace h (register_written h k r v) (record t { registers = registers_; events = events_ }) m
       followed_is = record {
         words = λ a. ap (λ words. words a) same.memory ∙ f.words a;
-        rings = record {
-          as_many = f.rings.as_many;
-          each = λ i q x there is driver. subst (λ (rings : ℕ → RingView). FollowsRing q.shape (rings q.id) x) (sym same.ring) (f.rings.each i q x there is driver);
-        };
+        rings = record { as_many = f.rings.as_many; each = λ i q x at is d. subst (λ (g : ℕ → RingView). FollowsRing q.shape (g q.id) x) (sym same.ring) (f.rings.each i q x at is d) };
         registers = follows_registers;
         events = follows_events;
         devices = subst (λ (l : Known). FollowsDevices l t.devices) learned_is (after_register h k t.devices f.devices r v);
@@ -89,11 +86,8 @@ unfolding register_written valued
 moved_place h k v e f = record { here = f.here; shape = f.shape; reads = f.reads; dequeue = f.dequeue }
 
 pub moved_follows : (h : Header) (k : Known) (r : Register) (v : ℕ) (o : Option EventState) → r ≡ Erdp → IsMoved h k o v → FollowsEvents h (register_written h k r v) o
-moved_follows h k r v o is f = subst (λ (q : Register). FollowsEvents h (register_written h k q v) o) (sym is) (by o f)
-  where
-    by : (o : Option EventState) → IsMoved h k o v → FollowsEvents h (register_written h k Erdp v) o
-    by None f = f
-    by (Some e) f = moved_place h k v e f
+moved_follows h k r v None is f = subst (λ (q : Register). FollowsEvents h (register_written h k q v) None) (sym is) f
+moved_follows h k r v (Some e) is f = subst (λ (q : Register). FollowsEvents h (register_written h k q v) (Some e)) (sym is) (moved_place h k v e f)
 
 -- what ERDP may name, by the rule of the trace's version
 module _ (h : Header) (k : Known) (v : ℕ) where
@@ -116,11 +110,8 @@ module _ (h : Header) (k : Known) (v : ℕ) where
   passed_is s =
       ap (λ n. ((not k.started && is_some (event_ring h) && not (is_event_place (event_shape h) (erdp_address v))) && not (is_three h.version))
       || (not (not k.started && is_some (event_ring h) && not (is_event_place (event_shape h) (erdp_address v))) && not (is_reached_within (event_shape h) k.dequeue n (erdp_address v))))
-      (may k.started refl)
+      (may_is h k s k.started refl)
       ∙ by_tests k.started (is_some (event_ring h)) (is_event_place (event_shape h) (erdp_address v)) reached (is_three h.version) reached_place
-    where
-      may : (b : Bool) → k.started ≡ b → may_pass k ≡ k.reads - k.dequeue
-      may b was = may_is h k s b was
 
 -- a value that names no event place moves nothing
 pub stays_follows : (h : Header) (k : Known) (r : Register) (v : ℕ) (o : Option EventState) → r ≡ Erdp → is_event_place (event_shape h) (erdp_address v) ≡ false → FollowsEvents h k o →

@@ -2,12 +2,9 @@
 use Rattle.driver_rows.proofs.Words.{rules, ◌≡◌, ℕ, Bool, false, ◌||◌, Header, Register, Usbcmd, Crcr, Dcbaap, Config, Erstsz, Erstba, base_address, Known, is_bad_register, is_bad_table, is_written, is_unwritten, is_wrong_size, older, stricter, BadRegister, Reg}
 
 module _ (h : Header) (k : Known) (v : ℕ) where
-  five : (a b c d e : Bool) → (a || b || c || d || e) ≡ (a || (b || (c || (d || e))))
-  five a b c d e = search rules
-
   pub of_erstba : is_bad_register h k Erstba v ≡ (k.started || (is_written k Erstba || (is_unwritten k Erstsz || (is_wrong_size h k || is_bad_table h k (base_address v)))))
   unfolding is_bad_register
-  of_erstba = five k.started (is_written k Erstba) (is_unwritten k Erstsz) (is_wrong_size h k) (is_bad_table h k (base_address v))
+  of_erstba = search rules
 
   -- by the rule of the trace's version
   abbrev pub by_version : Register → Bool

@@ -1,5 +1,5 @@
 -- What values of registers break
-use Rattle.driver_rows.proofs.Words.{rules, ◌≡◌, ℕ, ◌<◌, ◌+◌, ◌*◌, ◌^◌, length, [], ◌∷◌, Bool, true, false, None, refl, ◌&&◌, ◌||◌, not, nat_lt, is_some, list_any, Header, Shape, Usbcmd, Crcr, Dcbaap, Config, Erstsz, Erstba, Erdp, run_bit, reset_bit, Known, is_bad_register, is_late_reset, is_early_start, is_wrong_start, is_written, is_unwritten, is_bad_table, is_bad_area, lists, table_bytes, is_table_fault, IsHeader, event_ring, event_shape, shape_facts, find_some, shape_allowed, Wrong, IsSetUp, same_number}
+use Rattle.driver_rows.proofs.Words.{rules, ◌≡◌, ℕ, ◌<◌, ◌*◌, length, [], ◌∷◌, Bool, true, false, None, refl, ◌&&◌, ◌||◌, not, is_some, list_any, Header, Shape, Usbcmd, Crcr, Dcbaap, Config, Erstsz, Erstba, Erdp, run_bit, reset_bit, Known, is_bad_register, is_late_reset, is_early_start, is_wrong_start, is_written, is_unwritten, is_bad_table, is_bad_area, is_table_fault, IsHeader, event_ring, event_shape, shape_facts, find_some, shape_allowed, Wrong, IsSetUp, same_number}
 
 abbrev either : (started reset run begun lacks wrong : Bool) → Bool
 either started reset run begun lacks wrong = not started && (reset && begun || run && not reset && lacks || run && not reset && wrong)
@@ -26,14 +26,10 @@ module _ (h : Header) (k : Known) (v : ℕ) where
 
 -- where the segment table may not lie
 module _ (h : Header) (k : Known) (base : ℕ) where
-  fault_is : (m : ℕ → ℕ) → ((a : ℕ) → k.memory a ≡ m a) → is_table_fault m base (length (event_shape h).segments) (event_shape h)
-      ≡ (nat_lt (2 ^ 64) (base + table_bytes (event_shape h)) || not (lists k.memory base (event_shape h).segments))
-  fault_is m same = search (rules, same_number)
-
   pub table_is : (m : ℕ → ℕ) → ((a : ℕ) → k.memory a ≡ m a) → (s : Shape) → s ≡ event_shape h → (n : ℕ) → n ≡ length s.segments →
       (is_bad_area h k base (16 * n) || is_table_fault m base n s) ≡ is_bad_table h k base
   unfolding is_bad_table is_bad_area
-  table_is m same s is n size = search (rules, fault_is)
+  table_is m same s is n size = search (rules, same_number)
 
 -- without an event ring ERSTSZ isn't written
 pub no_events_unwritten : {X : Type 0} (h : Header) (k : Known) → IsSetUp h k → is_unwritten k Erstsz ≡ false → event_ring h ≡ None → X

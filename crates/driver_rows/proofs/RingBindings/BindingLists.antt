@@ -1,6 +1,5 @@
 -- What a command binds, endpoint by endpoint
-use Rattle.driver_rows.proofs.Words.{rules, ◌≡◌, ℕ, zero, suc, ◌+◌, ◌-◌, ◌<◌, ◌≤◌, ◌==◌, ◌&&◌, ◌||◌, if◌then◌else◌, Bool, true, false, List, [], ◌∷◌, Option, Some, None, map, refl, ap, sym, ◌∙◌, arith, inl, inr, not, filter, cons_option, filter_map, list_any, range_with_len, option_map, cases_lt, nat_tests, has_flag, input_add_flag, added_endpoints, Command, AddressDevice, ConfigureEndpoint, is_off, Header, is_ring, Known, Binding, binding_in, binds, binds_again, binds_ring, has_repeats, is_among, is_bad_binding, is_bad_place, is_being_bound, is_placed, is_taken, ring_bound, was_ring_bound, RingBinding, Bound, Dequeue, RingSet, HasBound, dequeue_at, dequeue_in, are_bad, binding_at, binding_of, bindings_from, is_bad, is_in_set, is_kept_ring, is_misplaced, is_to, was_bound, has, unchanged, any_same, any_map}
-use Rattle.driver_rows.proofs.RingBindings.Lists.{any_or, map_twice, or_none, or_true, crossed, or_assoc}
+use Rattle.driver_rows.proofs.LowerLaws.{rules, ◌≡◌, ℕ, zero, suc, ◌+◌, ◌-◌, ◌<◌, ◌≤◌, ◌==◌, ◌&&◌, ◌||◌, if◌then◌else◌, Bool, true, false, List, [], ◌∷◌, Some, None, map, refl, ap, sym, ◌∙◌, arith, not, filter, cons_option, filter_map, list_any, range_with_len, option_map, nat_tests, has_flag, input_add_flag, added_endpoints, Command, AddressDevice, ConfigureEndpoint, is_off, Header, is_ring, Known, Binding, binding_in, binds, binds_again, binds_ring, has_repeats, is_among, is_bad_binding, is_bad_place, is_being_bound, is_taken, ring_bound, RingBinding, Bound, RingSet, HasBound, dequeue_in, are_bad, binding_at, binding_of, bindings_from, is_bad, is_in_set, is_misplaced, is_to, was_bound, has, unchanged, any_same, any_map, any_or, map_twice, or_none, or_true, crossed, or_assoc}
 
 pub range_is : (i : ℕ) → i < 32 → range_with_len i (32 - i) ≡ i ∷ range_with_len (i + 1) (32 - (i + 1))
 range_is i below = ap (λ n. range_with_len i n) (let e : 32 - i ≡ suc (32 - (i + 1)) = omega arith in e)
@@ -22,14 +21,7 @@ module _ (h : Header) (k : Known) where
     -- endpoints without a flag are left out
     pub bindings_skipped : (bound : Bound) → HasBound h k c bound → (i j : ℕ) → i ≤ j → ((s : ℕ) → i ≤ s → s < j → s < 32 → has_flag bound.flags s ≡ false) →
         bindings_from h k c i ≡ bindings_from h k c j
-    bindings_skipped bound has i j low clear = unchanged (bindings_from h k c) i j low (λ s first last. elim (cases_lt s 32) [
-      | inl below ↦
-          bindings_next s below
-          ∙ ap (λ o. cons_option o (bindings_from h k c (s + 1)))
-          (ap (option_map (binding_of h))
-          (has.said s below ∙ ap (λ b. if b then Some (dequeue_in h.context_size k.memory bound.context s) else None) (clear s first last below)))
-      | inr past ↦ bindings_end s past ∙ sym (bindings_end (s + 1) (omega (arith, past)))
-    ])
+    bindings_skipped bound has i j low clear = unchanged (bindings_from h k c) i j low (λ s first last. grind (arith, bindings_next s, bindings_end s, bindings_end (s + 1), clear s first last, has.said s))
 
   abbrev pub with_ring : Binding → RingBinding
   with_ring b = record { ring = ring_bound h b; dequeue = record { pointer = b.pointer; cycle = b.cycle } }
@@ -45,15 +37,10 @@ module _ (h : Header) (k : Known) where
   addressed s c bsr false = refl
 
   module _ (s c : ℕ) where
-    one : (i : ℕ) (b : Bool) (xs : List ℕ) →
-        cons_option (option_map (binding_of h) (if b then Some (dequeue_in h.context_size k.memory c i) else None)) (map with_ring (map (binding_in h k c) xs))
-        ≡ map with_ring (map (binding_in h k c) (if b then i ∷ xs else xs))
-    one i b xs = search (rules, same_binding)
-
     added : (n i : ℕ) → 2 ≤ i → filter_map (binding_at h k (ConfigureEndpoint s false c)) (range_with_len i n)
         ≡ map with_ring (map (binding_in h k c) (filter (input_add_flag k.memory c) (range_with_len i n)))
     added zero i low = refl
-    added (suc n) i low = search (rules, nat_tests, one, added n (i + 1) (omega arith))
+    added (suc n) i low = search (rules, nat_tests, same_binding, added n (i + 1) (omega arith))
 
   -- all that a command binds
   pub bindings_all : (c : Command) → bindings_from h k c 1 ≡ map with_ring (binds h k c)
@@ -72,23 +59,15 @@ module _ (h : Header) (k : Known) where
   unfolding binds
   binds_none c e f = search rules
 
-  pub binds_no_ring : (c : Command) (r : ℕ) → binds h k c ≡ [] → binds_ring h k r c ≡ false
-  unfolding binds_ring
-  binds_no_ring c r none = ap (λ bs. list_any (λ b. is_ring r (ring_bound h b)) bs) none
-
   pub nothing_bad : (c : Command) → binds h k c ≡ [] → is_bad_binding h k c ≡ false
   unfolding is_bad_binding has_repeats
   nothing_bad c none = ap (λ bs. list_any (is_bad_place h k c) bs || has_repeats (map (ring_bound h) bs)) none
 
   -- with a set of the rings that unfinished commands bind
   module _ (taken : RingSet) (all : (r : ℕ) → has taken r ≡ is_being_bound h k r) where
-    place_is : (c : Command) (o : Option ℕ) (n : Bool) → (is_in_set taken o || (is_kept_ring h k c o || n)) ≡ (is_taken h k c o || n)
-    unfolding is_taken
-    place_is c o n = search (rules, crossed, or_assoc)
-
     bad_place_is : (c : Command) (b : Binding) → is_bad (is_misplaced h k c) taken (with_ring b) ≡ is_bad_place h k c b
-    unfolding is_bad_place
-    bad_place_is c b = place_is c (ring_bound h b) (not (is_placed h k (ring_bound h b) b))
+    unfolding is_bad_place is_taken
+    bad_place_is c b = search (rules, crossed, or_assoc)
 
     pub bad_is : (c : Command) → are_bad (is_misplaced h k c) taken (bindings_from h k c 1) ≡ is_bad_binding h k c
     unfolding is_bad_binding
@@ -99,16 +78,9 @@ module _ (h : Header) (k : Known) where
   unfolding binds_again
   again_is c = ap (list_any (was_bound k)) (bindings_all c) ∙ any_map (was_bound k) with_ring (binds h k c)
 
-  pub again_none : (c : Command) → binds h k c ≡ [] → binds_again h k c ≡ false
-  unfolding binds_again
-  again_none c none = ap (λ bs. list_any (λ b. was_ring_bound k (ring_bound h b)) bs) none
-
-of_some : (h : Header) (o : Option Dequeue) (b : RingBinding) → option_map (binding_of h) o ≡ Some b → b ≡ binding_of h b.dequeue
-of_some h o b e = search rules
-
 -- the ring of a binding is the one that has the block at its pointer
 pub of_dequeue : (h : Header) (k : Known) (c : Command) (i : ℕ) (b : RingBinding) → binding_at h k c i ≡ Some b → b ≡ binding_of h b.dequeue
-of_dequeue h k c i b e = of_some h (dequeue_at h k c i) b e
+of_dequeue h k c i b e = search rules
 
 -- ---- one binding more
 
@@ -129,9 +101,6 @@ last : (e t n : Bool) → ((e || t) || n) ≡ ((t || n) || e)
 last e t n = search (rules, or_true, or_none)
 
 module _ (bad : RingBinding → Bool) (old new : RingSet) (r : ℕ) (inserted : (q : ℕ) → has new q ≡ (r == q || has old q)) where
-  bad_then : (o : Option ℕ) (n : Bool) → (is_in_set new o || n) ≡ ((is_in_set old o || n) || is_ring r o)
-  bad_then o n = search (rules, or_none, either_way, last)
-
   -- its ring is taken
   pub taken_next : (b : RingBinding) (rest : List RingBinding) → bad b ≡ false → b.ring ≡ Some r → has old r ≡ false →
       are_bad bad old (b ∷ rest) ≡ are_bad bad new rest
@@ -143,7 +112,7 @@ module _ (bad : RingBinding → Bool) (old new : RingSet) (r : ℕ) (inserted : 
       ∙ ap (λ x. list_any (is_bad bad old) rest || (x || has_repeats (map (λ a. a.ring) rest))) (any_map (is_ring r) (λ a. a.ring) rest)
       ∙ sym (or_assoc (list_any (is_bad bad old) rest) (list_any (λ a. is_ring r a.ring) rest) (has_repeats (map (λ a. a.ring) rest)))
       ∙ ap (λ x. x || has_repeats (map (λ a. a.ring) rest))
-      (sym (any_same (is_bad bad new) _ rest (λ a. bad_then a.ring (bad a)) ∙ any_or (is_bad bad old) (λ a. is_ring r a.ring) rest))
+      (sym (any_same (is_bad bad new) _ rest (λ a. search (rules, or_none, either_way, last)) ∙ any_or (is_bad bad old) (λ a. is_ring r a.ring) rest))
 
 -- a bad one
 pub bad_first : (bad : RingBinding → Bool) (taken : RingSet) (b : RingBinding) (rest : List RingBinding) → is_bad bad taken b ≡ true → are_bad bad taken (b ∷ rest) ≡ true

@@ -1,5 +1,5 @@
 -- The flags of the endpoints that a command binds
-use Rattle.driver_rows.proofs.Words.{rules, common_steps, ◌≡◌, ◌==◌, ◌≤◌, ◌+◌, ◌*◌, ◌/◌, ◌^◌, ◌∙◌, ℕ, Bool, true, false, None, Some, ap, arith, inl, inr, refl, sym, ne_eqb, ◌&&◌, if◌then◌else◌, cases_eq, bit_at-pow_other, bit_at-zero, ContextSize, has_flag, input_context_bytes, Command, AddressDevice, ConfigureEndpoint, is_off, Header, Known, FitsMemory, above_control, flag_is, HasBound, dequeue_at, dequeue_in, and_false}
+use Rattle.driver_rows.proofs.Words.{rules, common_steps, ◌≡◌, ◌≤◌, ◌+◌, ◌*◌, ◌/◌, ◌^◌, ℕ, Bool, true, false, None, arith, inl, inr, refl, ne_eqb, cases_eq, bit_at-pow_other, bit_at-zero, ContextSize, has_flag, input_context_bytes, Command, AddressDevice, ConfigureEndpoint, is_off, Header, Known, FitsMemory, above_control, flag_is, HasBound, dequeue_at, and_false}
 
 fits_there : (size : ContextSize) → 0 + input_context_bytes size ≤ 2 ^ 64
 fits_there size = search rules
@@ -19,31 +19,17 @@ module _ (h : Header) (k : Known) where
   pub of_address : (s c : ℕ) (bsr : Bool) → is_off (k.endpoint_state s 1) ≡ true → FitsMemory h.context_size (AddressDevice s bsr c) →
       HasBound h k (AddressDevice s bsr c) (record { flags = 2; context = c })
   of_address s c bsr off fits = record {
-    said = λ i low.
-        let rest : (if (i == 1) && true then Some (dequeue_in h.context_size k.memory c 1) else None) ≡ (if has_flag 2 i then Some (dequeue_in h.context_size k.memory c i) else None) =
-        elim (cases_eq i 1) [
-          | inl same ↦
-              ap (λ (n : ℕ). if (n == 1) && true then Some (dequeue_in h.context_size k.memory c 1) else None) same
-              ∙ ap (λ (n : ℕ). if has_flag 2 n then Some (dequeue_in h.context_size k.memory c n) else None) (sym same)
-          | inr other ↦
-              ap (λ b. if b && true then Some (dequeue_in h.context_size k.memory c 1) else None) (ne_eqb i 1 other)
-              ∙ sym (ap (λ b. if b then Some (dequeue_in h.context_size k.memory c i) else None) (flag_is 2 i 0 (bit_at-pow_other 1 i other)))
-        ]
-        in
-        ap (λ b. if (i == 1) && b then Some (dequeue_in h.context_size k.memory c 1) else None) off ∙ rest;
+    said = λ i low. elim (cases_eq i 1) [
+      | inl same ↦ rw (same, off) refl
+      | inr other ↦ rw (off, ne_eqb i 1 other, flag_is 2 i 0 (bit_at-pow_other 1 i other)) refl
+    ];
     aligned = (fits c refl).0;
     inside = (fits c refl).1;
   }
 
   pub of_configure : (s c word : ℕ) → word ≡ k.memory (c + 4) → FitsMemory h.context_size (ConfigureEndpoint s false c) →
       HasBound h k (ConfigureEndpoint s false c) (record { flags = word / 4 * 4; context = c })
-  of_configure s c word is fits = record {
-    said = λ i low.
-        sym (ap (λ b. if b then Some (dequeue_in h.context_size k.memory c i) else None)
-        (ap (λ w. has_flag (w / 4 * 4) i) is ∙ above_control (k.memory (c + 4)) i));
-    aligned = (fits c refl).0;
-    inside = (fits c refl).1;
-  }
+  of_configure s c word is fits = grind (arith, above_control, fits c refl)
 
   pub of_others : (c : Command) → ((s : ℕ) (bsr : Bool) (n : ℕ) → c ≡ AddressDevice s bsr n → ⊥) → ((s : ℕ) (dc : Bool) (n : ℕ) → c ≡ ConfigureEndpoint s dc n → ⊥) →
       HasBound h k c (record { flags = 0; context = 0 })

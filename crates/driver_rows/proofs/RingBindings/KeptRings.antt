@@ -1,24 +1,14 @@
 -- Which ring an endpoint has that a command doesn't drop
-use Rattle.driver_rows.proofs.Words.{rules, ◌≡◌, ℕ, ◌+◌, ◌<◌, ◌≤◌, ◌==◌, ◌&&◌, ◌||◌, ◌⊎◌, Bool, true, false, Some, None, refl, ap, sym, ◌∙◌, arith, zero, suc, inl, inr, not, nat_le, list_any, range_with_len, and_parts, cases_eq, eqb-true, false≢true, nat_tests, input_drop_flag, is_dropped, Command, ConfigureEndpoint, Header, is_ring, Known, HasEndpoint, drops, is_kept, DriverKeeps, leaves, named, is_same, false_unless, any_nowhere, eq-eqb}
-use Rattle.driver_rows.proofs.RingBindings.Lists.{or_true}
+use Rattle.driver_rows.proofs.LowerLaws.{rules, ◌≡◌, ℕ, ◌+◌, ◌<◌, ◌≤◌, ◌==◌, ◌&&◌, Bool, true, false, Some, refl, ap, sym, ◌∙◌, arith, zero, suc, not, list_any, range_with_len, and_parts, cases_eq, eqb-true, false≢true, nat_tests, is_dropped, Command, ConfigureEndpoint, Header, is_ring, Known, HasEndpoint, drops, is_kept, DriverKeeps, leaves, named, is_same, false_unless, any_nowhere, eq-eqb, or_true}
 
 -- one of the numbers passes
 any_at : (f : ℕ → Bool) (n from i : ℕ) → from ≤ i → i < from + n → f i ≡ true → list_any f (range_with_len from n) ≡ true
 any_at f zero from i low high is = absurd (omega (arith, low, high))
-any_at f (suc n) from i low high is = elim (cases_eq from i) [
-  | inl here ↦ ap (λ b. b || list_any f (range_with_len (from + 1) n)) (ap f here ∙ is)
-  | inr later ↦ ap (λ b. f from || b) (any_at f n (from + 1) i (omega (arith, low, later)) (omega (arith, high)) is) ∙ or_true (f from)
-]
-
-positive : (n : ℕ) → (n ≡ 0 → ⊥) → 0 < n
-positive n e = search rules
+any_at f (suc n) from i low high is = grind (arith, or_true, cases_eq from i, any_at f n (from + 1) i)
 
 -- the slot and the index of an endpoint that has a ring
 pub numbered : (h : Header) (k : Known) → DriverKeeps h k → (s i r : ℕ) → k.ring_of s i ≡ Some r → (0 < s) × (s < 256) × (0 < i) × (i < 32)
-numbered h k keeps s i r has =
-    let some : ((s ≡ 0) ⊎ (i ≡ 0)) → ⊥ = λ zeros. let none : None ≡ Some r = sym (keeps.states.no_endpoint s i zeros) ∙ has in cc none in
-    let below = keeps.numbered s i r has in
-    (positive s (λ zero. some (inl zero)), below.0, positive i (λ zero. some (inr zero)), below.1)
+numbered h k keeps s i r has = grind (arith, keeps.states.no_endpoint s i, keeps.numbered s i r has)
 
 module _ (h : Header) (k : Known) (keeps : DriverKeeps h k) (c : Command) (r : ℕ) where
   -- the endpoint of slot s with index i has the ring, and the command doesn't drop it
@@ -38,8 +28,7 @@ module _ (h : Header) (k : Known) (keeps : DriverKeeps h k) (c : Command) (r : �
 
     kept_by : (b : Bool) → drops k c at.slot at.index ≡ b → is_kept h k c r ≡ not b
     unfolding is_kept
-    kept_by false is =
-        any_at (λ s. list_any (stays s) (range_with_len 1 31)) 255 1 at.slot (omega (arith, bounds.0)) (omega (arith, bounds.1))
+    kept_by false is = any_at (λ s. list_any (stays s) (range_with_len 1 31)) 255 1 at.slot (omega (arith, bounds.0)) (omega (arith, bounds.1))
         (any_at (stays at.slot) 31 1 at.index (omega (arith, bounds.2)) (omega (arith, bounds.3)) (λ j. is_same r (k.ring_of at.slot at.index) at.has j && not (is j)))
     kept_by true is =
         any_nowhere (λ s. list_any (stays s) (range_with_len 1 31)) (λ s. any_nowhere (stays s) (λ i. false_unless (stays s i) (λ e.
@@ -51,17 +40,13 @@ module _ (h : Header) (k : Known) (keeps : DriverKeeps h k) (c : Command) (r : �
     pub kept_is : is_kept h k c r ≡ not (drops k c at.slot at.index)
     kept_is = kept_by (drops k c at.slot at.index) refl
 
-    at_least_two : (i : ℕ) (b : Bool) → (nat_le 2 i && b) ≡ true → 2 ≤ i
-    at_least_two i b e = search (rules, nat_tests)
-
     left_at : (d : Command) → drops k d at.slot at.index ≡ true → list_any (λ i. leaves k d i r) (range_with_len 2 30) ≡ true
     unfolding drops
     left_at (ConfigureEndpoint s false n) is =
         let parts = and_parts (at.slot == s) (is_dropped k.memory n at.index) is in
         let of : at.slot ≡ s = eqb-true at.slot s parts.0 in
-        let low : 2 ≤ at.index = at_least_two at.index (input_drop_flag k.memory n at.index) parts.1 in
-        any_at (λ i. leaves k (ConfigureEndpoint s false n) i r) 30 2 at.index low (omega (arith, bounds.3))
-        (λ j. parts.1 j && is_same r (k.ring_of s at.index) (sym (ap (λ t. k.ring_of t at.index) of) ∙ at.has) j)
+        let low : 2 ≤ at.index = (search (rules, nat_tests)) in
+        any_at (λ i. leaves k (ConfigureEndpoint s false n) i r) 30 2 at.index low (omega (arith, bounds.3)) (search (rules, parts, is_same r (k.ring_of s at.index), of, at.has))
     left_at _ is = absurd (false≢true is)
 
     left_of : (d : Command) (i : ℕ) → leaves k d i r ≡ true → drops k d at.slot at.index ≡ true

@@ -1,6 +1,5 @@
 -- The rings of the endpoints that flags drop, from an index on
-use Rattle.driver_rows.proofs.Words.{rules, ◌≡◌, ℕ, ◌+◌, ◌-◌, ◌<◌, ◌≤◌, ◌&&◌, ◌||◌, ◌∙◌, Bool, true, false, ap, sym, arith, inl, inr, nat_le, list_any, range_with_len, cases_lt, nat_tests, has_flag, Command, ConfigureEndpoint, is_ring, Known, unchanged, is_left, leaves}
-use Rattle.driver_rows.proofs.RingBindings.BindingLists.{range_is}
+use Rattle.driver_rows.proofs.MiddleLaws.{rules, ◌≡◌, ℕ, ◌+◌, ◌-◌, ◌<◌, ◌≤◌, ◌&&◌, ◌||◌, ◌∙◌, Bool, true, false, ap, sym, arith, inl, inr, nat_le, list_any, range_with_len, cases_lt, nat_tests, has_flag, Command, ConfigureEndpoint, is_ring, Known, unchanged, is_left, leaves, range_is}
 
 none_left : (b c : Bool) → ((b && false) && c) ≡ false
 none_left b c = search rules

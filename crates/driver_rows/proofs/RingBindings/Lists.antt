@@ -13,13 +13,10 @@ or_none a = search rules
 pub crossed : (b c d : Bool) → (b || (c || d)) ≡ (c || (b || d))
 crossed b c d = search (rules, or_true)
 
-regrouped : (a b c d : Bool) → ((a || b) || (c || d)) ≡ ((a || c) || (b || d))
-regrouped a b c d = search (rules, crossed)
-
 -- one of two tests passes
 pub any_or : {X : Type 0} (f g : X → Bool) (xs : List X) → list_any (λ x. f x || g x) xs ≡ (list_any f xs || list_any g xs)
 any_or f g [] = refl
-any_or f g (x ∷ xs) = ap (λ r. (f x || g x) || r) (any_or f g xs) ∙ regrouped (f x) (g x) (list_any f xs) (list_any g xs)
+any_or f g (x ∷ xs) = ap (λ r. (f x || g x) || r) (any_or f g xs) ∙ (search (rules, crossed))
 
 pub map_twice : {X Y Z : Type 0} (g : Y → Z) (f : X → Y) (xs : List X) → map g (map f xs) ≡ map (λ x. g (f x)) xs
 map_twice g f [] = refl

@@ -16,12 +16,7 @@ having_transfer h headed a r e = by (find here h.rings) refl e
     by None at e = let none : None ≡ Some r = e in absurd (cc none)
     by (Some q) at e =
         let there = find_some here h.rings q at in
-        let id : q.id ≡ r = cc in
-        record {
-          ring = q;
-          found = ap (ring_with h) (sym id) ∙ ring_found h headed q there.0;
-          kind = (and_parts (is_transfer_kind q.shape.kind) (is_inside q.shape a) there.1).0;
-        }
+        search (rules, ring_found, and_parts, there)
 
 module _ (h : Header) (k : Known) where
   -- something is left on its ring

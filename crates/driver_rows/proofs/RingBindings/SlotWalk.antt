@@ -1,6 +1,5 @@
 -- The unfinished commands slot by slot
-use Rattle.driver_rows.proofs.Words.{rules, ◌≡◌, ℕ, ◌+◌, ◌<◌, ◌&&◌, ◌||◌, Bool, true, false, List, [], ◌∷◌, Option, Some, None, refl, ap, sym, ◌∙◌, arith, is_some, IfSome, option_and_then, slice_get, cons_option, filter_map, list_any, and_parts, false≢true, nat_tests, Block, BlockKind, slot, Command, command_by_kind, command_of, named_slot, Header, command_id, Known, command_at, unfinished, unfinished_positions, IsOnlyAbout, index_of, is_about, is_slot, names, as_list, is_below, names_below, any_same}
-use Rattle.driver_rows.proofs.RingBindings.Lists.{any_or, or_none}
+use Rattle.driver_rows.proofs.LowerLaws.{rules, ◌≡◌, ℕ, ◌+◌, ◌<◌, ◌&&◌, ◌||◌, Bool, true, false, List, [], ◌∷◌, Option, Some, None, refl, ap, sym, ◌∙◌, arith, is_some, IfSome, option_and_then, slice_get, cons_option, filter_map, list_any, and_parts, false≢true, nat_tests, Block, BlockKind, slot, Command, command_by_kind, command_of, named_slot, Header, command_id, Known, command_at, unfinished, unfinished_positions, IsOnlyAbout, index_of, is_about, is_slot, names, as_list, is_below, names_below, any_same, any_or, or_none}
 
 -- ---- a command that a block says names a slot below 256
 

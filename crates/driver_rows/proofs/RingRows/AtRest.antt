@@ -1,6 +1,5 @@
 -- Whether the endpoint that has a ring has stopped
-use Rattle.driver_rows.proofs.Words.{◌≡◌, ◌≢◌, ◌∙◌, ℕ, Bool, true, false, not, Some, sym, ap, arith, false_from_ne_true, is_stopped, Header, Known, is_touched, in_range, false≢true, ring_with, is_transfer_ring, DriverKeeps, has_stopped, HasStopped, stopped_with, with_stopped}
-use Rattle.driver_rows.proofs.RingBindings.KeptRings.{numbered}
+use Rattle.driver_rows.proofs.MiddleLaws.{◌≡◌, ◌≢◌, ◌∙◌, ℕ, Bool, true, false, not, Some, sym, ap, arith, false_from_ne_true, is_stopped, Header, Known, is_touched, in_range, false≢true, ring_with, is_transfer_ring, DriverKeeps, has_stopped, HasStopped, stopped_with, with_stopped, numbered}
 
 module _ (h : Header) (k : Known) (d : DriverKeeps h k) (r : ℕ) where
   -- no endpoint has it

@@ -1,9 +1,7 @@
 -- A ring that comes: the header is one still, and the record follows
-use Rattle.driver_rows.proofs.Words.{rules, ◌≡◌, ◌≢◌, ◌*◌, ◌==◌, ◌∷◌, ◌++◌, ◌∙◌, ◌&&◌, ℕ, true, false, [], None, Some, nat_lt, slice_get, refl, sym, ap, subst, inl, inr, lt-ltb, eq-eqb, length, length-append, ◌+◌, list_all, and_from, and_right, or_from, false≢true, is_shape, rings_overlap, RingView, Header, Ring, IsHeader, clash, is_command_kind, is_event_kind, may_stand_together, ring_with, touches_ring, RingRecord, Known, FollowsRing, FollowsRings, IsIn, DriverKeeps, ring_untouched, header_parts, fails_in, TraceRecord, FollowsTrace, IsComing, forgotten, is_bad_ring, with_ring, all_more, none_found, overlaps_none, together_more, bad_same, f_keeps, fresh, no_ring, segment_some, cleared, cleared_apart, HasOneMore, IsClear}
+use Rattle.driver_rows.proofs.LowerLaws.{rules, ◌≡◌, ◌≢◌, ◌*◌, ◌==◌, ◌∷◌, ◌++◌, ◌∙◌, ◌&&◌, ℕ, true, false, [], None, Some, nat_lt, slice_get, refl, sym, ap, subst, inl, inr, lt-ltb, eq-eqb, length, length-append, ◌+◌, list_all, and_from, and_right, or_from, false≢true, is_shape, rings_overlap, RingView, Header, Ring, IsHeader, clash, is_command_kind, is_event_kind, may_stand_together, ring_with, touches_ring, RingRecord, Known, FollowsRing, FollowsRings, IsIn, DriverKeeps, ring_untouched, header_parts, fails_in, TraceRecord, FollowsTrace, IsComing, forgotten, is_bad_ring, with_ring, all_more, none_found, overlaps_none, together_more, bad_same, f_keeps, fresh, no_ring, segment_some, cleared, cleared_apart, HasOneMore, IsClear, both_push, in_at, other_record}
 use Rattle.safety.proofs.RingChanges.Forgotten as forgets
 use Rattle.safety.proofs.RingChanges.NewRings as comes
-use Rattle.driver_rows.proofs.RingRows.Lists.{both_push, in_at}
-use Rattle.driver_rows.proofs.RingRows.OtherRecords.{other_record}
 
 module _ (h : Header) (is : IsHeader h) (r : Ring) (coming : IsComing r) where
   pub clear_together : IsClear h r → (list_all (λ q. nat_lt q.id 256 && is_shape q.shape) (h.rings ++ r ∷ []) ≡ true) × (may_stand_together (h.rings ++ r ∷ []) ≡ true)
@@ -39,7 +37,8 @@ module _ (h : Header) (is : IsHeader h) (r : Ring) (coming : IsComing r) where
     unfolding forgotten
     rings_still = record {
       as_many = f.rings.as_many;
-      each = λ i q x at there driver. subst (λ v. FollowsRing q.shape v x) (sym (cleared_apart r.id k.ring q.id (other i q at))) (f.rings.each i q x at there driver);
+      each = λ i q x at there driver.
+          subst (λ v. FollowsRing q.shape v x) (sym (cleared_apart r.id k.ring q.id (other i q at))) (f.rings.each i q x at there driver);
     }
 
     rings_more : FollowsRings (with_ring h r) z u.rings.items

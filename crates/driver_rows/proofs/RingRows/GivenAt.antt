@@ -1,21 +1,5 @@
 -- The command that a write gives, by the ring that has the word
-use Rattle.driver_rows.proofs.Words.{rules, ◌≡◌, ◌∷◌, ◌∙◌, ℕ, zero, suc, Bool, true, false, if◌then◌else◌, List, [], Option, Some, None, get_or, length, refl, ap, sym, subst, position, slice_get, slice_get_read, position-Some, RingKind, touches, positions_given, Command, SetTrDequeue, Header, Ring, Row, Write, Bell, IsHeader, is_command_kind, is_driver_kind, Known, command_given, positions_of, Position, none_here, among_at, RowPlace, IsGivenBy, IsGivenOn, IsPlacedSo, ring_moved, ring_restored, some_flips, GivesCommandAt, command_on, command_is, none_nowhere}
-use Rattle.driver_rows.proofs.MemoryWrites.OnRing.{inside_is}
-
-none-some : {X : Type 0} {Y : Type 1} (x : X) → None ≡ Some x → Y
-none-some x e = absurd (cc)
-
--- the ring that a search finds
-touched_at : (p : Ring → Bool) (rs : List Ring) (n : ℕ) → position p rs ≡ Some n → (r : Ring) × (slice_get rs n ≡ Some r) × (p r ≡ true)
-touched_at p [] n found = absurd (cc)
-touched_at p (x ∷ xs) n found =
-    let some = position-Some p (x ∷ xs) n x found in
-    (get_or (x ∷ xs) n x, slice_get_read (x ∷ xs) (length (x ∷ xs)) n (get_or (x ∷ xs) n x) refl some.0 (same_default (x ∷ xs) n x), some.1)
-  where
-    same_default : (rs : List Ring) (n : ℕ) (d : Ring) → get_or rs n d ≡ get_or rs n (get_or rs n d)
-    same_default [] n d = refl
-    same_default (r ∷ rs) zero d = refl
-    same_default (r ∷ rs) (suc n) d = same_default rs n d
+use Rattle.driver_rows.proofs.LowerLaws.{arith, rules, ◌≡◌, ◌∙◌, ℕ, Bool, true, false, if◌then◌else◌, [], Option, Some, None, refl, ap, sym, subst, slice_get, RingKind, touches, positions_given, Command, SetTrDequeue, Header, Ring, Row, Write, Bell, IsHeader, is_command_kind, is_driver_kind, Known, command_given, positions_of, Position, none_here, among_at, RowPlace, IsGivenBy, IsGivenOn, IsPlacedSo, ring_moved, ring_restored, some_flips, GivesCommandAt, command_on, command_is, none_nowhere, inside_is, found_at}
 
 pub command_drives : (kind : RingKind) → is_command_kind kind ≡ true → is_driver_kind kind ≡ true
 command_drives kind e = search rules
@@ -36,9 +20,7 @@ module _ (h : Header) (headed : IsHeader h) (k : Known) (a w : ℕ) (place : Row
 
     module _ (at : place.ring ≡ Some n) (command : is_command_kind ring.shape.kind ≡ true) where
       pub positions_are : positions_given ring.shape (k.ring ring.id) a w ≡ positions_of place.giving
-      positions_are =
-          let given : IsGivenOn k a w ring place.giving = subst (λ (o : Option ℕ). IsGivenBy h k a w o place.giving) at placed.given ring there in
-          given.positions (command_drives ring.shape.kind command)
+      positions_are = grind (arith, IsGivenOn, Option, IsGivenBy, command_drives, subst (λ (o : Option ℕ). IsGivenBy h k a w o place.giving) at placed.given ring there)
 
       given_on : command_given h k a w ≡ command_on (k.ring ring.id) (positions_of place.giving)
       given_on = search (rules, by_ring, positions_are)
@@ -55,7 +37,7 @@ module _ (h : Header) (headed : IsHeader h) (k : Known) (a w : ℕ) (place : Row
 
     module _ (n : ℕ) (at : place.ring ≡ Some n) where
       touched : (q : Ring) × (slice_get h.rings n ≡ Some q) × (touches q.shape a 4 ≡ true)
-      touched = touched_at (λ q. touches q.shape a 4) h.rings n (sym placed.ring ∙ at)
+      touched = found_at (λ q. touches q.shape a 4) h.rings n (sym placed.ring ∙ at)
 
       commands : is_command_kind touched.0.shape.kind ≡ true
       commands = search (rules, touched, not_none, none_on)

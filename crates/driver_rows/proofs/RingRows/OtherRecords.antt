@@ -1,5 +1,5 @@
 -- The record of a trace where other rings are there, so long as what endpoints and commands speak of is as it was
-use Rattle.driver_rows.proofs.Words.{rules, ◌≡◌, ◌∙◌, ℕ, List, Option, filter, option_and_then, slice_get, ap, filter_map, list_any, listed_unfinished, RingView, due_positions, command_of, EventState, Header, Ring, event_ring, Known, command_at, unfinished, unfinished_positions, FollowsRings, binds_ring, is_being_bound, DriverKeeps, TraceRecord, FollowsEvents, FollowsTrace, any_in, OtherRings, bound_still, follows_beside}
+use Rattle.driver_rows.proofs.Words.{rules, ◌≡◌, ◌∙◌, ℕ, List, filter, option_and_then, slice_get, ap, filter_map, list_any, listed_unfinished, RingView, due_positions, command_of, Header, Ring, event_ring, Known, command_at, unfinished, unfinished_positions, FollowsRings, binds_ring, is_being_bound, DriverKeeps, TraceRecord, FollowsTrace, any_in, OtherRings, bound_still, follows_beside}
 
 module _ (h : Header) (rings : List Ring) (k : Known) (views : ℕ → RingView) (d : DriverKeeps h k) (o : OtherRings h rings k views) where
   abbrev g : Header
@@ -21,8 +21,5 @@ module _ (h : Header) (rings : List Ring) (k : Known) (views : ℕ → RingView)
       ap (λ cs. list_any (binds_ring g l r) cs) commands_same
       ∙ any_in (binds_ring g l r) (binds_ring h k r) (unfinished h k) (λ c at. let u = listed_unfinished h k c at in (bound_still h rings k views d o u.0 c u.1).names r)
 
-  events_as_before : event_ring g ≡ event_ring h → (e : Option EventState) → FollowsEvents h k e → FollowsEvents g l e
-  events_as_before f e g = search rules
-
   pub other_record : event_ring g ≡ event_ring h → (t : TraceRecord) (m : ℕ → ℕ) → FollowsTrace h k t m → (u : TraceRecord) → FollowsRings g l u.rings.items → FollowsTrace g l (record t { rings = u.rings }) m
-  other_record events t m f u followed = search (rules, events_as_before, follows_beside, commands_same, bound_as_before)
+  other_record events t m f u followed = search (rules, follows_beside, commands_same, bound_as_before)

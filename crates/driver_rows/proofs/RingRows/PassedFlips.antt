@@ -1,7 +1,6 @@
 -- The ring that a row starts or moves, and the Cycle bits that a write flips, by the ring that has the word
-use Rattle.driver_rows.proofs.Words.{rules, false≢true, ◌≡◌, ◌+◌, ◌%◌, ◌==◌, ◌&&◌, ◌∙◌, ℕ, true, false, not, nat_lt, ap, arith, sym, eqb-true, ceiling, flips_passed, unrestored, address_of, cycle_of, is_inside, touches, RingView, IsShape, Shape, address_inside, Header, Ring, Write, IsHeader, driver_rings, is_driver_kind, is_event_kind, Known, no_driver, one_driver, shape_allowed, together, any_nowhere, false_unless, Apart, IsAmong, same_or_apart, no_driver_event, some_flips}
+use Rattle.driver_rows.proofs.LowerLaws.{rules, false≢true, ◌≡◌, ◌+◌, ◌%◌, ◌==◌, ◌&&◌, ◌∙◌, ℕ, true, false, not, nat_lt, ap, arith, sym, eqb-true, ceiling, flips_passed, unrestored, address_of, cycle_of, is_inside, touches, RingView, IsShape, Shape, address_inside, Header, Ring, Write, IsHeader, driver_rings, is_driver_kind, is_event_kind, Known, no_driver, one_driver, shape_allowed, together, any_nowhere, false_unless, Apart, IsAmong, same_or_apart, no_driver_event, some_flips, inside_is}
 use Rattle.trace_record.proofs.RingFinder.ListTests.{and_left, and_right}
-use Rattle.driver_rows.proofs.MemoryWrites.OnRing.{inside_is}
 
 -- a word outside a ring isn't of its blocks
 pub flips_outside : (shape : Shape) → IsShape shape → (v : RingView) (a w : ℕ) → is_inside shape a ≡ false → flips_passed shape v a w ≡ false

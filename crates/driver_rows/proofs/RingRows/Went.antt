@@ -1,9 +1,6 @@
 -- A ring that goes: the header is one still, and the record follows
-use Rattle.driver_rows.proofs.Words.{rules, ◌≡◌, ◌≢◌, ◌==◌, ◌<◌, ◌∙◌, ℕ, not, true, false, None, Some, filter, length, slice_get, refl, sym, ap, subst, arith, eq-eqb, eqb-true, ne_eqb, Option, list_any, range_with_len, remove, and_from, false_from_ne_true, slice_get_within, length-remove, any_of, false≢true, not_from_false, some_of, RingKind, Xfer, Header, Ring, IsHeader, is_ring, is_transfer_kind, ring_with, Known, FollowsRing, HasEndpoint, FollowsRings, among_at, numbers_apart, ring_found, is_transfer_ring, DriverKeeps, header_parts, in_range, TraceRecord, FollowsTrace, forgotten, is_bad_free, is_had, without_ring, all_kept, together_kept, cleared, cleared_apart, IsTransferAt}
+use Rattle.driver_rows.proofs.MiddleLaws.{rules, ◌≡◌, ◌≢◌, ◌==◌, ◌<◌, ◌∙◌, ℕ, not, true, false, Some, filter, length, slice_get, refl, sym, ap, subst, arith, eq-eqb, eqb-true, ne_eqb, Option, list_any, range_with_len, remove, and_from, false_from_ne_true, slice_get_within, length-remove, any_of, false≢true, not_from_false, some_of, Xfer, Header, Ring, IsHeader, is_ring, ring_with, Known, FollowsRing, HasEndpoint, FollowsRings, among_at, numbers_apart, ring_found, is_transfer_ring, DriverKeeps, header_parts, in_range, TraceRecord, FollowsTrace, forgotten, is_bad_free, is_had, without_ring, all_kept, together_kept, cleared, cleared_apart, IsTransferAt, numbered, another_place, at_remove, kept_others, place_before, other_record}
 use Rattle.safety.proofs.RingChanges.GoneRings as goes
-use Rattle.driver_rows.proofs.RingBindings.KeptRings.{numbered}
-use Rattle.driver_rows.proofs.RingRows.Lists.{another_place, at_remove, kept_others, place_before}
-use Rattle.driver_rows.proofs.RingRows.OtherRecords.{other_record}
 
 -- ---- whether an endpoint has the ring
 
@@ -23,20 +20,16 @@ none_has k id none =
     by s.0 i.0 (k.ring_of s.0 i.0) refl i.2)
   where
     by : (s i : ℕ) (o : Option ℕ) → k.ring_of s i ≡ o → is_ring id o ≡ true → ⊥
-    by s i None at is = false≢true is
-    by s i (Some q) at is = none s i (at ∙ ap (λ n. Some n) (eqb-true q id is))
+    by s i o at is = search (rules, eqb-true)
 
 -- ---- the header, the rings, the record
-
-other_kind : (kind : RingKind) → (kind ≡ Xfer → ⊥) → is_transfer_kind kind ≡ false
-other_kind kind e = search rules
 
 -- the ring with a number has an ID
 pub ring_at : (h : Header) → IsHeader h → (id n : ℕ) (r : Ring) → slice_get h.rings n ≡ Some r → r.id ≡ id → ring_with h id ≡ Some r
 ring_at h is id n r at named = ap (λ i. ring_with h i) (sym named) ∙ ring_found h is r (among_at h.rings n r at)
 
 pub another_there : (h : Header) → IsHeader h → (id n : ℕ) (r : Ring) → slice_get h.rings n ≡ Some r → r.id ≡ id → (r.shape.kind ≡ Xfer → ⊥) → is_transfer_ring (ring_with h id) ≡ false
-another_there h is id n r at named other = ap is_transfer_ring (ring_at h is id n r at named) ∙ other_kind r.shape.kind other
+another_there h is id n r at named other = ap is_transfer_ring (ring_at h is id n r at named) ∙ (search rules)
 
 module _ (h : Header) (is : IsHeader h) (id n : ℕ) (there : IsTransferAt h id n) where
   low : n < length h.rings
@@ -64,10 +57,7 @@ module _ (h : Header) (is : IsHeader h) (id n : ℕ) (there : IsTransferAt h id 
   module _ (k : Known) (d : DriverKeeps h k) (good : is_bad_free h k id ≡ false) (t : TraceRecord) (m : ℕ → ℕ) (f : FollowsTrace h k t m) (u : TraceRecord) (items : u.rings.items ≡ remove t.rings.items n) where
     rings_rest : FollowsRings (record h { rings = remove h.rings n }) (record k { ring = cleared id k.ring }) u.rings.items
     rings_rest = record {
-      as_many =
-          let one = length-remove h.rings n low in
-          let two = length-remove t.rings.items n (omega (arith, low, f.rings.as_many)) in
-          omega (arith, one, two, f.rings.as_many, ap (λ xs. length xs) items);
+      as_many = omega (arith, length-remove h.rings n low, length-remove t.rings.items n (omega (arith, low, f.rings.as_many)), f.rings.as_many, ap (λ xs. length xs) items);
       each = λ i q x at known driver.
           let j = place_before n i in
           let ring_at : slice_get h.rings j ≡ Some q = sym (at_remove h.rings n i low) ∙ at in

@@ -1,6 +1,5 @@
 -- The rule of a descriptor that is withdrawn, from its parts
-use Rattle.driver_rows.proofs.Words.{rules, ◌≡◌, ◌∙◌, ◌⊎◌, ◌||◌, ◌≤◌, ℕ, true, false, refl, ap, Result, IfErr, OnOk, ceiling, RingView, floor_number, Shape, Header, shape_of, Known, has_stopped, is_bad_withdraw, StepFault, IfRefused, Refusal, is_no_descriptor, is_passed, withdraws_badly}
-use Rattle.driver_rows.proofs.RingBindings.Lists.{or_true}
+use Rattle.driver_rows.proofs.LowerLaws.{rules, ◌≡◌, ◌∙◌, ◌⊎◌, ◌||◌, ◌≤◌, ℕ, true, false, refl, ap, Result, IfErr, OnOk, ceiling, RingView, floor_number, Shape, Header, shape_of, Known, has_stopped, is_bad_withdraw, StepFault, IfRefused, Refusal, is_no_descriptor, is_passed, withdraws_badly, or_true}
 
 -- a position that the version lets withdraw isn't below the floor
 pub not_passed : (h : Header) (shape : Shape) (v : RingView) (p : ℕ) → floor_number v ≤ ceiling shape v → is_passed h shape v p ≡ false → floor_number v ≤ p

@@ -1,15 +1,9 @@
 -- The rings that unfinished commands bind behind a write: those of before, and those of the command that it gives
-use Rattle.driver_rows.proofs.Words.{rules, ◌≡◌, ◌||◌, ◌++◌, ◌∷◌, ◌∙◌, ℕ, Bool, List, [], Option, Some, None, ap, sym, IfSome, list_any, put, Command, Header, Write, IsHeader, Known, learned, unfinished, command_given, with_word, DeviceRecord, FollowsDevices, after_word, IsIn, binds_ring, is_being_bound, lenient, DriverKeeps, binds_ring_beside, given_facts, write_leaves, listed_unfinished, beside_old, written_memory, RingSet, has, HoldsBound, FitsMemory, any_in, binds_same, HoldsContexts, IsAligned, IsWith, binds_ring_if}
-use Rattle.driver_rows.proofs.ContextRules.FittingCommands.{aligned_at, good_fits}
-use Rattle.driver_rows.proofs.RingBindings.Lists.{or_none, or_assoc}
-use Rattle.driver_rows.proofs.WriteEffects.GivenNow.{new_command}
-
-or_turned : (a b : Bool) → (a || b) ≡ (b || a)
-or_turned a b = search rules
+use Rattle.driver_rows.proofs.MiddleLaws.{rules, ◌≡◌, ◌||◌, ◌++◌, ◌∷◌, ◌∙◌, ℕ, Bool, List, [], Option, Some, None, ap, sym, IfSome, list_any, put, Command, Header, Write, IsHeader, Known, learned, unfinished, command_given, with_word, DeviceRecord, FollowsDevices, after_word, IsIn, binds_ring, is_being_bound, lenient, DriverKeeps, binds_ring_beside, given_facts, write_leaves, listed_unfinished, beside_old, written_memory, RingSet, has, HoldsBound, FitsMemory, any_in, binds_same, HoldsContexts, IsAligned, IsWith, binds_ring_if, aligned_at, good_fits, or_none, or_assoc, new_command}
 
 -- one element more
 any_with : {X : Type 0} (p : X → Bool) (x : X) (front back : List X) → list_any p (front ++ x ∷ back) ≡ (list_any p (front ++ back) || p x)
-any_with p x [] back = or_turned (p x) (list_any p back)
+any_with p x [] back = search rules
 any_with p x (y ∷ front) back = ap (λ b. p y || b) (any_with p x front back) ∙ sym (or_assoc (p y) (list_any p (front ++ back)) (p x))
 
 given_aligned : (h : Header) (k : Known) (a w : ℕ) (c : Command) → command_given h k a w ≡ Some c → IsAligned c

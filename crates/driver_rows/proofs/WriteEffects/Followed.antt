@@ -22,10 +22,7 @@ module _ (h : Header) (k : Known) (a w : ℕ) where
   view_same q = sym (written_ring h k a w q)
 
   rings_still : (records : List RingRecord) → FollowsRings h (with_word h k a w) records → FollowsRings h l records
-  rings_still records f = record {
-    as_many = f.as_many;
-    each = λ i ring r there is driver. subst (λ v. FollowsRing ring.shape v r) (view_same ring.id) (f.each i ring r there is driver);
-  }
+  rings_still records f = record { as_many = f.as_many; each = λ i ring r there is driver. subst (λ v. FollowsRing ring.shape v r) (view_same ring.id) (f.each i ring r there is driver) }
 
   module _ (got : Option (ℕ × ℕ)) (is_taken : got ≡ taken h k a w) where
     pub devices_then : (before after : DeviceRecord) → ((h : Header) (k : Known) → FollowsDevices k before → FollowsDevices (with_device h k got) after) →

@@ -1,5 +1,5 @@
 -- The endpoint that a given command names
-use Rattle.driver_rows.proofs.Words.{rules, ◌≡◌, ℕ, ◌<◌, false, Option, Some, None, arith, option_and_then, slice_get, or_parts, Block, BlockKind, endpoint, Command, command_by_kind, command_of, named_endpoint, Header, command_id, Known, command_at, command_given, IsEndpoint, NamesEndpoint}
+use Rattle.driver_rows.proofs.Words.{rules, ◌≡◌, ℕ, ◌<◌, false, Option, Some, None, option_and_then, slice_get, or_parts, Block, BlockKind, Command, command_by_kind, command_of, named_endpoint, Header, command_id, Known, command_at, command_given, NamesEndpoint}
 use Rattle.ownership_rules.specs.Commands as commands
 
 -- ---- its index is below 32
@@ -12,32 +12,18 @@ abbrev AllBelow : Option Command → Type 0
 AllBelow None = Unit {0}
 AllBelow (Some c) = IsBelow (named_endpoint c)
 
-endpoint_below : (b : Block) → endpoint b < 32
-endpoint_below b = omega arith
-
 of_kind : (n : BlockKind) (b : Block) → AllBelow (command_by_kind n b)
-of_kind n b = search (rules, endpoint_below)
-
-of_block : (b : Block) → AllBelow (command_of b)
-of_block b = search (rules, of_kind)
+of_kind n b = search rules
 
 of_declared : (o : Option Block) → AllBelow (option_and_then command_of o)
-of_declared o = search (rules, of_block)
+of_declared o = search (rules, of_kind)
 
 at_position : (h : Header) (k : Known) (p : ℕ) → AllBelow (command_at h k p)
 unfolding command_at
 at_position h k p = of_declared (slice_get (k.ring (command_id h)).queue p)
 
-of_given : (h : Header) (k : Known) (a w : ℕ) → AllBelow (command_given h k a w)
-unfolding command_given
-of_given h k a w = search (rules, at_position)
-
 -- ---- and isn't 0, where the command is good
 
-names_some : (k : Known) (o : Option (ℕ × ℕ)) → IsBelow o → commands.names_disabled_endpoint k o ≡ false → IsEndpoint o
-unfolding commands.names_disabled_endpoint
-names_some k o e f = search (rules, or_parts)
-
 pub given_endpoint : (h : Header) (k : Known) (a w : ℕ) (c : Command) → command_given h k a w ≡ Some c → commands.is_bad_command h k c ≡ false → NamesEndpoint c
-unfolding commands.is_bad_command
-given_endpoint h k a w c at good = search (rules, names_some, of_given, or_parts)
+unfolding commands.is_bad_command command_given commands.names_disabled_endpoint
+given_endpoint h k a w c at good = search (rules, at_position, or_parts)

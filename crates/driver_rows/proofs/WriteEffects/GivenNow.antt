@@ -1,14 +1,9 @@
 -- What a write that breaks no rule gives: a command that nothing excludes, and a device context that lies where it may
-use Rattle.driver_rows.proofs.Words.{rules, ◌≡◌, ℕ, ◌+◌, ◌^◌, ◌≤◌, false, List, [], ◌∷◌, Option, Some, None, refl, ap, sym, ◌∙◌, arith, inl, inr, subst, Contains, nat_lt, option_and_then, filter_map, cases_lt, lt-ltb, eq-eqb, false≢true, put, positions_given, gives_is, position_given_is, Command, AddressDevice, Header, Write, IsHeader, shape_of, command_id, Known, unfinished, device_named, entry_of, no_device, taken_device, command_given, slots, lenient, DeviceKeeps, DriverKeeps, ring_shape, due_has_ring, area_parts, taking, after_write, taken, written_device, written_device_none, given_facts, rules_of, written_devices, Inserted, GivesOne, allowed_gives, written_with, written_without, device_contexts, IsInserted, IsWith, MayBeGiven, EntryFits, LiesOnWords, address_taken}
+use Rattle.driver_rows.proofs.LowerLaws.{rules, ◌≡◌, ℕ, ◌+◌, ◌^◌, ◌≤◌, List, [], ◌∷◌, Option, Some, None, refl, ap, sym, ◌∙◌, arith, inl, subst, Contains, option_and_then, filter_map, eq-eqb, false≢true, positions_given, gives_is, position_given_is, Command, AddressDevice, Header, Write, IsHeader, shape_of, command_id, Known, unfinished, device_named, entry_of, no_device, taken_device, command_given, slots, lenient, DeviceKeeps, DriverKeeps, ring_shape, due_has_ring, area_parts, taking, after_write, taken, written_device, written_device_none, given_facts, rules_of, written_devices, Inserted, GivesOne, allowed_gives, written_with, written_without, device_contexts, IsInserted, IsWith, MayBeGiven, EntryFits, LiesOnWords, address_taken, given_endpoint, listed_with, nat_tests}
 use Rattle.ownership_rules.specs.Commands as commands
-use Rattle.driver_rows.proofs.WriteEffects.GivenEndpoint.{given_endpoint}
-use Rattle.driver_rows.proofs.WriteEffects.SlotLists.{listed_with}
 
 inserted : {X : Type 0} (x : X) (old new : List X) → Inserted x old new → IsInserted x old new
 inserted x old new i = record { front = i.front; back = i.back; was = i.was; is = i.is }
-
-below_end : (n m : ℕ) → nat_lt m n ≡ false → n ≤ m
-below_end n m fails = elim (cases_lt m n) [ inl low ↦ absurd (false≢true (sym fails ∙ lt-ltb m n low)) | inr high ↦ high ]
 
 module _ (h : Header) (is : IsHeader h) (k : Known) (d : DriverKeeps h k) (a w : ℕ) (clean : lenient h k (Write a w) ≡ []) where
   abbrev l : Known
@@ -22,8 +17,7 @@ module _ (h : Header) (is : IsHeader h) (k : Known) (d : DriverKeeps h k) (a w :
   at_most_one (p ∷ ps) some =
       let here : Contains (positions_given (shape_of h (command_id h)) (k.ring (command_id h)) a w) p = subst (λ xs. Contains xs p) (sym some) (0, omega arith, refl) in
       let gives = (position_given_is (shape_of h (command_id h)) (k.ring (command_id h)) a w p here).1 in
-      let due = (gives_is (shape_of h (command_id h)) (k.ring (command_id h)).floor p a w gives).due in
-      allowed_gives h k a w (ring_shape h is (command_id h) (due_has_ring h is (k.ring (command_id h)).floor p due)).is
+      grind (arith, gives_is, allowed_gives, ring_shape, due_has_ring)
 
   gives_one : GivesOne h k a w
   gives_one = at_most_one (positions_given (shape_of h (command_id h)) (k.ring (command_id h)) a w) refl
@@ -40,7 +34,7 @@ module _ (h : Header) (is : IsHeader h) (k : Known) (d : DriverKeeps h k) (a w :
   -- ---- the device context
 
   entry_ends : (s n : ℕ) → taken h k a w ≡ Some (s, n) → entry_of k s + 8 ≤ 2 ^ 64
-  entry_ends s n at = below_end (entry_of k s + 8) (2 ^ 64) (area_parts h k (entry_of k s) 8 (rules_of h is k d a w clean (s, n) at).entry_area).ends
+  entry_ends s n at = grind (arith, nat_tests, (area_parts h k (entry_of k s) 8 (rules_of h is k d a w clean (s, n) at).entry_area).ends)
 
   -- where the entry that names it lies
   pub entry_fits : (o : Option Command) → o ≡ command_given h k a w → EntryFits k o
@@ -51,10 +45,7 @@ module _ (h : Header) (is : IsHeader h) (k : Known) (d : DriverKeeps h k) (a w :
   entry_fits (Some _) at = tt
 
   kept_device : (e : ℕ × ℕ) → taken h k a w ≡ Some e → DeviceKeeps h l e.0 e.1
-  kept_device e at = written_devices h is k d a w clean e.0 e.1 (ap (λ f. f e.0) (written_device h k a w e at) ∙ here)
-    where
-      here : put k.device e.0 (Some e.1) e.0 ≡ Some e.1
-      here = rw (eq-eqb e.0 e.0 refl) refl
+  kept_device e at = written_devices h is k d a w clean e.0 e.1 (ap (λ f. f e.0) (written_device h k a w e at) ∙ rw (eq-eqb e.0 e.0 refl) refl)
 
   -- where it lies itself
   lies_by : (o : Option (ℕ × ℕ)) → taken h k a w ≡ o → LiesOnWords h.context_size o

@@ -1,7 +1,5 @@
 -- The records of rings after the ring that has a word has noted its write
-use Rattle.driver_rows.proofs.Words.{rules, ◌≡◌, ℕ, ◌%◌, List, true, false, Some, ap, sym, ◌∙◌, set, subst, slice_get, is_inside, touches, RingView, Writes, changed, touches-word, Ring, Header, IsHeader, is_driver_kind, RingRecord, FollowsRing, Known, with_word, FollowsRings, false_unless, IsAmong, Apart, among_at, shape_allowed, shape_there}
-use Rattle.driver_rows.proofs.WriteEffects.WordsOutside.{nothing_changed}
-use Rattle.driver_rows.proofs.DoorbellRows.Followed.{rings_noted}
+use Rattle.driver_rows.proofs.MiddleLaws.{rules, ◌≡◌, ℕ, ◌%◌, List, true, false, Some, ap, sym, ◌∙◌, set, subst, slice_get, is_inside, touches, RingView, Writes, changed, touches-word, Ring, Header, IsHeader, is_driver_kind, RingRecord, FollowsRing, Known, with_word, FollowsRings, false_unless, IsAmong, among_at, shape_allowed, shape_there, nothing_changed, rings_noted}
 
 module _ (h : Header) (headed : IsHeader h) (a w : ℕ) (aligned : a % 4 ≡ 0) (k : Known) (records : List RingRecord) (f : FollowsRings h k records) where
   view_written : (q : Ring) → IsAmong q h.rings → (with_word h k a w).ring q.id ≡ changed q.shape (k.ring q.id) (Writes a w)
@@ -25,13 +23,10 @@ module _ (h : Header) (headed : IsHeader h) (a w : ℕ) (aligned : a % 4 ≡ 0) 
 
   -- ring n has it
   module _ (n : ℕ) (ring : Ring) (at : slice_get h.rings n ≡ Some ring) (has : touches ring.shape a 4 ≡ true) where
-    others : (q : Ring) → IsAmong q h.rings → Apart q ring → is_inside q.shape a ≡ false
-    others q among apart = search (rules, false_unless, inside_is, among_at)
-
     pub noted_here : (old new : RingRecord) (after : List RingRecord) → slice_get records n ≡ Some old → after ≡ set records n new →
         (is_driver_kind ring.shape.kind ≡ true → FollowsRing ring.shape (k.ring ring.id) old → FollowsRing ring.shape (changed ring.shape (k.ring ring.id) (Writes a w)) new) →
         FollowsRings h (with_word h k a w) after
     noted_here old new after was is noted =
         subst (FollowsRings h (with_word h k a w)) (sym is)
-        (rings_noted h headed k (with_word h k a w) records f n ring at (λ q among apart r g. other_written q among (others q among apart) r g) new
+        (rings_noted h headed k (with_word h k a w) records f n ring at (λ q among apart r g. other_written q among (search (rules, false_unless, inside_is, among_at)) r g) new
         (λ driver. subst (λ (v : RingView). FollowsRing ring.shape v new) (sym (view_written ring (among_at h.rings n ring at))) (noted driver (f.each n ring old at was driver))))

@@ -1,5 +1,5 @@
 -- What a new device context of one slot adds to those of all slots
-use Rattle.driver_rows.proofs.Words.{rules, ◌≡◌, ◌≢◌, ℕ, zero, suc, ◌+◌, ◌<◌, ◌≤◌, List, [], ◌∷◌, Option, Some, None, refl, ap, sym, ◌∙◌, arith, inl, inr, subst, ◌==◌, filter_map, cons_option, range_with_len, cases_Bool, eqb-true, ne_eqb, false≢true, eq-eqb, put, IsInserted}
+use Rattle.driver_rows.proofs.Words.{rules, ◌≡◌, ◌≢◌, ℕ, zero, suc, ◌+◌, ◌<◌, ◌≤◌, List, ◌∷◌, Option, Some, None, refl, ap, sym, ◌∙◌, arith, inl, inr, subst, ◌==◌, filter_map, cons_option, range_with_len, cases_Bool, eqb-true, ne_eqb, false≢true, eq-eqb, put, IsInserted}
 
 -- a list with one more element in front
 in_front : (x : ℕ) (o : Option ℕ) (old new : List ℕ) → IsInserted x old new → IsInserted x (cons_option o old) (cons_option o new)
@@ -25,15 +25,7 @@ module _ (f : ℕ → Option ℕ) (s d : ℕ) where
       IsInserted d (filter_map f (range_with_len from count)) (filter_map (put f s (Some d)) (range_with_len from count))
   listed_with from zero fresh low high = absurd (omega arith)
   listed_with from (suc n) fresh low high = elim (cases_Bool (from == s)) [
-    | inl same ↦
-        let here : from ≡ s = eqb-true from s same in
-        record {
-          front = [];
-          back = filter_map f (range_with_len (from + 1) n);
-          was = ap (λ o. cons_option o (filter_map f (range_with_len (from + 1) n))) (ap f here ∙ fresh);
-          is = ap (λ o. cons_option o (filter_map (put f s (Some d)) (range_with_len (from + 1) n))) (put_same from here)
-              ∙ ap (λ l. d ∷ l) (listed_above (from + 1) n (omega arith));
-        }
+    | inl same ↦ grind (arith, eqb-true, put_same, listed_above)
     | inr other ↦
         let apart : from ≢ s = λ same. false≢true (sym other ∙ eq-eqb from s same) in
         in_front_alike d (f from) (put f s (Some d) from) (filter_map f (range_with_len (from + 1) n)) (filter_map (put f s (Some d)) (range_with_len (from + 1) n))

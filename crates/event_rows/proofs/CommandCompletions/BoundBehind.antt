@@ -1,5 +1,5 @@
 -- The rings that unfinished commands bind behind a completion: those of before, but for those of the command that ended
-use Rattle.event_rows.proofs.Words.{rules, ◌≡◌, ◌||◌, ◌∷◌, ◌∙◌, ℕ, Bool, true, false, List, [], Some, ap, refl, sym, inl, inr, ◌==◌, ◌&&◌, if◌then◌else◌, not, list_any, and_parts, Block, code, slot, Command, can_succeed, Header, Config, IsHeader, command_id, register_or_zero, Known, completed, command_at, next_command, unfinished, IsIn, can_finish, is_impossible_completion, was_stop_seen, binds_ring, is_being_bound, DriverKeeps, IsDriverRing, IsUnfinished, Beside, binds_ring_beside, Changed, changed_by_code, beside_finished, unfinished_before, CompletionFacts, by_completion, next_unfinished, command_is_ring, completion_same, listed_unfinished, RingSet, has, HoldsBound, FitsMemory, any_in, aligned_at, good_fits}
+use Rattle.event_rows.proofs.Words.{arith, rules, ◌≡◌, ◌||◌, ◌∷◌, ◌∙◌, ℕ, Bool, true, false, List, [], Some, ap, refl, sym, inl, inr, ◌==◌, ◌&&◌, if◌then◌else◌, not, list_any, and_parts, Block, code, slot, Command, can_succeed, Header, Config, IsHeader, command_id, register_or_zero, Known, completed, command_at, next_command, unfinished, IsIn, can_finish, is_impossible_completion, was_stop_seen, binds_ring, is_being_bound, DriverKeeps, IsDriverRing, IsUnfinished, Beside, binds_ring_beside, Changed, changed_by_code, beside_finished, unfinished_before, CompletionFacts, by_completion, next_unfinished, command_is_ring, completion_same, listed_unfinished, RingSet, has, HoldsBound, FitsMemory, any_in, aligned_at, good_fits}
 use Rattle.event_rows.proofs.CommandCompletions.Finished.{unfinished_is, was_started}
 
 none_in : {X : Type 0} (p : X → Bool) (xs : List X) → ((x : X) → IsIn x xs → p x ≡ false) → list_any p xs ≡ false
@@ -37,8 +37,7 @@ module _ (h : Header) (is : IsHeader h) (k : Known) (d : DriverKeeps h k) (b : B
   before = unfinished_before h is k d b ring
 
   stays : (p : ℕ) (c : Command) → IsUnfinished h l p c → Beside h k l c
-  stays p c u =
-      let was = before p c u in
+  stays p c u = let was = before p c u in
       beside_finished h is k d (next_command h k) e ends changed.slot changed.part l (completion_same h k b) changed.others p c was.0 was.1 (λ t i its. changed.apart p c t i was.0 was.1 its)
 
   -- what is unfinished still binds what it bound, and none of it is the command's
@@ -46,17 +45,11 @@ module _ (h : Header) (is : IsHeader h) (k : Known) (d : DriverKeeps h k) (b : B
   left_same r c among = let at = listed_unfinished h l c among in sym (binds_ring_beside h k l c (stays at.0 c at.1) r)
 
   unshared : (r : ℕ) → binds_ring h k r e ≡ true → (c : Command) → IsIn c (unfinished h l) → binds_ring h k r c ≡ false
-  unshared r bound c among =
-      let at = listed_unfinished h l c among in
-      let was = before at.0 c at.1 in
-      (d.unfinished (next_command h k) e ends).unshared r at.0 c bound was.0 was.1
+  unshared r bound c among = let at = listed_unfinished h l c among in let was = before at.0 c at.1 in (d.unfinished (next_command h k) e ends).unshared r at.0 c bound was.0 was.1
 
   pub bound_behind : (old new : RingSet) → HoldsBound h k old → ((r : ℕ) → has new r ≡ (has old r && not (binds_ring h k r e))) → HoldsBound h l new
   unfolding is_being_bound
-  bound_behind old new was forgets r =
-      forgets r ∙ ap (λ x. x && not (binds_ring h k r e)) (was r ∙ ap (λ cs. list_any (binds_ring h k r) cs) (unfinished_is h is k d b possible e here))
-      ∙ without_first (binds_ring h k r e) (list_any (binds_ring h k r) (unfinished h l)) (λ bound. none_in (binds_ring h k r) (unfinished h l) (unshared r bound))
-      ∙ any_in (binds_ring h k r) (binds_ring h l r) (unfinished h l) (left_same r)
+  bound_behind old new was forgets r = grind (arith, unfinished_is, without_first, none_in, unshared, any_in, left_same)
 
   -- its context lies in memory
   pub ending_fits : FitsMemory h.context_size e

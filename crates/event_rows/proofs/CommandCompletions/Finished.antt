@@ -1,7 +1,5 @@
 -- The end of the next command, where the driver has kept the rules
-use Rattle.event_rows.proofs.Words.{rules, ◌≡◌, ◌+◌, ◌<◌, ◌≤◌, ◌==◌, ◌∙◌, ◌∷◌, ◌^◌, ℕ, true, false, Some, None, ap, sym, refl, arith, nat_lt, eq-eqb, ne_eqb, cons_option, cond-true, cond-false, false≢true, or_parts, nat_tests, put, Block, code, slot, after, RingView, Reaches, floor_number, ceiling, input_context_bytes, Command, DisableSlot, StopEndpoint, named_context, changes, Header, IsHeader, command_id, shape_of, HasRoom, Known, command_at, next_command, on_ring, unfinished, completed, finished, stop_ended, unfinished_completed, is_soiled, is_bad_area, has_bad_context, can_finish, is_impossible_completion, IsDriverRing, CommandKeeps, DriverKeeps, Unstarted, MayChangeAll, area_parts, bad_command_context, rings_of, endpoints_of, finish_elsewhere, ring_shape, CompletionFacts, by_completion, command_holds, next_at_floor, next_unfinished, ceiling_given, still_places, AtFloor, command_is_ring, AreSlots, IsNextGiven, succeeded_if}
-use Rattle.event_rows.proofs.CommandCompletions.Ends.{none_finishes}
-use Rattle.event_rows.proofs.CommandCompletions.Rest.{devices_by, disable_one, finished_rest, others_none}
+use Rattle.event_rows.proofs.LowerLaws.{rules, ◌≡◌, ◌+◌, ◌<◌, ◌≤◌, ◌==◌, ◌∙◌, ◌∷◌, ◌^◌, ℕ, true, false, Some, None, ap, sym, refl, arith, eq-eqb, ne_eqb, cons_option, cond-true, cond-false, false≢true, or_parts, nat_tests, put, Block, code, slot, after, RingView, Reaches, floor_number, ceiling, input_context_bytes, Command, DisableSlot, StopEndpoint, named_context, changes, Header, IsHeader, command_id, shape_of, HasRoom, Known, command_at, next_command, on_ring, unfinished, completed, finished, stop_ended, unfinished_completed, has_bad_context, can_finish, is_impossible_completion, IsDriverRing, CommandKeeps, DriverKeeps, Unstarted, MayChangeAll, area_parts, bad_command_context, rings_of, endpoints_of, finish_elsewhere, ring_shape, CompletionFacts, by_completion, command_holds, next_at_floor, next_unfinished, ceiling_given, still_places, AtFloor, command_is_ring, AreSlots, IsNextGiven, succeeded_if, none_finishes, devices_by, disable_one, finished_rest, others_none}
 
 -- ---- what stops
 
@@ -34,14 +32,9 @@ module _ (h : Header) (k : Known) (b : Block) (c : Command) where
 
 -- ---- what the driver has kept
 
-fits : (n : ℕ) → nat_lt (2 ^ 64) n ≡ false → n ≤ 2 ^ 64
-fits n e = grind (arith, nat_tests, e)
-
 context_room : (h : Header) (k : Known) (n : ℕ) → has_bad_context h k (Some n) ≡ false → n + input_context_bytes h.context_size ≤ 2 ^ 64
 unfolding has_bad_context
-context_room h k n good =
-    fits (n + input_context_bytes h.context_size)
-    (area_parts h k n (input_context_bytes h.context_size) (or_parts (is_bad_area h k n (input_context_bytes h.context_size)) (is_soiled k n (input_context_bytes h.context_size)) good).0).ends
+context_room h k n good = grind (arith, area_parts h k n (input_context_bytes h.context_size), or_parts, nat_tests)
 
 room_of : (h : Header) (k : Known) (c : Command) → has_bad_context h k (named_context c) ≡ false → HasRoom h.context_size c
 room_of h k c e = search (rules, context_room)
@@ -78,10 +71,7 @@ module _ (h : Header) (headed : IsHeader h) (k : Known) (d : DriverKeeps h k) (b
   ring = command_is_ring h k d was_started
 
   next_given : IsNextGiven h k
-  next_given = record {
-    given = let low = ceiling_given (shape_of h (command_id h)) (ring_shape h headed (command_id h) ring).is k.memory (k.ring (command_id h)) (d.rings (command_id h) ring) in omega (arith, low, facts.below);
-    declared = (d.rings (command_id h) ring).given_declared (next_command h k) floor.given;
-  }
+  next_given = search (rules, floor, (d.rings (command_id h) ring).given_declared, ring, facts, ceiling_given (shape_of h (command_id h)) (ring_shape h headed (command_id h) ring).is k.memory (k.ring (command_id h)) (d.rings (command_id h) ring))
 
   module _ (c : Command) (here : command_at h k (next_command h k) ≡ Some c) where
     keeps : CommandKeeps h k (next_command h k) c

@@ -1,6 +1,5 @@
 -- What the record of a trace holds behind a completion
-use Rattle.event_rows.proofs.Words.{rules, ◌≡◌, ◌∙◌, ℕ, Option, ap, sym, subst, RingChange, device_context_bytes, input_context_bytes, Header, EventState, RegisterRecord, Known, on_ring, unfinished, FollowsRegisters, FollowsRings, FollowsDevices, FollowsUnfinished, follows_beside, HoldsAreas, HoldsSoiled, TraceRecord, FollowsEvents, FollowsTrace, device_contexts, inputs_of, HoldsBound}
-use Rattle.event_rows.proofs.CommandCompletions.Rest.{IsRest}
+use Rattle.event_rows.proofs.LowerLaws.{arith, rules, ◌≡◌, ℕ, Option, RingChange, device_context_bytes, input_context_bytes, Header, EventState, RegisterRecord, Known, on_ring, unfinished, FollowsRegisters, FollowsRings, FollowsDevices, FollowsUnfinished, follows_beside, HoldsAreas, HoldsSoiled, TraceRecord, FollowsEvents, FollowsTrace, device_contexts, inputs_of, HoldsBound, IsRest}
 
 module _ (k l : Known) (f : ℕ → Option ℕ) (rest : IsRest k l f) where
   registers_still : (r : RegisterRecord) → FollowsRegisters k r → FollowsRegisters l r
@@ -17,10 +16,6 @@ module _ (h : Header) (k l : Known) (r : ℕ) (change : RingChange) (t new : Tra
   unfolding on_ring
   on_devices f = follows_beside l behind new.devices f
 
-  on_rest : (f : ℕ → Option ℕ) → IsRest k l f → IsRest k behind f
-  unfolding on_ring
-  on_rest f rest = search rules
-
   on_contexts : HoldsAreas (device_context_bytes h.context_size) (device_contexts l) new.contexts → HoldsAreas (device_context_bytes h.context_size) (device_contexts behind) new.contexts
   unfolding on_ring
   on_contexts holds = holds
@@ -30,17 +25,7 @@ module _ (h : Header) (k l : Known) (r : ℕ) (change : RingChange) (t new : Tra
       FollowsRings h behind new.rings.items → FollowsDevices l new.devices → FollowsUnfinished (unfinished h behind) new.commands → HoldsBound h behind new.bound →
       HoldsAreas (input_context_bytes h.context_size) (inputs_of (unfinished h behind)) new.inputs →
       HoldsAreas (device_context_bytes h.context_size) (device_contexts l) new.contexts → FollowsTrace h behind new memory
+  unfolding on_ring
   followed_behind f rest registers events soiled rings devices commands bound inputs contexts =
-      let on : IsRest k behind f = on_rest f rest in
-      record {
-        words = λ a. ap (λ m. m a) on.memory ∙ follows.words a;
-        rings = rings;
-        registers = subst (λ (x : RegisterRecord). FollowsRegisters behind x) (sym registers) (registers_still k behind f on t.registers follows.registers);
-        events = subst (λ (x : Option EventState). FollowsEvents h behind x) (sym events) (events_still k behind f on h t.events follows.events);
-        devices = on_devices devices;
-        commands = commands;
-        bound = bound;
-        inputs = inputs;
-        contexts = on_contexts contexts;
-        soiled = subst (λ s. HoldsSoiled behind.soiled s) (sym soiled) (subst (λ g. HoldsSoiled g t.soiled) (sym on.soiled) follows.soiled);
-      }
+      let on : IsRest k behind f = (search rules) in
+      grind (arith, FollowsRegisters, registers_still, Option, EventState, FollowsEvents, events_still, on_devices, on_contexts, HoldsSoiled)

@@ -1,6 +1,6 @@
 -- The records of rings where the ring with an ID has changed, by its number
-use Rattle.event_rows.proofs.Words.{rules, ◌≡◌, ◌≤◌, ◌<◌, ◌==◌, ℕ, List, Bool, true, Option, None, Some, refl, ap, sym, subst, arith, get_or, slice_get, slice_set, position, slice_get_within, Spot, after, number, Shape, RingView, Holds, Reaches, changed, declared, floor_number, ceiling, given_count, target, Ring, Header, IsHeader, command_id, command_ring, is_driver_kind, shape_of, RingRecord, FollowsRing, Known, next_command, on_ring, moved, held_at_ceiling, ring_here, ring_elsewhere, FollowsRings, MayMoveTo, ReachesTarget, number_in, set_on, IsNextGiven, command_id_is, found_at, read_at}
-use Rattle.event_rows.proofs.CommandCompletions.OneRing.{IsOnRing, on_moved, on_held, one_at, ring_shape, rings_elsewhere, rings_with}
+use Rattle.event_rows.proofs.LowerLaws.{rules, ◌≡◌, ◌≤◌, ◌<◌, ◌==◌, ℕ, List, Bool, true, Option, None, Some, refl, sym, subst, arith, get_or, slice_get, slice_set, position, slice_get_within, Spot, after, number, Shape, RingView, Holds, Reaches, changed, declared, floor_number, ceiling, given_count, target, Ring, Header, IsHeader, command_id, command_ring, is_driver_kind, shape_of, RingRecord, FollowsRing, Known, next_command, on_ring, moved, held_at_ceiling, ring_here, ring_elsewhere, FollowsRings, MayMoveTo, ReachesTarget, number_in, set_on, IsNextGiven, command_id_is, found_at, read_at, IsOnRing, on_moved, on_held, one_at, rings_elsewhere, rings_with}
+use Rattle.event_rows.proofs.CommandCompletions.OneRing.{ring_shape}
 
 module _ (h : Header) (headed : IsHeader h) (k : Known) (rs : List RingRecord) (f : FollowsRings h k rs) where
   -- the ring with ID r stands at this number, and its record is a new one
@@ -80,10 +80,7 @@ module _ (h : Header) (headed : IsHeader h) (k : Known) (rs : List RingRecord) (
       let v : RingView = k.ring (command_id h) in
       let known = read_at rs rs n old refl (omega (arith, f.as_many, slice_get_within h.rings n ring at)) there in
       let follows : FollowsRing ring.shape v old = subst (λ i. FollowsRing ring.shape (k.ring i) old) id_is (f.each n ring old at known driver) in
-      let same : number t ≡ floor_number v = ap number (floor v follows) in
-      let given : floor_number v < given_count ring.shape v = subst (λ shape. floor_number v < given_count shape v) shape_is next.given in
-      subst (λ m. FollowsRing ring.shape (changed ring.shape v (Reaches (after ring.shape m))) new) same
-      (step v follows (omega (arith, same)) (omega (arith, same, given)) (omega (arith, same, next.declared)))
+      grind (arith, shape_is, FollowsRing)
 
   pub passed_with : FollowsRings h (on_ring h k (command_id h) (Reaches (after (shape_of h (command_id h)) (next_command h k)))) (slice_set rs n new)
   passed_with =

@@ -1,13 +1,11 @@
 -- The records of rings where one ring has changed
-use Rattle.event_rows.proofs.Words.{rules, ◌≡◌, ◌≢◌, ◌∙◌, ◌∷◌, ◌==◌, ◌⊎◌, ℕ, zero, suc, List, [], Bool, true, Option, None, Some, refl, ap, sym, subst, inl, inr, arith, slice_get, slice_set, position, eq-eqb, false≢true, length-set, Spot, number, RingView, Reaches, Holds, changed, ceiling, target, Ring, Header, IsHeader, is_driver_kind, shape_of, RingRecord, FollowsRing, Known, on_ring, set_to, bound_to, moved, moved_to, held_at_ceiling, FollowsRings, Apart, among_at, numbers_apart, none_here, shape_there, together, ring_here, ring_elsewhere, set_on}
+use Rattle.event_rows.proofs.Words.{rules, ◌≡◌, ◌≢◌, ◌∙◌, ◌∷◌, ◌==◌, ◌⊎◌, ℕ, zero, suc, List, [], Bool, true, Option, None, Some, refl, ap, sym, subst, inl, inr, arith, slice_get, slice_set, position, eq-eqb, false≢true, length-set, Spot, number, RingView, Reaches, Holds, changed, ceiling, target, Ring, Header, IsHeader, is_driver_kind, shape_of, RingRecord, FollowsRing, Known, on_ring, set_to, bound_to, moved, moved_to, held_at_ceiling, FollowsRings, Apart, among_at, numbers_apart, none_here, shape_there, together, ring_here, ring_elsewhere, set_on, ◌-◌}
 
 -- ---- what is known of rings
 
 pub rings_same : (h : Header) (k l : Known) (rs : List RingRecord) → FollowsRings h k rs → l.ring ≡ k.ring → FollowsRings h l rs
-rings_same h k l rs f same = record {
-  as_many = f.as_many;
-  each = λ n ring r at there driver. subst (λ v. FollowsRing ring.shape v r) (ap (λ (g : ℕ → RingView). g ring.id) (sym same)) (f.each n ring r at there driver);
-}
+rings_same h k l rs f same =
+    record { as_many = f.as_many; each = λ n q r at is d. subst (λ v. FollowsRing q.shape v r) (ap (λ (g : ℕ → RingView). g q.id) (sym same)) (f.each n q r at is d) }
 
 -- the pointer of a ring is set
 pub set_here : (h : Header) (k : Known) (r : ℕ) (t : Spot) → (set_to h k r t).ring r ≡ set_on (shape_of h r) (k.ring r) (Some t)
@@ -23,14 +21,10 @@ pub record IsOnRing (k l : Known) (r : ℕ) (v : RingView) : Type 0 where
   pub here : l.ring r ≡ v
   pub apart : (q : ℕ) → q ≢ r → l.ring q ≡ k.ring q
 
-to_target : (h : Header) (k : Known) (r : ℕ) (o : Option Spot) → IsOnRing k (moved_to h k r o) r (set_on (shape_of h r) (k.ring r) o)
-unfolding moved_to
-to_target h k r o = search (rules, set_here, set_apart)
-
 pub on_moved : (h : Header) (k : Known) (r p : ℕ) (cycle : Bool) →
     IsOnRing k (moved h k (Some r) p cycle) r (set_on (shape_of h r) (k.ring r) (target (shape_of h r) (k.ring r) p cycle))
-unfolding moved
-on_moved h k r p cycle = to_target h k r (target (shape_of h r) (k.ring r) p cycle)
+unfolding moved moved_to
+on_moved h k r p cycle = search (rules, set_here, set_apart)
 
 pub on_held : (h : Header) (k : Known) (r : ℕ) → IsOnRing k (held_at_ceiling h k (Some r)) r (changed (shape_of h r) (k.ring r) (Holds (ceiling (shape_of h r) (k.ring r))))
 unfolding held_at_ceiling
@@ -46,10 +40,8 @@ bound_moves h k s i o p cycle = search rules
 -- in a list with a new element at n
 at_set : {X : Type 0} (xs : List X) (n i : ℕ) (y x : X) → slice_get (slice_set xs n y) i ≡ Some x → ((i ≡ n) × (y ≡ x)) ⊎ ((i ≢ n) × (slice_get xs i ≡ Some x))
 at_set [] n i y x e = search (rules)
-at_set (z ∷ xs) zero zero y x e = search (rules)
-at_set (z ∷ xs) zero (suc i) y x e = inr ((λ same. omega (arith, same)), e)
-at_set (z ∷ xs) (suc n) zero y x e = inr ((λ same. omega (arith, same)), e)
-at_set (z ∷ xs) (suc n) (suc i) y x e = search (rules, at_set xs n i y x e)
+at_set (z ∷ xs) zero i y x e = grind arith
+at_set (z ∷ xs) (suc n) i y x e = grind (arith, at_set xs n (i - 1) y x)
 
 pub one_at : (rs : List Ring) (i : ℕ) (q r : Ring) → slice_get rs i ≡ Some q → slice_get rs i ≡ Some r → q ≡ r
 one_at rs i q r e f = search rules

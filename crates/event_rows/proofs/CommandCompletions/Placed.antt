@@ -1,16 +1,10 @@
 -- An endpoint that is placed, and those that an input context adds
-use Rattle.event_rows.proofs.Words.{rules, ◌≡◌, ◌∷◌, ℕ, List, [], Bool, refl, subst, if◌then◌else◌, Command, EndpointState, is_off, Change, Places, Header, ring_having, RingRecord, Known, bound_to, changed_by, changed_by_all, in_state, moved, pointed, FollowsRings, DeviceRecord, MayChangeAll, MayPoint, MayMoveTo, ring_placed, FollowsPlaces, HasDone}
-use Rattle.event_rows.proofs.CommandCompletions.OneRing.{bound_moves, rings_same}
+use Rattle.event_rows.proofs.LowerLaws.{rules, ◌≡◌, ◌∷◌, ℕ, List, [], Bool, refl, subst, Command, EndpointState, Change, Places, Header, ring_having, RingRecord, Known, changed_by, changed_by_all, in_state, moved, pointed, FollowsRings, DeviceRecord, MayChangeAll, MayPoint, MayMoveTo, ring_placed, FollowsPlaces, HasDone, bound_moves, rings_same}
 
 module _ (h : Header) (k : Known) (s i p : ℕ) (cycle : Bool) where
-  -- by whether the endpoint is off
-  pointed_by : (b : Bool) → (if b then bound_to h k s i (ring_having h p) p cycle else moved h k (k.ring_of s i) p cycle).ring
-      ≡ (moved h k (if b then ring_having h p else k.ring_of s i) p cycle).ring
-  pointed_by b = search (rules, bound_moves)
-
   pub pointed_ring : (pointed h k s i p cycle).ring ≡ (moved h k (ring_placed k s i (ring_having h p)) p cycle).ring
   unfolding pointed
-  pointed_ring = pointed_by (is_off (k.endpoint_state s i))
+  pointed_ring = search (rules, bound_moves)
 
   pub may_move : MayPoint h k s i p cycle → MayMoveTo h k (ring_placed k s i (ring_having h p)) p cycle
   may_move may = search rules

@@ -32,49 +32,30 @@ module _ (h : Header) where
   unfolding set_to on_ring
   set_rest k r t = record { started = refl; stopped = refl; register = refl; memory = refl; soiled = refl; reads = refl; dequeue = refl; device = refl }
 
-  target_rest : (k : Known) (r : ℕ) (o : Option Spot) → IsRest k (moved_to h k r o) k.device
-  unfolding moved_to
-  target_rest k r o = search (rules, rest_same, set_rest)
-
   moved_rest : (k : Known) (o : Option ℕ) (p : ℕ) (cycle : Bool) → IsRest k (moved h k o p cycle) k.device
-  unfolding moved
-  moved_rest k o p cycle = search (rules, rest_same, target_rest)
+  unfolding moved moved_to
+  moved_rest k o p cycle = search (rules, rest_same, set_rest)
 
   bound_rest : (k : Known) (s i : ℕ) (o : Option ℕ) (p : ℕ) (cycle : Bool) → IsRest k (bound_to h k s i o p cycle) k.device
   unfolding bound_to
   bound_rest k s i o p cycle = search (rules, rest_same, moved_rest)
 
-  pointed_rest : (k : Known) (s i p : ℕ) (cycle : Bool) → IsRest k (pointed h k s i p cycle) k.device
-  unfolding pointed
-  pointed_rest k s i p cycle = search (rules, bound_rest, moved_rest)
-
-  held_rest : (k : Known) (o : Option ℕ) → IsRest k (held_at_ceiling h k o) k.device
-  unfolding held_at_ceiling on_ring
-  held_rest k o = search (rules, rest_same)
-
   change_rest : (c : Command) (k : Known) (change : Change) → IsRest k (changed_by h c k change) (device_by change k.device)
-  unfolding changed_by disabled in_state
-  change_rest c k change = search (rules, pointed_rest, held_rest)
+  unfolding changed_by disabled in_state pointed held_at_ceiling on_ring
+  change_rest c k change = search (rules, bound_rest, moved_rest, rest_same)
 
   changes_rest : (c : Command) (k : Known) (all : List Change) → IsRest k (changed_by_all h c k all) (devices_by all k.device)
   unfolding changed_by_all
   changes_rest c k [] = rest_same k
   changes_rest c k (change ∷ rest) = search (rules, rest_same, change_rest, rest_on, changes_rest c (changed_by h c k change) rest)
 
-  stop_rest : (k : Known) (c : Command) → IsRest k (stop_ended h k c) k.device
-  unfolding stop_ended
-  stop_rest k c = search (rules, rest_same)
-
   -- the device contexts behind the end of a command
   abbrev pub ended_devices : Known → Block → Command → ℕ → Option ℕ
   ended_devices k b c = if code b == 1 then devices_by (changes h.context_size k.memory (slot b) c) k.device else k.device
 
-  if_rest : (k l : Known) (f : ℕ → Option ℕ) (e : Bool) → IsRest k l f → IsRest k (if e then l else k) (if e then f else k.device)
-  if_rest k l f e g = search (rules, rest_same)
-
   pub finished_rest : (k : Known) (b : Block) (c : Command) → IsRest k (finished h k b (Some c)) (ended_devices k b c)
-  unfolding finished succeeded
-  finished_rest k b c = search (rules, if_rest, changes_rest, rest_on, stop_rest)
+  unfolding finished succeeded stop_ended
+  finished_rest k b c = search (rules, changes_rest, rest_on, rest_same)
 
 -- ---- which commands let go of a device context
 

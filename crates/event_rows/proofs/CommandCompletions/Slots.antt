@@ -1,5 +1,5 @@
 -- The device contexts of slots, where one slot lets go of its own
-use Rattle.event_rows.proofs.Words.{rules, ◌≡◌, ◌+◌, ◌<◌, ◌≤◌, ◌∙◌, ◌∷◌, ◌≢◌, ◌==◌, ◌++◌, ℕ, zero, suc, List, [], Option, Some, None, ap, refl, inl, inr, arith, eq-eqb, ne_eqb, filter_map, cons_option, range_with_len, cases_eq, cond-true, cond-false, put, slots}
+use Rattle.event_rows.proofs.Words.{rules, ◌≡◌, ◌+◌, ◌<◌, ◌≤◌, ◌∙◌, ◌∷◌, ◌≢◌, ◌==◌, ◌++◌, ℕ, zero, suc, List, Option, Some, None, ap, refl, inl, inr, arith, eq-eqb, ne_eqb, filter_map, cons_option, range_with_len, cases_eq, cond-true, cond-false, put, slots}
 
 module _ (f : ℕ → Option ℕ) (s : ℕ) where
   put_other : (t : ℕ) → t ≢ s → put f s None t ≡ f t
@@ -29,12 +29,7 @@ module _ (f : ℕ → Option ℕ) (s : ℕ) where
   among_range : (d a n : ℕ) → f s ≡ Some d → a ≤ s → s < a + n → Among (range_with_len a n) d
   among_range d a zero has low high = absurd (omega (arith, low, high))
   among_range d a (suc n) has low high = elim (cases_eq a s) [
-    | inl same ↦ record {
-      before = [];
-      after = filter_map f (range_with_len (a + 1) n);
-      old = ap (λ o. cons_option o (filter_map f (range_with_len (a + 1) n))) (ap f same ∙ has);
-      new = ap (λ o. cons_option o (filter_map (put f s None) (range_with_len (a + 1) n))) (put_here a same) ∙ above (a + 1) n (omega (arith, same));
-    }
+    | inl same ↦ grind (arith, put_here, above)
     | inr apart ↦
         let rest : Among (range_with_len (a + 1) n) d = among_range d (a + 1) n has (omega (arith, low, apart)) (omega (arith, high)) in
         record {

@@ -1,6 +1,5 @@
 -- What the success of each command does to the records of rings and devices
-use Rattle.event_rows.proofs.Words.{rules, ◌≡◌, ◌∷◌, ℕ, List, [], Bool, true, false, refl, ap, sym, fun_ext, ContextSize, added_endpoints, Command, NoOp, EnableSlot, DisableSlot, AddressDevice, ConfigureEndpoint, EvaluateContext, ResetEndpoint, StopEndpoint, SetTrDequeue, ResetDevice, Stopped, Change, SlotGoesOn, DeviceLeft, Disables, Places, Stops, Resets, changes, is_above_control, Header, RingRecord, Known, changed_by, changed_by_all, disabled, held_at_ceiling, in_state, succeeded, FollowsRings, DeviceRecord, FollowsDevices, FollowsPlaces, HasWords, addressed, configured, subst, MayChangeAll}
-use Rattle.event_rows.proofs.CommandCompletions.OneRing.{rings_same}
+use Rattle.event_rows.proofs.LowerLaws.{rules, ◌≡◌, ◌∷◌, ℕ, List, [], Bool, true, false, refl, ap, sym, fun_ext, ContextSize, added_endpoints, Command, NoOp, EnableSlot, DisableSlot, AddressDevice, ConfigureEndpoint, EvaluateContext, ResetEndpoint, StopEndpoint, SetTrDequeue, ResetDevice, Stopped, Change, SlotGoesOn, DeviceLeft, Disables, Places, Stops, Resets, changes, is_above_control, Header, RingRecord, Known, changed_by, changed_by_all, disabled, held_at_ceiling, in_state, succeeded, FollowsRings, DeviceRecord, FollowsDevices, FollowsPlaces, HasWords, addressed, configured, subst, MayChangeAll, rings_same}
 
 -- where rings stay as they are
 pub devices_only : (h : Header) (k l : Known) (rs : List RingRecord) (d e : DeviceRecord) → FollowsPlaces h k rs d → l.ring ≡ k.ring → FollowsDevices l e → FollowsPlaces h l rs e

@@ -1,5 +1,5 @@
 -- The event ring, as the tests of an event and its count see it
-use Rattle.event_rows.proofs.Words.{rules, ◌≡◌, ℕ, ◌+◌, ◌-◌, Bool, true, false, Option, refl, ap, sym, ◌∙◌, ◌==◌, ◌||◌, not, nat_lt, Block, cycle, kind, is_event, Shape, cycle_of, place_count, Header, event_shape, event_size, EventState, Known, unfinished, same_blocks, unfinished_same, follows_beside, is_past_room, TraceRecord, FollowsTrace, FollowsEvents, FollowsPlace, binds_same, bound_same}
+use Rattle.event_rows.proofs.Words.{rules, ◌≡◌, ℕ, ◌+◌, ◌-◌, Bool, true, false, Option, refl, ap, ◌==◌, ◌||◌, not, nat_lt, Block, cycle, kind, is_event, Shape, cycle_of, place_count, Header, event_shape, event_size, EventState, Known, unfinished, same_blocks, unfinished_same, follows_beside, is_past_room, TraceRecord, FollowsTrace, FollowsEvents, FollowsPlace, binds_same, bound_same}
 
 module _ (h : Header) (k : Known) (b : Block) where
   abbrev Misplaced : Shape → ℕ → ℕ → Bool
@@ -12,16 +12,10 @@ module _ (h : Header) (k : Known) (b : Block) where
   pub early : k.started ≡ false → IsNone k.started ≡ true
   early off = ap (λ s. IsNone s) off
 
-  misplaced_is : (e : EventState) → FollowsPlace h k e → Misplaced e.shape e.counts.reads e.counts.dequeue ≡ Misplaced (event_shape h) k.reads k.dequeue
-  misplaced_is e f = search rules
-
-  none_is : Misplaced (event_shape h) k.reads k.dequeue ≡ IsNone true
-  unfolding is_past_room event_size
-  none_is = refl
-
   -- after it
   pub later : (e : EventState) → FollowsPlace h k e → k.started ≡ true → Misplaced e.shape e.counts.reads e.counts.dequeue ≡ IsNone k.started
-  later e f on = misplaced_is e f ∙ none_is ∙ ap (λ s. IsNone s) (sym on)
+  unfolding is_past_room event_size
+  later e f on = search rules
 
 module _ (h : Header) (k : Known) (t : TraceRecord) (m : ℕ → ℕ) (f : FollowsTrace h k t m) where
   abbrev counted : Known

@@ -1,101 +1,39 @@
 -- What a Transfer Event that can have been posted adds to the record of a trace
-use Rattle.event_rows.proofs.Words.{rules, ◌≡◌, ℕ, ◌+◌, ◌<◌, List, Bool, true, false, Option, Some, refl, ap, sym, ◌∙◌, arith, subst, ◌&&◌, ◌||◌, if◌then◌else◌, none-some, same_Some, is_off, and_parts, Block, code, endpoint, pointer, slot, is_halting, is_success, is_transfer_code, is_trb_error, put_pair, Spot, Shape, after, number, RingView, Holds, Reaches, changed, ceiling, is_data_below, is_stop_spot, named, stopped_number, RingKeeps, below_is, ceiling_within, named_ahead, given_count_declared, EndpointState, Halted, Error, Header, IsHeader, command_id, shape_of, RingRecord, FollowsRing, Known, event_at, on_ring, spot_on, unfinished, passed, broken_off, stopped_at, transferred, transferred_at, transfer_read, FollowsDevices, ring_here, ring_elsewhere, same_blocks, unfinished_same, transfer_stays, FollowsRings, IsAmong, among_at, shape_allowed, shape_there, can_report, can_report_at, is_impossible_transfer, is_in_profile, is_stopping_now, is_working, DriverKeeps, TraceRecord, FollowsTrace, NamedSpot, IsNamedAt, IsWithRecord, MayReport, reported, AreOffAs, IsBeside, IsOnly, followed, put_on, rings_with}
-use Rattle.event_rows.proofs.TransferEvents.Reports.{not_command, reported_at, transfer_driver}
+use Rattle.event_rows.proofs.LowerLaws.{rules, ◌≡◌, ℕ, List, true, false, Some, ap, sym, ◌∙◌, arith, subst, ◌||◌, none-some, same_Some, is_off, and_parts, Block, code, endpoint, pointer, slot, is_halting, is_success, is_transfer_code, is_trb_error, Spot, Shape, after, RingView, ceiling, is_data_below, is_stop_spot, named, RingKeeps, below_is, ceiling_within, named_ahead, given_count_declared, Header, IsHeader, command_id, shape_of, RingRecord, FollowsRing, Known, event_at, on_ring, spot_on, unfinished, passed, broken_off, stopped_at, transferred, transferred_at, transfer_read, FollowsDevices, ring_here, ring_elsewhere, same_blocks, unfinished_same, transfer_stays, FollowsRings, IsAmong, among_at, shape_allowed, shape_there, can_report, can_report_at, is_impossible_transfer, is_in_profile, DriverKeeps, TraceRecord, FollowsTrace, NamedSpot, IsNamedAt, IsWithRecord, MayReport, reported, AreOffAs, IsBeside, IsOnly, followed, put_on, not_command, reported_at, transfer_driver}
+use Rattle.driver_rows.proofs.DoorbellRows.Followed.{rings_with}
 
 -- ---- what changes
 
 module _ (h : Header) (k : Known) (c s i r : ℕ) (t : Spot) where
-  abbrev halts : Known
-  halts = record (broken_off h k s i r t Halted) { must_move = put_pair k.must_move s i true }
-
-  abbrev fails : Known
-  fails = broken_off h k s i r t Error
-
-  -- by what a code says
-  by_code : (P : Known → Type 0) → P (passed h k r t) → P halts → P fails → P (stopped_at h k s i r t) → P k → P (transferred h k c s i r t)
-  unfolding transferred
-  by_code P a b d e o = search rules
-
-  passed_beside : IsBeside k (passed h k r t)
-  unfolding passed on_ring
-  passed_beside = record { memory = refl; started = refl; stopped = refl; register = refl; reads = refl; dequeue = refl; device = refl; soiled = refl }
-
-  halts_beside : IsBeside k halts
-  unfolding broken_off passed on_ring
-  halts_beside = record { memory = refl; started = refl; stopped = refl; register = refl; reads = refl; dequeue = refl; device = refl; soiled = refl }
-
-  fails_beside : IsBeside k fails
-  unfolding broken_off passed on_ring
-  fails_beside = record { memory = refl; started = refl; stopped = refl; register = refl; reads = refl; dequeue = refl; device = refl; soiled = refl }
-
-  stopped_beside : IsBeside k (stopped_at h k s i r t)
-  unfolding stopped_at on_ring
-  stopped_beside = record { memory = refl; started = refl; stopped = refl; register = refl; reads = refl; dequeue = refl; device = refl; soiled = refl }
-
   pub transferred_beside : IsBeside k (transferred h k c s i r t)
-  transferred_beside =
-      by_code (λ l. IsBeside k l) passed_beside halts_beside fails_beside stopped_beside
-      (record { memory = refl; started = refl; stopped = refl; register = refl; reads = refl; dequeue = refl; device = refl; soiled = refl })
+  unfolding transferred passed broken_off stopped_at on_ring
+  transferred_beside = search rules
 
   -- the same endpoints are off, where that of the event isn't
   pub transferred_off : is_off (k.endpoint_state s i) ≡ false → AreOffAs k (transferred h k c s i r t)
-  unfolding passed broken_off stopped_at on_ring
-  transferred_off on = by_code (λ l. AreOffAs k l) (λ q. refl) (put_on k.endpoint_state s i Halted on refl) (put_on k.endpoint_state s i Error on refl) (λ q. refl) (λ q. refl)
+  unfolding transferred passed broken_off stopped_at on_ring
+  transferred_off on = search (rules, put_on)
 
   -- no other ring
-  passed_only : IsOnly k (passed h k r t) r
-  unfolding passed
-  passed_only q other = ring_elsewhere h k r q (Reaches (after (shape_of h r) (number t))) other
-
-  broken_only : (state : EndpointState) → IsOnly k (broken_off h k s i r t state) r
-  unfolding broken_off
-  broken_only state q other = ring_elsewhere h (passed h k r t) r q (Holds (number t + 1)) other ∙ passed_only q other
-
-  stopped_only : IsOnly k (stopped_at h k s i r t) r
-  unfolding stopped_at
-  stopped_only q other = search (rules, ring_elsewhere)
-
   pub transferred_only : IsOnly k (transferred h k c s i r t) r
-  transferred_only = by_code (λ l. IsOnly k l r) passed_only (broken_only Halted) (broken_only Error) stopped_only (λ q other. refl)
+  unfolding transferred passed broken_off stopped_at
+  transferred_only q other = search (rules, ring_elsewhere)
 
   -- the ring itself
-  passed_here : (passed h k r t).ring r ≡ changed (shape_of h r) (k.ring r) (Reaches (after (shape_of h r) (number t)))
-  unfolding passed
-  passed_here = ring_here h k r (Reaches (after (shape_of h r) (number t)))
-
-  broken_here : (state : EndpointState) → (broken_off h k s i r t state).ring r ≡ changed (shape_of h r) (changed (shape_of h r) (k.ring r) (Reaches (after (shape_of h r) (number t)))) (Holds (number t + 1))
-  unfolding broken_off
-  broken_here state = ring_here h (passed h k r t) r (Holds (number t + 1)) ∙ ap (λ v. changed (shape_of h r) v (Holds (number t + 1))) passed_here
-
-  stopped_here : (stopped_at h k s i r t).ring r ≡ changed (shape_of h r) (changed (shape_of h r) (k.ring r) (Holds (stopped_number (shape_of h r) (k.ring r) t))) (Reaches t)
-  unfolding stopped_at
-  stopped_here = search (rules, ring_here)
-
   pub transferred_here : is_transfer_code c ≡ true → (transferred h k c s i r t).ring r ≡ reported (shape_of h r) (k.ring r) c t
-  unfolding transferred
-  transferred_here coded = search (rules, passed_here, broken_here, stopped_here)
+  unfolding transferred passed broken_off stopped_at
+  transferred_here coded = search (rules, ring_here)
 
 -- ---- an event that can have been posted
-
--- what the spot is that an event names
-named_of : (h : Header) (k : Known) (a : ℕ) (o : Option ℕ) (r : ℕ) (t : Spot) → spot_on h k a o ≡ Some (record { ring = r; spot = t }) → named (shape_of h r) (k.ring r) a ≡ Some t
-unfolding spot_on
-named_of h k a o r t e = search (rules, none-some, same_Some)
-
-below_true : (a x y w z p d : Bool) → (if a then d else if x || y then d && w else w && z && p) ≡ true → (a || (x || y)) ≡ true → d ≡ true
-below_true a x y w z p d e f = search (rules, and_parts)
-
-stop_true : (a x y w z p d : Bool) → (if a then d else if x || y then d && w else w && z && p) ≡ true → (a || (x || y)) ≡ false → p ≡ true
-stop_true a x y w z p d e f = search (rules, and_parts)
 
 module _ (h : Header) (k : Known) (c s i r : ℕ) (t : Spot) (can : can_report h k c s i r t ≡ true) where
   is_below : (is_success c || (is_halting c || is_trb_error c)) ≡ true → is_data_below (ceiling (shape_of h r) (k.ring r)) t ≡ true
   unfolding can_report
-  is_below ends = below_true (is_success c) (is_halting c) (is_trb_error c) (is_working k s i r) (is_stopping_now h k s i) (is_stop_spot (shape_of h r) (k.ring r) t) (is_data_below (ceiling (shape_of h r) (k.ring r)) t) can ends
+  is_below ends = search (rules, and_parts)
 
   is_stop : (is_success c || (is_halting c || is_trb_error c)) ≡ false → is_stop_spot (shape_of h r) (k.ring r) t ≡ true
   unfolding can_report
-  is_stop stops = stop_true (is_success c) (is_halting c) (is_trb_error c) (is_working k s i r) (is_stopping_now h k s i) (is_stop_spot (shape_of h r) (k.ring r) t) (is_data_below (ceiling (shape_of h r) (k.ring r)) t) can stops
+  is_stop stops = search (rules, and_parts)
 
 module _ (h : Header) (headed : IsHeader h) (k : Known) (keeps : DriverKeeps h k) (b : Block) (in_ : is_in_profile b ≡ true) (fine : is_impossible_transfer h k b ≡ false) where
   coded : is_transfer_code (code b) ≡ true
@@ -131,23 +69,21 @@ module _ (h : Header) (headed : IsHeader h) (k : Known) (keeps : DriverKeeps h k
     can = sym (reported_at h headed k keeps b is.ring.id at.spot (event_at h k b) is.names) ∙ can_be
 
     named_spot_is : named (shape_of h is.ring.id) view (pointer b) ≡ Some at.spot
-    unfolding event_at
-    named_spot_is = named_of h k (pointer b) (k.ring_of (slot b) (endpoint b)) is.ring.id at.spot is.names
+    unfolding event_at spot_on
+    named_spot_is = search (rules, none-some, same_Some)
 
     pub may_report : MayReport shape view (code b) at.spot
-    may_report =
-        let same = shape_there h headed is.ring among in
-        let ahead = named_ahead shape k.memory view ring_keeps (pointer b) at.spot (ap (λ s. named s view (pointer b)) (sym same) ∙ named_spot_is) in
-        let within = ceiling_within shape (shape_allowed h headed is.ring among) k.memory view ring_keeps in
-        let most = given_count_declared shape (shape_allowed h headed is.ring among) k.memory view ring_keeps in
-        let below : (is_success (code b) || (is_halting (code b) || is_trb_error (code b))) ≡ true → number at.spot < ceiling shape view =
-        λ ends. below_is (ceiling shape view) at.spot (ap (λ s. is_data_below (ceiling s view) at.spot) (sym same) ∙ is_below h k (code b) (slot b) (endpoint b) is.ring.id at.spot can ends) in
-        record {
-          from = ahead.from;
-          given = λ ends. let under = below ends in omega (arith, under, within.1);
-          declared = λ ends. let under = below ends in omega (arith, under, within.1, most);
-          stops = λ stops. ap (λ s. is_stop_spot s view at.spot) (sym same) ∙ is_stop h k (code b) (slot b) (endpoint b) is.ring.id at.spot can stops;
-        }
+    may_report = grind (
+      arith,
+      shape_there h headed is.ring among,
+      named_ahead shape k.memory view ring_keeps (pointer b) at.spot,
+      named_spot_is,
+      ceiling_within shape (shape_allowed h headed is.ring among) k.memory view ring_keeps,
+      given_count_declared shape (shape_allowed h headed is.ring among) k.memory view ring_keeps,
+      below_is (ceiling shape view) at.spot,
+      is_below h k (code b) (slot b) (endpoint b) is.ring.id at.spot can,
+      is_stop h k (code b) (slot b) (endpoint b) is.ring.id at.spot can,
+    )
 
   module _ (before : TraceRecord) (m : ℕ → ℕ) (f : FollowsTrace h k before m) (at : NamedSpot) (is : IsNamedAt h k b at) where
     -- the whole record

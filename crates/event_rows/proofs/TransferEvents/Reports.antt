@@ -1,5 +1,5 @@
 -- Where a controller can have posted a Transfer Event
-use Rattle.event_rows.proofs.Words.{rules, ◌≡◌, ℕ, Bool, true, false, Option, Some, None, refl, ap, sym, ◌∙◌, subst, arith, inl, inr, ◌==◌, ◌&&◌, ◌||◌, not, slice_get, position, nat_lt, is_some, option_and_then, if◌then◌else◌, option_map, cases_Bool, eqb-true, le-ltb, false≢true, same_Some, none-some, Block, code, endpoint, pointer, slot, is_success, is_halting, is_trb_error, Spot, ceiling, is_data_below, is_stop_spot, named, RingView, floor_number, IsSpot, ceiling_held, command_of, is_stop_of, is_off, RingKind, Ring, Header, Crcr, IsHeader, command_id, is_command_kind, is_driver_kind, is_transfer_kind, ring_with, shape_of, Known, RingRecord, FollowsRing, TraceRecord, FollowsTrace, RingSpot, command_at, event_at, next_command, spot_on, IsAmong, among_at, find_some, no_command_here, ring_found, shape_there, can_report, can_report_at, is_impossible_transfer, is_in_profile, is_stopping_now, is_working, may_be_taken, DriverKeeps, IsDriverRing, IsTransferRing, number_of, found_at, none_found, command_found, command_id_is}
+use Rattle.event_rows.proofs.Words.{rules, ◌≡◌, ℕ, Bool, true, false, Option, Some, None, refl, ap, sym, ◌∙◌, subst, inl, inr, ◌==◌, ◌&&◌, ◌||◌, not, slice_get, position, nat_lt, is_some, option_and_then, if◌then◌else◌, option_map, cases_Bool, eqb-true, false≢true, same_Some, none-some, Block, code, endpoint, pointer, slot, is_success, is_halting, is_trb_error, Spot, ceiling, is_data_below, is_stop_spot, named, RingView, floor_number, IsSpot, ceiling_held, command_of, is_stop_of, is_off, RingKind, Ring, Header, Crcr, IsHeader, command_id, is_command_kind, is_driver_kind, is_transfer_kind, shape_of, Known, RingRecord, FollowsRing, TraceRecord, FollowsTrace, RingSpot, command_at, event_at, next_command, spot_on, IsAmong, among_at, find_some, no_command_here, ring_found, shape_there, can_report, can_report_at, is_impossible_transfer, is_in_profile, is_stopping_now, is_working, may_be_taken, DriverKeeps, IsDriverRing, IsTransferRing, number_of, found_at, none_found, command_found, command_id_is, nat_tests}
 
 pub driven : (kind : RingKind) → is_transfer_kind kind ≡ true → is_driver_kind kind ≡ true
 driven kind e = search rules
@@ -30,8 +30,7 @@ module _ (h : Header) (headed : IsHeader h) (k : Known) (keeps : DriverKeeps h k
             let found = found_at (λ ring. ring.id == r) h.rings n (sym e) in
             let id : found.0.id ≡ r = eqb-true found.0.id r found.2 in
             let known : IsTransferRing h r = keeps.states.transfer s i r has in
-            let same : found.0 ≡ known.ring = same_Some found.0 known.ring (sym (ring_found h headed found.0 (among_at h.rings n found.0 found.1)) ∙ ap (λ j. ring_with h j) id ∙ known.found) in
-            record { ring = found.0; at = found.1; has = ap (λ j. Some j) (sym id); transfer = ap (λ (q : Ring). is_transfer_kind q.shape.kind) same ∙ known.kind }
+            search (rules, ring_found, among_at, same_Some)
 
     -- without one the endpoint has no ring
     pub no_endpoint_ring : None ≡ number_of h.rings (k.ring_of s i) → k.ring_of s i ≡ None
@@ -94,12 +93,9 @@ module _ (h : Header) (headed : IsHeader h) (k : Known) (keeps : DriverKeeps h k
     unfolding is_stopping_now may_be_taken
     no_stop none = elim (cases_Bool k.started) [
       | inl on ↦ absurd (no_ring (k.register Crcr) refl (keeps.crcr_written on))
-      | inr off ↦ ap (λ c. nat_lt (next_command h k) c && is_stop_of s i (command_at h k (next_command h k))) (ceiling_held (shape_of h (command_id h)) (k.ring (command_id h)) 0 ((keeps.unstarted off).held (command_id h))) ∙ not_below (next_command h k)
+      | inr off ↦ search (rules, ceiling_held (shape_of h (command_id h)) (k.ring (command_id h)) 0 ((keeps.unstarted off).held (command_id h)), nat_tests)
     ]
       where
-        not_below : (n : ℕ) → (nat_lt n 0 && is_stop_of s i (command_at h k (next_command h k))) ≡ false
-        not_below n = ap (λ b. b && is_stop_of s i (command_at h k (next_command h k))) (le-ltb n 0 (omega arith))
-
         no_ring : (o : Option ℕ) → k.register Crcr ≡ o → is_some o ≡ true → ⊥
         no_ring None written e = false≢true e
         no_ring (Some v) written e =
@@ -112,9 +108,7 @@ module _ (h : Header) (headed : IsHeader h) (k : Known) (keeps : DriverKeeps h k
     unfolding is_stopping_now may_be_taken next_command command_at
     stop_on n ring at command =
         let among = among_at h.rings n ring at in
-        let stops = λ (j : ℕ). is_stop_of s i (option_and_then command_of (slice_get (k.ring j).queue (floor_number (k.ring j)))) in
-        ap (λ j. nat_lt (floor_number (k.ring j)) (ceiling (shape_of h j) (k.ring j)) && stops j) (command_id_is h ring (command_found h headed ring among command))
-        ∙ ap (λ x. nat_lt (floor_number (k.ring ring.id)) (ceiling x (k.ring ring.id)) && stops ring.id) (shape_there h headed ring among)
+        search (rules, command_id_is h ring (command_found h headed ring among command), shape_there h headed ring among)
 
   -- ---- a report
 
@@ -122,13 +116,10 @@ module _ (h : Header) (headed : IsHeader h) (k : Known) (keeps : DriverKeeps h k
     abbrev below : Bool
     below = is_data_below (ceiling (shape_of h r) (k.ring r)) t
 
-    by_parts : (a x y w z p d : Bool) → (if a then d else if x || y then d && w else w && z && p) ≡ (if a then d else if not w then false else if x || y then d else if not z then false else p)
-    by_parts a x y w z p d = search rules
-
     pub report_is : can_report h k c s i r t ≡
         (if is_success c then below else if not (is_working k s i r) then false else if is_halting c || is_trb_error c then below else if not (is_stopping_now h k s i) then false else is_stop_spot (shape_of h r) (k.ring r) t)
     unfolding can_report
-    report_is = by_parts (is_success c) (is_halting c) (is_trb_error c) (is_working k s i r) (is_stopping_now h k s i) (is_stop_spot (shape_of h r) (k.ring r) t) below
+    report_is = search rules
 
   pub reported_at : (b : Block) (r : ℕ) (t : Spot) (o : Option RingSpot) → o ≡ Some (record { ring = r; spot = t }) → can_report_at h k b o ≡ can_report h k (code b) (slot b) (endpoint b) r t
   unfolding can_report_at

@@ -1,6 +1,5 @@
 -- What the end of a lease changes
-use Rattle.leases.proofs.BaseWords.{false_unless, ◌≡◌, ◌≢◌, ◌==◌, ◌∷◌, ℕ, zero, suc, Bool, true, false, List, [], filter, length, map, slice_get, refl, eqb-true, list_any, and_parts, or_parts, or_from, false≢true, Lease, Leased, without_end, Lent, ended_where, is_unended, agree, agrees, test_of, IsOnlyAt, is_open_of, rules}
-use Rattle.leases.proofs.CertificateLogs.Agreement.{same_beginning}
+use Rattle.leases.proofs.LowerLaws.{false_unless, ◌≡◌, ◌≢◌, ◌==◌, ◌∷◌, ℕ, zero, suc, Bool, true, false, List, [], filter, length, map, slice_get, refl, eqb-true, list_any, and_parts, or_parts, or_from, false≢true, Lease, Leased, without_end, Lent, ended_where, is_unended, agree, agrees, test_of, IsOnlyAt, is_open_of, rules, same_beginning}
 
 -- a row of the number of no row ends nothing
 pub never_ends : (S : Leased → Bool) (ts : List Lent) → map (ended_where S without_end) ts ≡ ts
@@ -32,17 +31,13 @@ module _ (S : Leased → Bool) (row : ℕ) where
     unfolding ended_where is_unended
     over_now t e = rw e late
 
-    agrees_ended : (t : Lent) (l : Lease) → is_open_of S t ≡ true → agrees t l ≡ true → agrees (end_at_row t) l ≡ (l.to == row)
-    unfolding agrees ended_where
-    agrees_ended t l e f = search (rules, and_parts, same_beginning, over_now)
-
     -- the list agrees still where its lease there ends at the row
     pub agree_ended : (i : ℕ) (ts : List Lent) (ls : List Lease) → agree ts ls ≡ true → IsOnlyAt (is_open_of S) i ts →
         agree (map end_at_row ts) ls ≡ test_of (λ l. l.to == row) (slice_get ls i)
-    unfolding agree
+    unfolding agree agrees ended_where
     agree_ended i [] ls e at = absurd at
     agree_ended i (t ∷ ts) [] e at = absurd (false≢true e)
-    agree_ended zero (t ∷ ts) (l ∷ ls) e at = search (rules, and_parts, none_ends, agrees_ended)
+    agree_ended zero (t ∷ ts) (l ∷ ls) e at = search (rules, and_parts, none_ends, same_beginning, over_now)
     agree_ended (suc i) (t ∷ ts) (l ∷ ls) e at =
         let parts = and_parts (agrees t l) (agree ts ls) e in
         rw (passes_not t at.0, parts.0) (agree_ended i ts ls parts.1 at.1)

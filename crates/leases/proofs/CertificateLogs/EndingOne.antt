@@ -1,9 +1,6 @@
 -- One lease ends at a row, if it is open
-use Rattle.leases.proofs.BaseWords.{◌≡◌, ◌≢◌, ◌-◌, ◌<◌, ◌==◌, ◌&&◌, ◌∙◌, ℕ, suc, Bool, true, false, not, List, map, slice_get, arith, sym, ap, inl, inr, subst, eqb-true, eq-eqb, list_any, cases_Bool, and_parts, false≢true, Header, Lease, Leased, same_leased, as_lease, without_end, IndexTables, Lent, ended_where, share_a_place, FollowedList, agree, has_words_of, test_of, IsCrossed, IsOnly, IsOnlyAt, RingPlace, has_place, is_open_of, number_at, Ends, FollowsList}
+use Rattle.leases.proofs.UpperLaws.{◌≡◌, ◌≢◌, ◌-◌, ◌<◌, ◌==◌, ◌&&◌, ◌∙◌, ℕ, suc, Bool, true, false, not, List, map, slice_get, arith, sym, ap, eqb-true, eq-eqb, list_any, cases_Bool, and_parts, false≢true, Header, Lease, Leased, same_leased, as_lease, without_end, IndexTables, Lent, ended_where, share_a_place, FollowedList, agree, has_words_of, test_of, IsCrossed, IsOnly, IsOnlyAt, RingPlace, has_place, is_open_of, number_at, Ends, FollowsList, at_less, none_less, apart_less, IsNumbered, number_alike, number_of, places_of, rules}
 use Rattle.leases.proofs.CertificateLogs.Following.{ends_so, never, stays}
-use Rattle.leases.proofs.CertificateLogs.OpenPlaces.{at_less, none_less}
-use Rattle.leases.proofs.CertificateLogs.Standing.{apart_less}
-use Rattle.leases.proofs.CertificateLogs.Tables.{IsNumbered, number_alike, number_of, places_of}
 use Rattle.leases.proofs.CertificateLogs.Words.{HasWords}
 
 module _ (leases : List Lease) (h : Header) (ts : List Lent) (old : FollowedList) (blocks links : IndexTables) (follows : FollowsList leases h ts old blocks links) (l : Leased) (row : ℕ) where
@@ -22,32 +19,23 @@ module _ (leases : List Lease) (h : Header) (ts : List Lent) (old : FollowedList
         (test_of (has_words_of x) (slice_get leases index) ≡ false → list_any (is_open_of (same_leased l)) ts ≡ false)
 
     decides : agree ts leases ≡ true → Decides
-    decides agreed =
-        let known = follows.known agreed in
-        at_less S (same_leased l) less (IsCrossed h) (has_words_of x) (λ t m same unended crossed. ap (λ y. has_words_of y m) is ∙ words t m same unended crossed) index 0 ts leases agreed known.crossed (at agreed)
+    decides agreed = at_less S (same_leased l) less (IsCrossed h) (has_words_of x) (λ t m same unended crossed. ap (λ y. has_words_of y m) is
+        ∙ words t m same unended crossed) index 0 ts leases agreed (follows.known agreed).crossed (at agreed)
 
     same_lease : test_of (has_words_of x) (slice_get leases index) ≡ test_of (has_words_of x) (slice_get old.leases.now index)
     same_lease = ap (λ xs. test_of (has_words_of x) (slice_get xs index)) (sym follows.same)
 
     -- it has other words, or the row has no number
     pub another_there : is_found index x ≡ false → FollowsList leases h after old blocks links
-    another_there fails = elim (cases_Bool (row == without_end)) [
-      | inl same ↦ never leases h ts old blocks links follows l row old blocks links (eqb-true row without_end same)
-      | inr early ↦
-          let other : test_of (has_words_of x) (slice_get old.leases.now index) ≡ false = ap (λ b. not b && test_of (has_words_of x) (slice_get old.leases.now index)) (sym early) ∙ fails in
-          stays leases h ts old blocks links follows l row old blocks links (λ agreed. (decides agreed).1 (same_lease ∙ other))
-    ]
+    another_there fails = search (rules, cases_Bool (row == without_end), never leases h ts old blocks links follows l row old blocks links, eqb-true, stays leases h ts old blocks links follows l row old blocks links, decides, same_lease)
 
     -- it has these words: it ends
     pub this_there : (new : FollowedList) (new_blocks new_links : IndexTables) → is_found index x ≡ true → Ends index row old new → IsNumbered h blocks links new_blocks new_links l 0 →
         (agree ts leases ≡ true → (m : RingPlace) → has_place h m l ≡ true → number_at blocks links m ≡ suc index) → FollowsList leases h after new new_blocks new_links
-    this_there new new_blocks new_links holds ends numbered number =
-        let parts = and_parts (not (row == without_end)) (test_of (has_words_of x) (slice_get old.leases.now index)) holds in
-        let early : row ≢ without_end = λ e. false≢true (sym (ap not (eq-eqb row without_end e)) ∙ parts.0) in
-        ends_so leases h ts old blocks links follows l row new new_blocks new_links index early ends numbered (λ agreed. (decides agreed).0 (same_lease ∙ parts.1)) number
+    this_there new new_blocks new_links holds ends numbered number = search (rules, and_parts, false≢true, eq-eqb, ends_so leases h ts old blocks links follows l row new new_blocks new_links index, decides, same_lease)
 
   placed : (n : ℕ) → number_of h blocks links l ≡ n → agree ts leases ≡ true → IsOnly (is_open_of (share_a_place h l)) n ts
-  placed n numbered agreed = let known = follows.known agreed in subst (λ (m : ℕ). IsOnly (is_open_of (share_a_place h l)) m ts) numbered (places_of h ts blocks links known.places l)
+  placed n numbered agreed = rw (← numbered) (places_of h ts blocks links (follows.known agreed).places l)
 
   module _ (shares : share_a_place h l l ≡ true) where
     -- its place has no number: none is open there

@@ -1,14 +1,10 @@
 -- The list is followed when a lease begins, and when one ends
-use Rattle.leases.proofs.BaseWords.{◌≡◌, ◌≢◌, ◌+◌, ◌&&◌, ◌||◌, ◌∷◌, ◌++◌, ◌∙◌, ℕ, suc, Bool, true, false, not, List, [], filter, length, map, slice_get, arith, sym, ap, refl, inl, inr, subst, list_any, cases_Bool, and_parts, false≢true, length-map, Header, Lease, Leased, same_leased, as_lease, without_end, leased_is, IndexTables, AllUnended, Lent, begun_at, ended_where, is_unended, share_a_place, with_begun, FollowedList, agree, begins_as, test_of, FindsPlaces, IsCrossed, IsOnly, IsOnlyAt, RingPlace, has_place, is_open_of, number_at, Begins, Ends, FollowsList, KnowsOpen, rules}
-use Rattle.leases.proofs.LeaseBooks.Unended.{all_ended}
-use Rattle.leases.proofs.CertificateLogs.Agreement.{agree_begun, agree_unended, begun_is_unended}
-use Rattle.leases.proofs.CertificateLogs.Ending.{agree_ended, never_ends, none_ends, none_there, one_fewer, open_alike}
-use Rattle.leases.proofs.CertificateLogs.OpenPlaces.{first_one, none_less, only_alike, only_more}
-use Rattle.leases.proofs.CertificateLogs.Tables.{IsNumbered, share_alike}
+use Rattle.leases.proofs.UpperLaws.{◌≡◌, ◌≢◌, ◌+◌, ◌&&◌, ◌||◌, ◌∷◌, ◌++◌, ◌∙◌, ℕ, suc, Bool, true, false, not, List, [], filter, length, map, slice_get, arith, sym, refl, inl, inr, list_any, cases_Bool, and_parts, false≢true, length-map, Header, Lease, Leased, same_leased, as_lease, without_end, leased_is, IndexTables, AllUnended, Lent, begun_at, ended_where, is_unended, share_a_place, with_begun, FollowedList, agree, begins_as, test_of, FindsPlaces, IsCrossed, IsOnlyAt, RingPlace, has_place, is_open_of, number_at, Begins, Ends, FollowsList, KnowsOpen, rules, all_ended, agree_begun, agree_unended, begun_is_unended, agree_ended, never_ends, none_there, one_fewer, open_alike, first_one, none_less, only_alike, only_more, IsNumbered, share_alike}
+use Rattle.leases.proofs.CertificateLogs.Ending.{none_ends}
 
 length_more : (ts : List Lent) (t : Lent) → length (ts ++ t ∷ []) ≡ suc (length ts)
 length_more [] t = refl
-length_more (s ∷ ts) t = ap suc (length_more ts t)
+length_more (s ∷ ts) t = search (rules, length_more ts t)
 
 count_more : (ts : List Lent) (t : Lent) → is_unended t ≡ true → length (filter is_unended (ts ++ t ∷ [])) ≡ suc (length (filter is_unended ts))
 count_more [] t e = rw e refl
@@ -19,8 +15,7 @@ crossed_more h n [] t crossed all = (λ u. crossed, tt)
 crossed_more h n (s ∷ ts) t crossed all = (all.0, crossed_more h (n + 1) ts t crossed all.1)
 
 not_both : (a b : Bool) → (not a || not b) ≡ not (a && b)
-not_both true b = refl
-not_both false b = refl
+not_both a b = grind arith
 
 module _ (leases : List Lease) (h : Header) (ts : List Lent) (old : FollowedList) (blocks links : IndexTables) (follows : FollowsList leases h ts old blocks links)
     (l : Leased) (row : ℕ) (new : FollowedList) (new_blocks new_links : IndexTables) where
@@ -30,13 +25,7 @@ module _ (leases : List Lease) (h : Header) (ts : List Lent) (old : FollowedList
   goes_on begins numbered free crossed = record {
     same = begins.leases ∙ follows.same;
     begun = count ∙ sym (length_more ts (begun_at row l));
-    differs =
-        begins.differs
-        ∙ ap (λ b. b || not (test_of G (slice_get old.leases.now old.begun))) follows.differs
-        ∙ ap (λ xs. not (agree ts leases) || not (test_of G (slice_get xs old.begun))) follows.same
-        ∙ ap (λ n. not (agree ts leases) || not (test_of G (slice_get leases n))) follows.begun
-        ∙ not_both (agree ts leases) (test_of G (slice_get leases (length ts)))
-        ∙ ap not (sym more);
+    differs = search (rules, begins.differs, follows.differs, follows.same, follows.begun, not_both, more);
     known = λ agreed. knows (and_parts (agree ts leases) (test_of G (slice_get leases (length ts))) (sym more ∙ agreed)).0;
   }
     where
@@ -44,7 +33,7 @@ module _ (leases : List Lease) (h : Header) (ts : List Lent) (old : FollowedList
       G = λ m. begins_as m (as_lease row without_end l)
 
       count : new.begun ≡ suc (length ts)
-      count = let e = begins.begun in let f = follows.begun in omega arith
+      count = omega (arith, begins.begun, follows.begun)
 
       more : agree (with_begun row ts (l ∷ [])) leases ≡ (agree ts leases && test_of G (slice_get leases (length ts)))
       more = agree_begun row l ts leases
@@ -52,28 +41,15 @@ module _ (leases : List Lease) (h : Header) (ts : List Lent) (old : FollowedList
       places : FindsPlaces h ts blocks links → FindsPlaces h (ts ++ begun_at row l ∷ []) new_blocks new_links
       places found m = elim (cases_Bool (has_place h m l)) [
         | inl shares ↦
-            let number : number_at new_blocks new_links m ≡ suc (length ts) = numbered.there m shares ∙ count in
-            let alike = share_alike h m l shares in
-            let none : list_any (is_open_of (has_place h m)) ts ≡ false = none_less (share_a_place h l) (has_place h m) (λ x e. alike x ∙ e) ts free in
-            let passes : is_open_of (has_place h m) (begun_at row l) ≡ true = opens m shares in
-            subst (λ (n : ℕ). IsOnly (is_open_of (has_place h m)) n (ts ++ begun_at row l ∷ [])) (sym number) (first_one (is_open_of (has_place h m)) (begun_at row l) ts passes none)
-        | inr apart ↦
-            let fails : is_open_of (has_place h m) (begun_at row l) ≡ false = misses m apart in
-            subst (λ (n : ℕ). IsOnly (is_open_of (has_place h m)) n (ts ++ begun_at row l ∷ [])) (sym (numbered.others m apart))
-            (only_more (is_open_of (has_place h m)) (begun_at row l) (number_at blocks links m) ts fails (found m))
+            rw (numbered.there m shares ∙ count) (first_one (is_open_of (has_place h m)) (begun_at row l) ts (rw (begun_is_unended row l) shares)
+            (none_less (share_a_place h l) (has_place h m) (λ x e. share_alike h m l shares x ∙ e) ts free))
+        | inr apart ↦ rw (numbered.others m apart) (only_more (is_open_of (has_place h m)) (begun_at row l) (number_at blocks links m) ts (rw (begun_is_unended row l) apart) (found m))
       ]
-        where
-          opens : (m : RingPlace) → has_place h m l ≡ true → (is_unended (begun_at row l) && has_place h m (begun_at row l).leased) ≡ true
-          opens m e = rw (begun_is_unended row l) e
-
-          misses : (m : RingPlace) → has_place h m l ≡ false → (is_unended (begun_at row l) && has_place h m (begun_at row l).leased) ≡ false
-          misses m e = rw (begun_is_unended row l) e
 
       knows : agree ts leases ≡ true → KnowsOpen h (with_begun row ts (l ∷ [])) new new_blocks new_links
       knows agreed =
-          let known = follows.known agreed in
-          record {
-            count = let e = begins.unended in let f = known.count in let g = count_more ts (begun_at row l) (begun_is_unended row l) in omega (arith, e, f, g);
+          let known = follows.known agreed in record {
+            count = omega (arith, begins.unended, known.count, count_more ts (begun_at row l) (begun_is_unended row l));
             places = places known.places;
             crossed = crossed_more h 0 ts (begun_at row l) crossed known.crossed;
           }

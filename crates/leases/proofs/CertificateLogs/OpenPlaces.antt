@@ -1,12 +1,10 @@
 -- Which lease stands at a place, when one begins and when one ends
-use Rattle.leases.proofs.BaseWords.{rules, subst, ◌≡◌, ◌+◌, ◌∷◌, ◌++◌, ◌∙◌, ℕ, zero, suc, Bool, true, false, List, [], length, map, slice_get, sym, refl, list_any, and_parts, or_parts, or_from, false≢true, Lease, Leased, Lent, is_unended, AllUnended, agree, agrees, test_of, IsOnly, IsOnlyAt, is_open_of}
+use Rattle.leases.proofs.BaseWords.{arith, rules, subst, ◌≡◌, ◌+◌, ◌∷◌, ◌++◌, ◌∙◌, ℕ, zero, suc, Bool, true, false, List, [], length, map, slice_get, sym, refl, list_any, and_parts, or_from, false≢true, Lease, Leased, Lent, is_unended, AllUnended, agree, agrees, test_of, IsOnly, IsOnlyAt, is_open_of}
 
 module _ (p q : Lent → Bool) (f : Lent → Lent) (same : (t : Lent) → q (f t) ≡ p t) where
   none_alike : (ts : List Lent) → list_any p ts ≡ false → list_any q (map f ts) ≡ false
   none_alike [] none = refl
-  none_alike (t ∷ ts) none =
-      let parts = or_parts (p t) (list_any p ts) none in
-      or_from (q (f t)) (list_any q (map f ts)) (same t ∙ parts.0) (none_alike ts parts.1)
+  none_alike (t ∷ ts) none = grind (arith, same t, none_alike ts)
 
   at_alike : (i : ℕ) (ts : List Lent) → IsOnlyAt p i ts → IsOnlyAt q i (map f ts)
   at_alike i [] at = at
@@ -15,8 +13,7 @@ module _ (p q : Lent → Bool) (f : Lent → Lent) (same : (t : Lent) → q (f t
 
   -- what passes still, and nothing else
   pub only_alike : (n : ℕ) (ts : List Lent) → IsOnly p n ts → IsOnly q n (map f ts)
-  only_alike zero ts none = none_alike ts none
-  only_alike (suc i) ts at = at_alike i ts at
+  only_alike n ts none = grind (arith, none_alike, at_alike)
 
 -- tests that agree are passed by the same
 pub only_same : (p q : Lent → Bool) → ((t : Lent) → q t ≡ p t) → (n : ℕ) (ts : List Lent) → IsOnly p n ts → IsOnly q n ts
@@ -25,9 +22,7 @@ only_same p q same n ts only = subst (λ (r : Lent → Bool). IsOnly r n ts) (λ
 module _ (p : Lent → Bool) (t : Lent) where
   none_more : (ts : List Lent) → p t ≡ false → list_any p ts ≡ false → list_any p (ts ++ t ∷ []) ≡ false
   none_more [] fails none = or_from (p t) false fails refl
-  none_more (s ∷ ts) fails none =
-      let parts = or_parts (p s) (list_any p ts) none in
-      or_from (p s) (list_any p (ts ++ t ∷ [])) parts.0 (none_more ts fails parts.1)
+  none_more (s ∷ ts) fails none = grind (arith, none_more ts)
 
   at_more : (i : ℕ) (ts : List Lent) → p t ≡ false → IsOnlyAt p i ts → IsOnlyAt p i (ts ++ t ∷ [])
   at_more i [] fails at = absurd at
@@ -36,15 +31,12 @@ module _ (p : Lent → Bool) (t : Lent) where
 
   -- one more that doesn't pass
   pub only_more : (n : ℕ) (ts : List Lent) → p t ≡ false → IsOnly p n ts → IsOnly p n (ts ++ t ∷ [])
-  only_more zero ts fails none = none_more ts fails none
-  only_more (suc i) ts fails at = at_more i ts fails at
+  only_more n ts fails none = grind (arith, none_more, at_more)
 
   -- and one that does
   pub first_one : (ts : List Lent) → p t ≡ true → list_any p ts ≡ false → IsOnlyAt p (length ts) (ts ++ t ∷ [])
   first_one [] passes none = (passes, refl)
-  first_one (s ∷ ts) passes none =
-      let parts = or_parts (p s) (list_any p ts) none in
-      (parts.0, first_one ts passes parts.1)
+  first_one (s ∷ ts) passes none = grind (arith, first_one ts passes)
 
 module _ (S T : Leased → Bool) (less : (l : Leased) → S l ≡ false → T l ≡ false) where
   open_less : (t : Lent) → is_open_of S t ≡ false → is_open_of T t ≡ false
@@ -52,9 +44,7 @@ module _ (S T : Leased → Bool) (less : (l : Leased) → S l ≡ false → T l 
 
   pub none_less : (ts : List Lent) → list_any (is_open_of S) ts ≡ false → list_any (is_open_of T) ts ≡ false
   none_less [] none = refl
-  none_less (t ∷ ts) none =
-      let parts = or_parts (is_open_of S t) (list_any (is_open_of S) ts) none in
-      or_from (is_open_of T t) (list_any (is_open_of T) ts) (open_less t parts.0) (none_less ts parts.1)
+  none_less (t ∷ ts) none = grind (arith, open_less t, none_less ts)
 
   -- of a test that fewer pass: by its lease in the list, the one there passes it, or none does
   pub at_less : (C : Leased → Type 0) (G : Lease → Bool) → ((t : Lent) (l : Lease) → agrees t l ≡ true → is_open_of S t ≡ true → C t.leased → G l ≡ is_open_of T t) →
@@ -62,9 +52,6 @@ module _ (S T : Leased → Bool) (less : (l : Leased) → S l ≡ false → T l 
       (test_of G (slice_get ls i) ≡ true → IsOnlyAt (is_open_of T) i ts) × (test_of G (slice_get ls i) ≡ false → list_any (is_open_of T) ts ≡ false)
   unfolding agree
   at_less C G told i n [] ls e all at = absurd at
-  at_less C G told i n (t ∷ ts) [] e all at = absurd (false≢true e)
   at_less C G told zero n (t ∷ ts) (m ∷ ls) e all at = search (rules, and_parts, agrees, agree, is_unended, is_open_of, none_less, or_from, list_any)
-  at_less C G told (suc i) n (t ∷ ts) (m ∷ ls) e all at =
-      let parts = and_parts (agrees t m) (agree ts ls) e in
-      let rest = at_less C G told i (n + 1) ts ls parts.1 all.1 at.1 in
-      (λ this_one. (open_less t at.0, rest.0 this_one), λ other. or_from (is_open_of T t) (list_any (is_open_of T) ts) (open_less t at.0) (rest.1 other))
+  at_less C G told (suc i) n (t ∷ ts) (m ∷ ls) e all at = grind (arith, open_less, or_from, is_open_of, at_less C G told i (n + 1) ts ls)
+  at_less C G told i n ts ls e all at = absurd (false≢true e)

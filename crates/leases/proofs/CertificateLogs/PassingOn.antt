@@ -1,12 +1,5 @@
 -- The walk along a ring passes a position at which no Link is crossed
-use Rattle.leases.proofs.BaseWords.{rules, false_unless, ◌≡◌, ◌+◌, ◌≤◌, ◌||◌, ◌∙◌, ℕ, Bool, false, not, List, map, sym, false≢true, length-map, is_crossing, Header, shape_of, Lease, Leased, Block, same_leased, IndexTables, IsFound, Lent, ended_where, is_passed, FollowedList, agree, IsCrossed, FollowsList}
-use Rattle.leases.proofs.LeaseBooks.Passing.{ended_alike, passed_block}
-use Rattle.leases.proofs.CertificateLogs.Agreement.{agree_unended}
-use Rattle.leases.proofs.CertificateLogs.Tables.{number_of}
-
--- where the tables have its number, they find what is crossed
-crossed_found : (h : Header) (blocks links : IndexTables) (l : Leased) → IsCrossed h l → IsFound h blocks links (number_of h blocks links l) l
-crossed_found h blocks links z crossed = search rules
+use Rattle.leases.proofs.UpperLaws.{rules, false_unless, ◌≡◌, ◌+◌, ◌≤◌, ◌||◌, ◌∙◌, ℕ, Bool, false, not, List, map, sym, false≢true, length-map, is_crossing, Header, shape_of, Lease, Leased, Block, same_leased, IndexTables, Lent, ended_where, is_passed, FollowedList, agree, IsCrossed, FollowsList, ended_alike, passed_block, agree_unended, number_of}
 
 module _ (leases : List Lease) (h : Header) (ts : List Lent) (list : FollowedList) (blocks links : IndexTables) (follows : FollowsList leases h ts list blocks links) (p q : Leased → Bool) (row : ℕ)
     (alike : (l : Leased) → IsCrossed h l → p l ≡ q l) where
@@ -30,4 +23,4 @@ pub passed_on : (leases : List Lease) (h : Header) (ts : List Lent) (list : Foll
     FollowsList leases h (map (ended_where (is_passed r from (n + 1)) row) ts) new new_blocks new_links
 passed_on leases h ts list blocks links follows r from n row least none =
     ended_so leases h ts list blocks links follows (λ l. is_passed r from n l || same_leased (Block r n) l) (is_passed r from (n + 1)) row
-    (λ l crossed. passed_block h blocks links r from n (number_of h blocks links l) l least none (crossed_found h blocks links l crossed))
+    (λ l crossed. passed_block h blocks links r from n (number_of h blocks links l) l least none (search rules))

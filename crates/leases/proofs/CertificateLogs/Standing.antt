@@ -1,6 +1,5 @@
 -- Where what is lent stands among what was and is lent
-use Rattle.leases.proofs.BaseWords.{rules, not-true, and_false, false_unless, ◌≡◌, ◌+◌, ◌<◌, ◌%◌, ◌==◌, ◌&&◌, ◌∷◌, ℕ, zero, suc, Bool, true, false, List, [], arith, sym, refl, inl, inr, subst, eq-eqb, list_any, cases_Bool, and_parts, false≢true, place_count, link_of, Header, shape_of, Leased, Block, Link, Range, Use, same_leased, leased_is, AllUnended, Lent, is_place_free, is_unended, share_a_place, StandsAt, is_lent, IsOnlyAt, BlockPlace, RingPlace, has_place, is_open_of}
-use Rattle.leases.proofs.LeaseBooks.EndingRange.{either_holds, not_later}
+use Rattle.leases.proofs.LowerLaws.{rules, not-true, and_false, false_unless, ◌≡◌, ◌+◌, ◌<◌, ◌%◌, ◌==◌, ◌&&◌, ◌∷◌, ℕ, zero, suc, Bool, true, false, List, [], arith, refl, inl, inr, subst, eq-eqb, list_any, cases_Bool, and_parts, false≢true, place_count, link_of, Header, shape_of, Leased, Block, Link, Range, Use, same_leased, leased_is, AllUnended, Lent, is_place_free, is_unended, share_a_place, StandsAt, is_lent, IsOnlyAt, RingPlace, has_place, is_open_of, either_holds, not_later}
 
 module _ (l : Leased) where
   abbrev is_this : Lent → Bool
@@ -11,27 +10,18 @@ module _ (l : Leased) where
 
   only_there : (n i : ℕ) (ts : List Lent) → AllUnended (λ j m. m ≡ l → j ≡ n + i) n ts → list_any is_this ts ≡ true → IsOnlyAt is_this i ts
   only_there n i [] all some = absurd (false≢true some)
-  only_there n zero (t ∷ ts) all some = elim (cases_Bool (is_this t)) [
-    | inl this ↦ (this, none_later (n + 0) (n + 1) ts (omega arith) all.1)
-    | inr other ↦ absurd (not_later l (n + 0) (n + 1) ts (omega arith) all.1 (either_holds (is_this t) (list_any is_this ts) some other))
-  ]
+  only_there n zero (t ∷ ts) all some = search (rules, none_later (n + 0) (n + 1) ts, not_later l (n + 0) (n + 1) ts, either_holds)
   only_there n (suc i) (t ∷ ts) all some = elim (cases_Bool (is_this t)) [
-    | inl this ↦
-        let parts = and_parts (is_unended t) (same_leased l t.leased) this in
-        let here : n ≡ n + suc i = all.0 parts.0 (sym (leased_is l t.leased parts.1)) in
-        absurd (omega arith)
+    | inl this ↦ grind (arith, and_parts, is_unended, same_leased, leased_is)
     | inr other ↦
         let next : n + suc i ≡ n + 1 + i = omega arith in
-        let later : AllUnended (λ j m. m ≡ l → j ≡ n + 1 + i) (n + 1) ts = subst (λ (k : ℕ). AllUnended (λ j m. m ≡ l → j ≡ k) (n + 1) ts) next all.1 in
-        (other, only_there (n + 1) i ts later (either_holds (is_this t) (list_any is_this ts) some other))
+        (other, only_there (n + 1) i ts (subst (λ (k : ℕ). AllUnended (λ j m. m ≡ l → j ≡ k) (n + 1) ts) next all.1) (either_holds (is_this t) (list_any is_this ts) some other))
   ]
 
   -- what is lent, and stands at an index, stands there alone
   pub stands_only : (ts : List Lent) (i : ℕ) → StandsAt ts l i → is_lent ts l ≡ true → IsOnlyAt is_this i ts
   unfolding is_lent
-  stands_only ts i stands lent =
-      let at : i ≡ 0 + i = omega arith in
-      only_there 0 i ts (subst (λ (m : ℕ). StandsAt ts l m) at stands) lent
+  stands_only ts i stands lent = only_there 0 i ts (subst (λ (m : ℕ). StandsAt ts l m) (omega arith) stands) lent
 
 pub itself : (a b : ℕ) → (a == a && b == b) ≡ true
 itself a b = rw (eq-eqb a a refl, eq-eqb b b refl) refl
@@ -59,5 +49,4 @@ module _ (h : Header) where
 
   -- a range has no place
   pub range_apart : (n a : ℕ) (e : Use) (m : RingPlace) → has_place h m (Range n a e) ≡ false
-  range_apart n a e (BlockPlace r i) = refl
-  range_apart n a e _ = refl
+  range_apart n a e m = grind arith

@@ -1,8 +1,5 @@
 -- A number is put for the place of a lease
-use Rattle.leases.proofs.BaseWords.{◌≡◌, ◌%◌, ◌==◌, ◌&&◌, ◌∙◌, ℕ, true, false, sym, ap, refl, eqb-true, and_parts, false≢true, place_count, link_of, Header, shape_of, Leased, Block, Link, Range, Use, IndexTables, index_at, share_a_place, FindsPlaces, IsOnly, is_open_of, is_unended, Lent, List, BlockPlace, LinkPlace, RingPlace, has_place, number_at, rules}
-use Rattle.leases.proofs.LeaseBooks.Places.{IsPut, elsewhere}
-use Rattle.leases.proofs.CertificateLogs.OpenPlaces.{only_same}
-use Rattle.leases.proofs.CertificateLogs.Standing.{itself, range_none}
+use Rattle.leases.proofs.MiddleLaws.{arith, ◌≡◌, ◌%◌, ◌==◌, ◌&&◌, ◌∙◌, ℕ, true, false, sym, ap, refl, eqb-true, and_parts, false≢true, place_count, link_of, Header, shape_of, Leased, Block, Link, Range, Use, IndexTables, index_at, share_a_place, FindsPlaces, IsOnly, is_open_of, is_unended, Lent, List, BlockPlace, LinkPlace, RingPlace, has_place, number_at, rules, IsPut, elsewhere, only_same, itself, range_none}
 
 -- the number of its place, and of no other, is this one now
 pub record IsNumbered (h : Header) (blocks links new_blocks new_links : IndexTables) (l : Leased) (n : ℕ) : Type 0 where
@@ -33,16 +30,14 @@ module _ (h : Header) where
 
   -- what has the place of a lease shares a place with it
   pub share_alike : (m : RingPlace) (l : Leased) → has_place h m l ≡ true → (x : Leased) → has_place h m x ≡ share_a_place h l x
-  share_alike (BlockPlace r i) (Block s q) e (Link a b) = refl
-  share_alike _ _ e _ = search (rules, and_parts, same_test, eqb-true, false≢true)
+  share_alike m l e x = grind (arith, and_parts, same_test, eqb-true, false≢true)
 
   of_place : (ts : List Lent) (m : RingPlace) (l : Leased) → has_place h m l ≡ true → (n : ℕ) → IsOnly (is_open_of (has_place h m)) n ts → IsOnly (is_open_of (share_a_place h l)) n ts
   of_place ts m l has n only = only_same (is_open_of (has_place h m)) (is_open_of (share_a_place h l)) (λ t. ap (λ b. is_unended t && b) (sym (share_alike m l has t.leased))) n ts only
 
   -- and the number is that of the place
   pub number_alike : (blocks links : IndexTables) (m : RingPlace) (l : Leased) → has_place h m l ≡ true → number_at blocks links m ≡ number_of blocks links l
-  number_alike blocks links (BlockPlace r i) (Link s q) e = absurd (false≢true e)
-  number_alike blocks links _ _ e = search (rules, and_parts, same_index, eqb-true, false≢true)
+  number_alike blocks links m l e = grind (arith, false≢true, and_parts, same_index, eqb-true)
 
   pub block_numbered : (blocks links new : IndexTables) (r p n : ℕ) → IsPut blocks new r (place r p) n → IsNumbered h blocks links new links (Block r p) n
   block_numbered blocks links new r p n put = search (rules, number_alike, elsewhere, turned)

@@ -1,9 +1,8 @@
 -- To end one lease of the list is to end what it leases
-use Rattle.leases.proofs.BaseWords.{rules, ◌≡◌, ◌+◌, ◌<◌, ◌&&◌, ◌∷◌, ◌∙◌, ℕ, Bool, true, false, List, [], map, slice_get, slice_set, Some, None, zero, suc, arith, sym, ap, refl, inl, inr, cond, subst, cases_Bool, and_parts, nat_tests, Lease, Leased, Block, Link, Range, same_leased, as_lease, without_end, leased_is, Lent, lease_of, is_unended, ended_where, AllUnended, is_open_as, ended_at}
+use Rattle.leases.proofs.BaseWords.{rules, ◌≡◌, ◌+◌, ◌<◌, ◌&&◌, ◌∷◌, ◌∙◌, ℕ, Bool, true, false, List, [], map, slice_get, slice_set, Some, None, zero, suc, arith, ap, refl, cond, cases_Bool, and_parts, nat_tests, Lease, Leased, Block, Link, Range, same_leased, as_lease, without_end, leased_is, Lent, lease_of, is_unended, ended_where, AllUnended, is_open_as, ended_at}
 
 pushed : {A B : Type 0} (f : A → B) (b : Bool) (x y : A) → f (cond b x y) ≡ cond b (f x) (f y)
-pushed f true x y = refl
-pushed f false x y = refl
+pushed f b x y = grind arith
 
 drops : (a b c : Bool) → (a && false && b && c) ≡ (a && false)
 drops a b c = search rules
@@ -30,15 +29,7 @@ module _ (F : ℕ → Leased → Type 0) (l : Leased) (row : ℕ) where
   pub none_ends : (n : ℕ) (ts : List Lent) → ((j : ℕ) → F j l → j < n) → AllUnended F n ts → map (ended_where (same_leased l) row) ts ≡ ts
   unfolding ended_where
   none_ends n [] before all = refl
-  none_ends n (t ∷ ts) before all =
-      elim (cases_Bool (is_unended t && same_leased l t.leased)) [
-        | inl this ↦
-            let parts = and_parts (is_unended t) (same_leased l t.leased) this in
-            let found : F n l = subst (F n) (sym (leased_is l t.leased parts.1)) (all.0 parts.0) in
-            let low : n < n = before n found in
-            absurd (omega arith)
-        | inr other ↦ rw (other, none_ends (n + 1) ts (λ j f. let low : j < n = before j f in omega arith) all.1) refl
-      ]
+  none_ends n (t ∷ ts) before all = grind (arith, cases_Bool, is_unended, same_leased, and_parts, leased_is, none_ends (n + 1) ts (λ j f. let low : j < n = before j f in omega arith) all.1)
 
   module _ (x : Lease) (P : Leased → Type 0) (told : (j : ℕ) (m : Leased) → F j m → P m)
       (alike : (t : Lent) → (is_unended t ≡ true → P t.leased) → is_open_as x (lease_of t) ≡ (is_unended t && same_leased l t.leased)) where
@@ -47,16 +38,7 @@ module _ (F : ℕ → Leased → Type 0) (l : Leased) (row : ℕ) where
     unfolding ended_at ended_where
     one_ends n i [] only all = refl
     one_ends n zero (t ∷ ts) only all = search (rules, map, ended_where, same_leased, none_ends, lease_of, cond, is_unended, later_end, pushed)
-    one_ends n (suc i) (t ∷ ts) only all =
-        let rest = one_ends (n + 1) i ts (λ j f. let e : j ≡ n + suc i = only j f in omega arith) all.1 in
-        elim (cases_Bool (is_unended t && same_leased l t.leased)) [
-          | inl this ↦
-              let parts = and_parts (is_unended t) (same_leased l t.leased) this in
-              let found : F n l = subst (F n) (sym (leased_is l t.leased parts.1)) (all.0 parts.0) in
-              let at : n ≡ n + suc i = only n found in
-              absurd (omega arith)
-          | inr other ↦ rw other (ap (λ ys. lease_of t ∷ ys) rest)
-        ]
+    one_ends n (suc i) (t ∷ ts) only all = grind (arith, cases_Bool, is_unended, same_leased, and_parts, leased_is, lease_of, one_ends (n + 1) i ts (λ j f. let e : j ≡ n + suc i = only j f in omega arith) all.1)
 
 -- a block's lease, told of the list and told of what is lent
 pub block_alike : (r p n e : ℕ) (t : Lent) → is_open_as (as_lease n e (Block r p)) (lease_of t) ≡ (is_unended t && same_leased (Block r p) t.leased)

@@ -11,10 +11,7 @@ module _ (l : Leased) (i : ℕ) where
   not_later n [] early all some = false≢true some
   not_later n (t ∷ ts) early all some =
       elim (cases_Bool (is_unended t && same_leased l t.leased)) [
-        | inl this ↦
-            let parts = and_parts (is_unended t) (same_leased l t.leased) this in
-            let here : n ≡ i = all.0 parts.0 (sym (leased_is l t.leased parts.1)) in
-            absurd (omega arith)
+        | inl this ↦ grind (arith, and_parts, is_unended, same_leased, leased_is)
         | inr other ↦ not_later (n + 1) ts (omega arith) all.1 (either_holds _ _ some other)
       ]
 
@@ -25,10 +22,7 @@ module _ (l : Leased) (row : ℕ) (x : Lease) (alike : (t : Lent) → is_unended
   stands_ends n i [] all some = refl
   stands_ends n zero (t ∷ ts) all some =
       elim (cases_Bool (is_unended t && same_leased l t.leased)) [
-        | inl this ↦
-            let parts = and_parts (is_unended t) (same_leased l t.leased) this in
-            let rest : map (ended_where (same_leased l) row) ts ≡ ts = none_ends (λ j m. m ≡ l → j ≡ n + 0) l row (n + 1) ts (λ j f. let e : j ≡ n + 0 = f refl in omega arith) all.1 in
-            rw (alike t parts.0 (sym (leased_is l t.leased parts.1)), this, rest) (ap (λ y. y ∷ map lease_of ts) (sym (later_end t row)))
+        | inl this ↦ grind (arith, and_parts, is_unended, same_leased, ended_where, none_ends, leased_is, lease_of, later_end)
         | inr other ↦ absurd (not_later l (n + 0) (n + 1) ts (omega arith) all.1 (either_holds _ _ some other))
       ]
   stands_ends n (suc i) (t ∷ ts) all some =

@@ -1,9 +1,5 @@
 -- What is lent after the end of a command: what its completion passes and lets go of ends, and nothing begins
-use Rattle.leases.proofs.BaseWords.{◌≡◌, ℕ, List, map, Option, Header, Ring, Row, driver_rings, Known, learned, IsIn, ended_where, let_go, Lent, grown, AreOpen}
-use Rattle.leases.proofs.LeaseBooks.LettingGo.{Finishes, ranges_narrow}
-use Rattle.leases.proofs.LeaseBooks.Narrowing.{floors, is_left, narrows}
-use Rattle.leases.proofs.LeaseBooks.PassedLeases.{Moves}
-use Rattle.leases.proofs.LeaseBooks.Rows.{only_ended}
+use Rattle.leases.proofs.MiddleLaws.{arith, ◌≡◌, ℕ, List, map, Option, Header, Ring, Row, driver_rings, Known, learned, IsIn, ended_where, let_go, Lent, grown, AreOpen, Finishes, ranges_narrow, floors, is_left, narrows, Moves, only_ended}
 
 module _ (h : Header) (k : Known) (ts : List Lent) (still : AreOpen h k ts) (row : Row) (n : ℕ) where
   abbrev k' : Known
@@ -12,6 +8,4 @@ module _ (h : Header) (k : Known) (ts : List Lent) (still : AreOpen h k ts) (row
   -- rings move on by floors, the command ring by the next command; a slot may be left
   pub finish_lent : (left : Option ℕ) → Finishes h k k' left → ((q : Ring) → IsIn q (driver_rings h) → Moves q.shape (k.ring q.id) (k'.ring q.id) (floors k' q.id)) →
       grown h k row n ts ≡ map (ended_where (is_left (floors k) (floors k') (let_go h k left)) n) ts
-  finish_lent left f each =
-      only_ended h k ts still row n (is_left (floors k) (floors k') (let_go h k left))
-      (narrows h k k' (let_go h k left) (record { each = each; ranges = ranges_narrow h k k' left f }))
+  finish_lent left f each = grind (arith, only_ended, is_left, floors, let_go, narrows, ranges_narrow)

@@ -1,22 +1,11 @@
 -- Before the first row the event segments are under lease, and nothing else
-use Rattle.leases.proofs.BaseWords.{and_false, ◌≡◌, ◌*◌, ◌++◌, ◌∙◌, ℕ, [], map, subst, sym, ap, refl, append-nil, is_crossing, due_crossings, due_positions, leased_crossings, leased_positions, is_handed_over, new_ring, Segment, Header, Ring, Erstba, command_id, driver_rings, event_shape, shape_of, nothing, Leased, Range, EventSegment, context_ranges, device_ranges, entry_ranges, open_leases, open_on, open_ranges, range_of_command, range_of_device, range_of_entry, segment_ranges, slots, table_range, as_lease, in_order, without_end, IsIn, IndexTables, begun_at, in_turn, lease_of, lents, with_begun, AllUnended, IsFound, segment_lease, rules}
-use Rattle.leases.proofs.RingLeases.RingsLeft.{filter_none}
+use Rattle.leases.proofs.LowerLaws.{and_false, ◌≡◌, ◌*◌, ◌++◌, ◌∙◌, ℕ, [], map, subst, sym, ap, refl, append-nil, is_crossing, due_crossings, due_positions, leased_crossings, leased_positions, is_handed_over, new_ring, Segment, Header, Ring, Erstba, command_id, driver_rings, event_shape, shape_of, nothing, Leased, Range, EventSegment, context_ranges, device_ranges, entry_ranges, open_leases, open_on, open_ranges, range_of_command, range_of_device, range_of_entry, segment_ranges, slots, table_range, as_lease, in_order, without_end, IsIn, IndexTables, begun_at, in_turn, lease_of, lents, with_begun, AllUnended, IsFound, segment_lease, rules, filter_none, map_map, sorted, all_new, from_turn, flat_none, from_map, IsRange, all_anew}
 use Rattle.ring_knowledge.specs.Rings as rings
-use Rattle.leases.proofs.LeaseBooks.Growing.{map_map, sorted}
-use Rattle.leases.proofs.LeaseBooks.Rows.{all_new, from_turn}
-use Rattle.leases.proofs.LeaseBooks.SameLeases.{flat_none}
-use Rattle.leases.proofs.LeaseBooks.Members.{from_map}
-use Rattle.leases.proofs.LeaseBooks.RangesAlone.{IsRange}
-use Rattle.leases.proofs.LeaseBooks.Unended.{all_anew}
 
 module _ (h : Header) where
   none_on : (r : Ring) → open_on h nothing r ≡ []
   unfolding open_on nothing leased_positions leased_crossings
   none_on r = search (rules, filter_none, is_handed_over, new_ring, due_positions, is_crossing, due_crossings, and_false)
-
-  no_contexts : context_ranges h nothing ≡ []
-  unfolding context_ranges rings.unfinished_positions nothing
-  no_contexts = search (rules, range_of_command, nothing, filter_none, due_positions, shape_of, command_id, new_ring)
 
   no_entries : entry_ranges nothing ≡ []
   unfolding entry_ranges nothing range_of_entry
@@ -31,8 +20,8 @@ module _ (h : Header) where
   no_table = refl
 
   ranges_at_first : open_ranges h nothing ≡ segment_ranges h
-  unfolding open_ranges
-  ranges_at_first = rw (no_table, no_contexts, no_entries, no_devices) (append-nil _ ∙ append-nil _ ∙ append-nil _ ∙ append-nil (segment_ranges h))
+  unfolding open_ranges context_ranges rings.unfinished_positions nothing
+  ranges_at_first = rw (no_table, range_of_command, nothing, filter_none, due_positions, shape_of, command_id, new_ring, no_entries, no_devices) (append-nil _ ∙ append-nil _ ∙ append-nil _ ∙ append-nil (segment_ranges h))
 
   pub open_at_first : open_leases h nothing ≡ segment_ranges h
   unfolding open_leases

@@ -1,9 +1,5 @@
 -- Before the first row no range that ends is under lease
-use Rattle.leases.proofs.BaseWords.{◌*◌, ℕ, [], map, sym, subst, Segment, Header, event_shape, nothing, Leased, Range, EventSegment, open_leases, segment_ranges, IsIn, RangeIndexes, begun_at, in_turn, lents, with_begun, FindsRanges, IsRangeFound}
-use Rattle.leases.proofs.LeaseBooks.FirstBook.{open_at_first}
-use Rattle.leases.proofs.LeaseBooks.Rows.{all_new, from_turn}
-use Rattle.leases.proofs.LeaseBooks.Members.{from_map}
-use Rattle.leases.proofs.LeaseBooks.Unended.{all_anew}
+use Rattle.leases.proofs.MiddleLaws.{arith, ℕ, [], map, subst, Segment, Header, event_shape, nothing, Leased, Range, EventSegment, open_leases, segment_ranges, IsIn, RangeIndexes, begun_at, in_turn, lents, with_begun, FindsRanges, IsRangeFound, open_at_first, all_new, from_turn, from_map, all_anew}
 
 abbrev pub IsSegment : Leased → Type 0
 IsSegment (Range n a EventSegment) = Unit {0}
@@ -11,9 +7,7 @@ IsSegment _ = ⊥
 
 segments_are : (h : Header) (l : Leased) → IsIn l (segment_ranges h) → IsSegment l
 unfolding segment_ranges
-segments_are h l at =
-    let found = from_map (λ (s : Segment). Range (16 * s.count) s.base EventSegment) (event_shape h).segments l at in
-    subst IsSegment (sym found.2) tt
+segments_are h l at = grind (arith, from_map, Segment, Range, EventSegment, event_shape)
 
 pub first_ranges : (h : Header) (first : ℕ) (x : RangeIndexes) → FindsRanges h (lents h first []) x
 unfolding lents with_begun

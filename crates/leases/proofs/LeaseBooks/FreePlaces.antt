@@ -1,16 +1,10 @@
 -- No lease that is open shares its place with a position that isn't handed over
-use Rattle.leases.proofs.BaseWords.{rules, false_unless, ◌≡◌, ◌+◌, ◌%◌, ◌<◌, ◌≤◌, ◌&&◌, ◌∷◌, ℕ, Bool, true, false, not, List, [], ap, refl, inl, inr, eqb-true, list_any, cases_Bool, false≢true, and_parts, Shape, place_count, floor_number, is_handed_over, Header, Ring, driver_rings, shape_of, Known, same_due, Leased, Block, is_among, open_leases, IsIn, Lent, is_place_free, is_unended, share_a_place, AllUnended, AreOpen}
-use Rattle.leases.proofs.LeaseBooks.Members.{InOn, block, link}
-use Rattle.leases.proofs.LeaseBooks.RangesAlone.{IsRange, each_open, open_are_ranges}
-use Rattle.leases.proofs.LeaseBooks.Writing.{AreShaped}
+use Rattle.leases.proofs.MiddleLaws.{arith, rules, false_unless, ◌≡◌, ◌+◌, ◌<◌, ◌≤◌, ◌&&◌, ◌∷◌, ℕ, Bool, true, false, not, List, [], ap, refl, eqb-true, list_any, cases_Bool, false≢true, and_parts, Shape, place_count, floor_number, is_handed_over, Header, Ring, driver_rings, shape_of, Known, same_due, Leased, Block, is_among, open_leases, IsIn, Lent, is_place_free, is_unended, share_a_place, AllUnended, AreOpen, InOn, IsRange, each_open, open_are_ranges, AreShaped}
 
 pub none_shares : (P : Leased → Type 0) (S : Leased → Bool) (i : ℕ) (ts : List Lent) → ((l : Leased) → P l → S l ≡ false) → AllUnended (λ j l. P l) i ts →
     list_any (λ t. is_unended t && S t.leased) ts ≡ false
 none_shares P S i [] apart all = refl
-none_shares P S i (t ∷ ts) apart all = elim (cases_Bool (is_unended t)) [
-  | inl unended ↦ rw (unended, apart t.leased (all.0 unended)) (none_shares P S (i + 1) ts apart all.1)
-  | inr over ↦ rw over (none_shares P S (i + 1) ts apart all.1)
-]
+none_shares P S i (t ∷ ts) apart all = grind (arith, cases_Bool, is_unended, none_shares P S (i + 1) ts apart all.1)
 
 -- a range shares no place
 apart_range : (h : Header) (x l : Leased) → IsRange l → share_a_place h x l ≡ false
@@ -26,13 +20,8 @@ none_open_shares h k ts still x apart =
 
 module _ (h : Header) (shaped : AreShaped h) (k : Known) (q : Ring) (among : IsIn q (driver_rings h)) (p : ℕ)
     (some : 0 < place_count q.shape) (low : floor_number (k.ring q.id) ≤ p) (high : p < floor_number (k.ring q.id) + place_count q.shape) (absent : is_handed_over (k.ring q.id) p ≡ false) where
-  same_place : (s : Ring) → IsIn s (driver_rings h) → (m : ℕ) → q.id ≡ s.id → floor_number (k.ring s.id) ≤ m → m < floor_number (k.ring s.id) + place_count s.shape → is_handed_over (k.ring s.id) m ≡ true →
-      p % place_count (shape_of h q.id) ≡ m % place_count (shape_of h s.id) → ⊥
-  same_place s at m ids least most lent e = search (rules, shape_of, floor_number, place_count, Shape, is_handed_over, same_due, false≢true)
-
   apart_on : (s : Ring) → IsIn s (driver_rings h) → (l : Leased) → InOn s (k.ring s.id) l → share_a_place h (Block q.id p) l ≡ false
-  apart_on s at _ (block m least most lent) = search (rules, false_unless, and_parts, place_count, shape_of, same_place, eqb-true)
-  apart_on s at _ (link c least most crossed) = refl
+  apart_on s at l h4 = grind (arith, false_unless, and_parts, place_count, shape_of, floor_number, Shape, is_handed_over, same_due, false≢true, eqb-true)
 
 -- the place of a due position that isn't handed over is free
 pub unlent_free : (h : Header) → AreShaped h → (k : Known) (ts : List Lent) → AreOpen h k ts → (q : Ring) → IsIn q (driver_rings h) → (p : ℕ) → 0 < place_count q.shape →

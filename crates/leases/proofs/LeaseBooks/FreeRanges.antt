@@ -1,10 +1,7 @@
 -- Where a slot has no device, no range is lent for its entry in the DCBAA, nor for its device context; where a due position isn't given, none
 -- for the input context of its command
-use Rattle.leases.proofs.BaseWords.{◌≡◌, ◌+◌, ◌<◌, ◌≤◌, ◌==◌, ℕ, true, false, not, List, Some, None, ap, eqb-true, range_with_len, false≢true, place_count, RingView, due_positions, floor_number, Header, Ring, command_id, shape_of, Known, same_due, Leased, Block, Link, Range, EventSegment, SegmentTable, InputContext, SlotEntry, DeviceContext, is_among, open_leases, IsIn, from_filter, command_place, is_use_free, shares_use, Lent, AreOpen, rules}
+use Rattle.leases.proofs.UpperLaws.{◌≡◌, ◌+◌, ◌<◌, ◌≤◌, ◌==◌, ℕ, true, false, not, List, Some, None, ap, eqb-true, range_with_len, false≢true, place_count, RingView, due_positions, floor_number, Header, Ring, command_id, shape_of, Known, same_due, Leased, Block, Link, Range, EventSegment, SegmentTable, InputContext, SlotEntry, DeviceContext, is_among, open_leases, IsIn, from_filter, is_use_free, shares_use, Lent, AreOpen, rules, none_shares, InOn, block, link, from_range, HoldsOfRanges, each_open, of_range}
 use Rattle.ring_knowledge.specs.Rings as rings
-use Rattle.leases.proofs.LeaseBooks.FreePlaces.{none_shares}
-use Rattle.leases.proofs.LeaseBooks.Members.{InOn, block, link, from_range}
-use Rattle.leases.proofs.LeaseBooks.RangesAlone.{HoldsOfRanges, each_open, of_range}
 
 module _ (h : Header) (k : Known) (P : Leased → Type 0) where
   -- what holds of each kind of lease that is open
@@ -53,12 +50,8 @@ module _ (h : Header) (k : Known) (ts : List Lent) (still : AreOpen h k ts) (p :
   count = place_count (shape_of h (command_id h))
 
   module _ (some : 0 < count) (low : floor_number commands ≤ p) (high : p < floor_number commands + count) (absent : commands.given p ≡ false) where
-    other_place : (q : ℕ) → IsIn q (rings.unfinished_positions h k) → (command_place h p == command_place h q) ≡ false
-    unfolding rings.unfinished_positions due_positions
-    other_place q at = search (rules, from_filter, range_with_len, floor_number, from_range, same_due, eqb-true, false≢true)
-
     pub context_free : is_use_free h ts (InputContext p) ≡ true
-    unfolding is_use_free
+    unfolding is_use_free rings.unfinished_positions due_positions
     context_free =
         ap not (none_shares (λ l. is_among (open_leases h k) l ≡ true) (shares_use h (InputContext p)) 0 ts
-        (of_open h k (λ l. shares_use h (InputContext p) l ≡ false) (search (rules, other_place))) still)
+        (of_open h k (λ l. shares_use h (InputContext p) l ≡ false) (search (rules, from_filter, range_with_len, floor_number, from_range, same_due, eqb-true, false≢true))) still)

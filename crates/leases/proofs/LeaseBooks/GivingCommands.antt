@@ -1,15 +1,8 @@
 -- What is lent after any write: what it gives begins, with the input context of the command that it gives, and the entry and the device
 -- context of a slot that takes one; nothing ends
-use Rattle.leases.proofs.BaseWords.{◌≡◌, ◌≢◌, ◌+◌, ◌<◌, ◌≤◌, ◌==◌, ◌&&◌, ◌||◌, if◌then◌else◌, ◌∷◌, ◌++◌, ◌∙◌, ℕ, Bool, true, false, not, List, [], filter, map, Option, Some, None, option_and_then, zero, suc, arith, sym, ap, refl, inl, inr, subst, eqb-true, eq-eqb, append-nil, flat_map, range_with_len, cases_Bool, false≢true, or_left, filter-append, place_count, RingView, due_positions, floor_number, gives, leased_crossings, leased_positions, positions_given, command_of, device_context_bytes, Header, Ring, Write, Erstba, command_id, driver_rings, shape_of, Known, learned, command_given, entry_of, taken_device, with_device, with_word, written, Leased, Block, Link, Range, Use, InputContext, SlotEntry, DeviceContext, context_ranges, device_ranges, entry_ranges, is_among, open_leases, open_on, open_ranges, range_of_command, range_of_device, range_of_entry, segment_ranges, slots, table_range, begun, IsIn, among_is, from_filter, in_among, in_filter, in_turn, with_begun, Lent, grown, FreeWasGiven, AreOpen, rules}
-use Rattle.leases.proofs.RingLeases.RingsLeft.{filter_all}
-use Rattle.ring_knowledge.specs.Rings as rings
+use Rattle.leases.proofs.UpperLaws.{◌≡◌, ◌≢◌, ◌+◌, ◌<◌, ◌≤◌, ◌==◌, ◌&&◌, ◌||◌, if◌then◌else◌, ◌∷◌, ◌++◌, ◌∙◌, ℕ, Bool, true, false, not, List, [], filter, map, Option, Some, None, option_and_then, zero, suc, arith, sym, ap, refl, inl, inr, subst, eqb-true, eq-eqb, append-nil, flat_map, range_with_len, cases_Bool, false≢true, or_left, filter-append, place_count, RingView, due_positions, floor_number, gives, leased_crossings, leased_positions, positions_given, command_of, device_context_bytes, Header, Ring, Write, Erstba, command_id, driver_rings, shape_of, Known, learned, command_given, entry_of, taken_device, with_device, with_word, written, Leased, Block, Link, Range, Use, InputContext, SlotEntry, DeviceContext, context_ranges, device_ranges, entry_ranges, is_among, open_leases, open_on, open_ranges, range_of_command, range_of_device, range_of_entry, segment_ranges, slots, table_range, begun, IsIn, among_is, from_filter, in_among, in_filter, in_turn, with_begun, Lent, grown, FreeWasGiven, AreOpen, rules, filter_all, HasUse, only, use_of_command, either_into, five_into, from_flat_map, from_range, in_flat_map, in_left, in_right, context_open, device_open, entry_open, range_open, none_new, only_begun, flat_alike, AreShaped, filter_flat_map, kept_on_rings, lease_given, new_on_rings}
 use Rattle.leases.proofs.LeaseBooks.FreeRanges.{of_open}
-use Rattle.leases.proofs.LeaseBooks.LettingGo.{HasUse, only, use_of_command}
-use Rattle.leases.proofs.LeaseBooks.Members.{either_into, five_into, from_flat_map, from_range, in_flat_map, in_left, in_right}
-use Rattle.leases.proofs.LeaseBooks.RangesAlone.{context_open, device_open, entry_open, range_open}
-use Rattle.leases.proofs.LeaseBooks.Rows.{none_new, only_begun}
-use Rattle.leases.proofs.LeaseBooks.SameLeases.{flat_alike}
-use Rattle.leases.proofs.LeaseBooks.Writing.{AreShaped, filter_flat_map, kept_on_rings, lease_given, new_on_rings}
+use Rattle.ring_knowledge.specs.Rings as rings
 
 -- ---- lists
 
@@ -136,19 +129,7 @@ module _ (h : Header) (shaped : AreShaped h) (k : Known) (freed : FreeWasGiven h
 
   unused_open : (u : Use) → IsUnused u → (l : Leased) → HasUse u l → IsOpen l → ⊥
   unfolding rings.unfinished_positions
-  unused_open u unused l has there =
-      let slot_unused : (d : ℕ) (o : Option ℕ) → o ≡ Some d → o ≡ None → ⊥ = λ d o some none. let clash : None ≡ Some d = sym none ∙ some in cc in
-      of_open h k (λ m. HasUse u m → ⊥) (record {
-        blocks = λ r q x. x;
-        links = λ r q x. x;
-        segments = λ n x e. subst IsUnused (sym e) unused;
-        table = λ n x e. subst IsUnused (sym e) unused;
-        contexts = λ n x q at e.
-            let absent : commands.given q ≡ false = subst IsUnused (sym e) unused in
-            false≢true (sym absent ∙ (from_filter commands.given (due_positions (shape_of h (command_id h)) commands) q at).1);
-        entries = λ n x t d some e. slot_unused d (k.device t) some (subst IsUnused (sym e) unused);
-        devices = λ n x t d some e. slot_unused d (k.device t) some (subst IsUnused (sym e) unused);
-      }) l (in_among (open_leases h k) l there) has
+  unused_open u unused l has there = search (rules, of_open h k (λ m. HasUse u m → ⊥), in_among, from_filter, false≢true)
 
   new_contexts : filter IsNew (context_ranges h after) ≡ contexts_given h k a w
   unfolding positions_given due_positions
@@ -163,16 +144,9 @@ module _ (h : Header) (shaped : AreShaped h) (k : Known) (freed : FreeWasGiven h
   contexts_stay l at =
       let found = from_flat_map context_at (filter commands.given due) l (subst (IsIn l) contexts_before at) in
       let passed = from_filter commands.given due found.0 found.1 in
-      subst (IsIn l) (sym contexts_after)
-      (in_flat_map context_at (filter (λ p. commands.given p || is_given p) due) found.0 l
-      (in_filter (λ p. commands.given p || is_given p) due found.0 passed.0 (or_left (commands.given found.0) (is_given found.0) passed.1)) found.2)
+      search (rules, contexts_after, in_flat_map, in_filter, or_left)
 
   -- ---- the slots
-
-  entry_same : (s : ℕ) (d : Option ℕ) → range_of_entry after s d ≡ range_of_entry k s d
-  unfolding range_of_entry entry_of
-  entry_same s None = refl
-  entry_same s (Some d) = rw register_after refl
 
   entry_was : (s : ℕ) → IsIn s slots → (l : Leased) → IsIn l (range_of_entry k s (k.device s)) → IsOpen l
   unfolding entry_ranges
@@ -195,16 +169,10 @@ module _ (h : Header) (shaped : AreShaped h) (k : Known) (freed : FreeWasGiven h
       where
         by : (o : Option (ℕ × ℕ)) → MayTake k o → filter IsNew (flat_map (λ s. ranges s ((with_device h (with_word h k a w) o).device s)) slots) ≡ taken_by o
         by None free = old_fail (flat_map (λ s. ranges s (k.device s)) slots) (λ l at. let found = from_flat_map (λ s. ranges s (k.device s)) slots l at in was found.0 found.1 l found.2)
-        by (Some e) free =
-            let f : ℕ → List Leased = λ s. ranges s (if s == e.0 then Some e.1 else k.device s) in
-            let here : f e.0 ≡ ranges e.0 (Some e.1) = ap (λ b. ranges e.0 (if b then Some e.1 else k.device e.0)) (eq-eqb e.0 e.0 refl) in
-            filter_flat_map IsNew f slots
-            ∙ one_at (λ s. filter IsNew (f s)) e.0 1 255 (omega (arith, free.1)) (omega (arith, free.2))
-            (λ t at other.
-            let there : f t ≡ ranges t (k.device t) = ap (λ b. ranges t (if b then Some e.1 else k.device t)) (unequal t e.0 other) in
-            ap (filter IsNew) there ∙ old_fail (ranges t (k.device t)) (was t at))
-            ∙ ap (filter IsNew) here
-            ∙ new_pass (ranges e.0 (Some e.1)) (absent e.0 e.1 free.0)
+        by (Some e) free = filter_flat_map IsNew (λ s. ranges s (if s == e.0 then Some e.1 else k.device s)) slots
+            ∙ one_at (λ s. filter IsNew (ranges s (if s == e.0 then Some e.1 else k.device s))) e.0 1 255 (omega (arith, free.1)) (omega (arith, free.2))
+            (λ t at other. rw (unequal t e.0 other) (old_fail (ranges t (k.device t)) (was t at)))
+            ∙ rw (eq-eqb e.0 e.0 refl) (new_pass (ranges e.0 (Some e.1)) (absent e.0 e.1 free.0))
 
     slots_stay : (l : Leased) → IsIn l (flat_map (λ s. ranges s (k.device s)) slots) → IsIn l (flat_map (λ s. ranges s (after.device s)) slots)
     unfolding with_device with_word
@@ -214,14 +182,7 @@ module _ (h : Header) (shaped : AreShaped h) (k : Known) (freed : FreeWasGiven h
         by None free = at
         by (Some e) free =
             let found = from_flat_map (λ s. ranges s (k.device s)) slots l at in
-            let t : ℕ = found.0 in
-            in_flat_map (λ s. ranges s (if s == e.0 then Some e.1 else k.device s)) slots t l found.1
-            (elim (cases_Bool (t == e.0)) [
-              | inl same ↦
-                  let empty : ranges t (k.device t) ≡ [] = ap (ranges t) (ap k.device (eqb-true t e.0 same) ∙ free.0) ∙ nothing t in
-                  absurd (subst (IsIn l) empty found.2)
-              | inr differ ↦ subst (λ b. IsIn l (ranges t (if b then Some e.1 else k.device t))) (sym differ) found.2
-            ])
+            grind (arith, in_flat_map (λ s. ranges s (if s == e.0 then Some e.1 else k.device s)) slots found.0 l found.1, eqb-true, nothing found.0)
 
   nothing_device : (s : ℕ) → range_of_device h s None ≡ []
   unfolding range_of_device
@@ -236,29 +197,17 @@ module _ (h : Header) (shaped : AreShaped h) (k : Known) (freed : FreeWasGiven h
   entries_in l here = slots_stay (range_of_entry k) nothing_entry entry_was l here
 
   entries_after : entry_ranges after ≡ flat_map (λ s. range_of_entry k s (after.device s)) slots
-  unfolding entry_ranges
-  entries_after = flat_alike (λ s. range_of_entry after s (after.device s)) (λ s. range_of_entry k s (after.device s)) slots (λ s at. entry_same s (after.device s))
+  unfolding entry_ranges range_of_entry entry_of
+  entries_after = flat_alike (λ s. range_of_entry after s (after.device s)) (λ s. range_of_entry k s (after.device s)) slots (λ s at. grind (arith, register_after))
 
   new_entries : filter IsNew (entry_ranges after) ≡ entry_taken k taken
   unfolding range_of_entry
-  new_entries =
-      ap (filter IsNew) entries_after
-      ∙ new_slots (range_of_entry k) nothing_entry entry_was (λ s d none l at. unused_open (SlotEntry s) none l (only _ l (SlotEntry s) refl at))
-      ∙ by taken
-    where
-      by : (o : Option (ℕ × ℕ)) → taken_by (range_of_entry k) nothing_entry entry_was o ≡ entry_taken k o
-      by None = refl
-      by (Some e) = refl
+  new_entries = ap (filter IsNew) entries_after ∙ new_slots (range_of_entry k) nothing_entry entry_was (λ s d none l at. unused_open (SlotEntry s) none l (only _ l (SlotEntry s) refl at))
+      ∙ grind arith
 
   new_devices : filter IsNew (device_ranges h after) ≡ device_taken h taken
   unfolding range_of_device device_ranges
-  new_devices =
-      new_slots (range_of_device h) nothing_device device_was (λ s d none l at. unused_open (DeviceContext s) none l (only _ l (DeviceContext s) refl at))
-      ∙ by taken
-    where
-      by : (o : Option (ℕ × ℕ)) → taken_by (range_of_device h) nothing_device device_was o ≡ device_taken h o
-      by None = refl
-      by (Some e) = refl
+  new_devices = new_slots (range_of_device h) nothing_device device_was (λ s d none l at. unused_open (DeviceContext s) none l (only _ l (DeviceContext s) refl at)) ∙ grind arith
 
   -- ---- all of them
 
@@ -274,11 +223,11 @@ module _ (h : Header) (shaped : AreShaped h) (k : Known) (freed : FreeWasGiven h
   all_kept l e =
       in_among (open_leases h after) l
       (either_into (IsIn l) (in_left l) (in_right l) l (flat_map (open_on h k) (driver_rings h)) (open_ranges h k) (flat_map (open_on h after) (driver_rings h)) (open_ranges h after)
-      (λ here. subst (IsIn l) (sym rings_after) (kept_on_rings h shaped k freed a w l here))
-      (five_into (IsIn l) (in_left l) (in_right l) l (segment_ranges h) (table_range h (k.register Erstba)) (context_ranges h k) (entry_ranges k) (device_ranges h k)
-      (segment_ranges h) (table_range h (after.register Erstba)) (context_ranges h after) (entry_ranges after) (device_ranges h after)
-      (λ here. here) (λ here. subst (IsIn l) (sym table_after) here) (contexts_stay l) (λ here. subst (IsIn l) (sym entries_after) (entries_in l here))
-      (λ here. slots_stay (range_of_device h) nothing_device device_was l here)) (among_is (open_leases h k) l e))
+      (search (rules, rings_after, kept_on_rings))
+      (five_into (IsIn l) (in_left l) (in_right l) l (segment_ranges h) (table_range h (k.register Erstba)) (context_ranges h k) (entry_ranges k) (device_ranges h k) (segment_ranges h)
+      (table_range h (after.register Erstba)) (context_ranges h after) (entry_ranges after) (device_ranges h after)
+      (λ here. here) (search (rules, table_after)) (contexts_stay l) (search (rules, entries_after, entries_in)) (slots_stay (range_of_device h) nothing_device device_was l))
+      (among_is (open_leases h k) l e))
 
 -- ---- the law
 

@@ -1,11 +1,10 @@
 -- The leases of a trace are what was and is lent after its rows
-use Rattle.leases.proofs.BaseWords.{append_assoc, ◌≡◌, ◌+◌, ◌<◌, ◌≤◌, ◌==◌, ◌∷◌, ◌++◌, ◌∙◌, ℕ, true, not, List, [], length, map, reverse, arith, sym, ap, refl, cond, eqb-true, append-nil, reverse_aux, nat_tests, Header, Row, Lease, Known, nothing, learned, known, Leased, Block, Link, is_among, open_leases, as_lease, begun, comes_before, end_from, in_order, leases, leases_from, with_ends, with_lease, without_end, Lent, lease_of, is_unended, begun_at, precedes, with_leased, in_turn, ended_where, with_begun, grown, lents, passed_on, rules}
+use Rattle.leases.proofs.BaseWords.{append_assoc, ◌≡◌, ◌+◌, ◌<◌, ◌≤◌, ◌==◌, ◌∷◌, ◌++◌, ℕ, true, not, List, [], length, map, reverse, arith, sym, ap, refl, cond, eqb-true, append-nil, reverse_aux, nat_tests, Header, Row, Lease, Known, nothing, learned, known, Leased, is_among, open_leases, as_lease, begun, comes_before, end_from, in_order, leases, leases_from, with_ends, with_lease, without_end, Lent, lease_of, is_unended, begun_at, precedes, with_leased, in_turn, ended_where, with_begun, grown, lents, passed_on, rules}
 
 -- when a lease begins and ends doesn't matter for its place
 placed_alike : (a b : Leased) (f e g d : ℕ) → comes_before (as_lease f e a) (as_lease g d b) ≡ precedes a b
 unfolding precedes comes_before as_lease
-placed_alike (Block r p) (Link s q) f e g d = refl
-placed_alike _ _ f e g d = search rules
+placed_alike a b f e g d = grind arith
 
 module _ (from : ℕ) (end : Leased → ℕ) where
   abbrev lease : Leased → Lease
@@ -20,7 +19,7 @@ module _ (from : ℕ) (end : Leased → ℕ) where
   pub sorted : (ls : List Leased) → in_order (map lease ls) ≡ map lease (in_turn ls)
   unfolding in_order in_turn
   sorted [] = refl
-  sorted (l ∷ rest) = ap (with_lease (lease l)) (sorted rest) ∙ inserted l (in_turn rest)
+  sorted (l ∷ rest) = search (rules, inserted, sorted rest)
 
 pub map_map : {X Y Z : Type 0} (f : Y → Z) (g : X → Y) (xs : List X) → map f (map g xs) ≡ map (λ x. f (g x)) xs
 map_map f g [] = refl
@@ -48,24 +47,16 @@ module _ (h : Header) where
   all_begun_finally : (k : Known) (from n : ℕ) (rows : List Row) (ls : List Leased) →
       with_ends h k from n rows ls ≡ map (finally k n rows) (map (begun_at from) (in_turn ls))
   unfolding with_ends
-  all_begun_finally k from n rows ls =
-      sorted from (end_from h k n rows) ls
-      ∙ map_same (λ l. as_lease from (end_from h k n rows l) l) (λ l. finally k n rows (begun_at from l)) (in_turn ls) (λ l. sym (begun_finally k from n rows l))
-      ∙ sym (map_map (finally k n rows) (begun_at from) (in_turn ls))
+  all_begun_finally k from n rows ls = search (rules, sorted from (end_from h k n rows) ls, map_same, begun_finally, map_map)
 
   -- the row at hand ends it, or a later one
   abbrev ended : Known → ℕ → Lent → Lent
   ended k n = ended_where (λ l. not (is_among (open_leases h k) l)) n
 
-  ended_finally : (k : Known) (n : ℕ) (row : Row) (rows : List Row) (t : Lent) → n < without_end →
-      finally k n (row ∷ rows) t ≡ finally (learned h k row) (n + 1) rows (ended (learned h k row) n t)
-  unfolding finally ended_where end_from is_unended lease_of
-  ended_finally k n row rows t early = search (rules, open_leases, learned, nat_tests)
-
   grown_finally : (k : Known) (n : ℕ) (row : Row) (rows : List Row) (ts : List Lent) → n < without_end →
       map (finally k n (row ∷ rows)) ts ++ with_ends h (learned h k row) n (n + 1) rows (begun h k row) ≡ map (finally (learned h k row) (n + 1) rows) (grown h k row n ts)
-  unfolding grown passed_on with_begun begun
-  grown_finally k n row rows ts early = search (rules, learned, map_same, ended_finally, map_map, all_begun_finally, map_append)
+  unfolding grown passed_on with_begun begun finally ended_where end_from is_unended lease_of
+  grown_finally k n row rows ts early = search (rules, learned, map_same, open_leases, nat_tests, map_map, all_begun_finally, map_append)
 
   from_here : (k : Known) (n : ℕ) (row : Row) (rows : List Row) →
       leases_from h k n (row ∷ rows) ≡ with_ends h (learned h k row) n (n + 1) rows (begun h k row) ++ leases_from h (learned h k row) (n + 1) rows
@@ -76,11 +67,6 @@ module _ (h : Header) where
   unfolding leases_from
   no_rows k n = refl
 
-  -- with no rows to follow nothing more ends
-  nothing_more : (k : Known) (n : ℕ) (ts : List Lent) → map (finally k n []) ts ≡ map lease_of ts
-  unfolding finally end_from lease_of is_unended
-  nothing_more k n ts = search (rules, map_same, eqb-true)
-
   -- the leases of rows that have come, and of rows that follow
   leases_before : (first : ℕ) (past rest : List Row) → first + length past ≤ without_end →
       leases h first (reverse_aux past rest) ≡ map (finally (known h past) (first + length past) rest) (lents h first past) ++ leases_from h (known h past) (first + length past) rest
@@ -90,4 +76,5 @@ module _ (h : Header) where
 
   -- the leases that are lent after the rows are those of the trace
   pub leases_are : (first : ℕ) (past : List Row) → first + length past ≤ without_end → leases h first (reverse past) ≡ map lease_of (lents h first past)
-  leases_are first past room = search (rules, leases_before, known, no_rows, append-nil, nothing_more)
+  unfolding finally end_from lease_of is_unended
+  leases_are first past room = search (rules, leases_before, known, no_rows, append-nil, map_same, eqb-true)

@@ -1,9 +1,9 @@
 -- What stands in a list that is made of others, and which leases are open on a ring
-use Rattle.leases.proofs.BaseWords.{◌≡◌, ◌+◌, ◌<◌, ◌≤◌, ◌==◌, ◌&&◌, ◌∷◌, ◌++◌, ◌∙◌, ◌⊎◌, ℕ, true, List, [], map, zero, suc, arith, sym, ap, refl, inl, inr, subst, eqb-true, eq-eqb, flat_map, range_with_len, cases_Bool, false≢true, is_crossing, place_count, RingView, is_handed_over, due_crossings, due_positions, floor_number, leased_crossings, leased_positions, Header, Ring, Known, Leased, Block, Link, open_on, IsIn, from_filter, in_filter}
+use Rattle.leases.proofs.BaseWords.{◌≡◌, ◌+◌, ◌<◌, ◌≤◌, ◌==◌, ◌&&◌, ◌∷◌, ◌++◌, ◌⊎◌, ℕ, true, List, [], map, zero, suc, arith, sym, ap, refl, inl, inr, subst, eqb-true, eq-eqb, flat_map, range_with_len, cases_Bool, is_crossing, place_count, RingView, is_handed_over, due_crossings, due_positions, floor_number, leased_crossings, leased_positions, Header, Ring, Known, Leased, Block, Link, open_on, IsIn, from_filter, in_filter, rules}
 
 pub in_left : {X : Type 0} (x : X) (xs ys : List X) → IsIn x xs → IsIn x (xs ++ ys)
 in_left x [] ys at = absurd at
-in_left x (z ∷ xs) ys at = elim at [ inl here ↦ inl here | inr later ↦ inr (in_left x xs ys later) ]
+in_left x (z ∷ xs) ys at = search (rules, in_left x xs ys)
 
 pub in_right : {X : Type 0} (x : X) (xs ys : List X) → IsIn x ys → IsIn x (xs ++ ys)
 in_right x [] ys at = at
@@ -11,10 +11,7 @@ in_right x (z ∷ xs) ys at = inr (in_right x xs ys at)
 
 pub in_either : {X : Type 0} (x : X) (xs ys : List X) → IsIn x (xs ++ ys) → IsIn x xs ⊎ IsIn x ys
 in_either x [] ys at = inr at
-in_either x (z ∷ xs) ys at = elim at [
-  | inl here ↦ inl (inl here)
-  | inr later ↦ elim (in_either x xs ys later) [ inl left ↦ inl (inr left) | inr right ↦ inr right ]
-]
+in_either x (z ∷ xs) ys at = grind (arith, in_either x xs ys)
 
 -- what holds of a list holds of one that is made of it and others
 pub either_into : {X : Type 0} (P : List X → Type 0) → ((xs ys : List X) → P xs → P (xs ++ ys)) → ((xs ys : List X) → P ys → P (xs ++ ys)) →
@@ -24,9 +21,7 @@ either_into P left right x xs ys us vs f g at = elim (in_either x xs ys at) [ in
 pub five_into : {X : Type 0} (P : List X → Type 0) → ((xs ys : List X) → P xs → P (xs ++ ys)) → ((xs ys : List X) → P ys → P (xs ++ ys)) →
     (x : X) (a b c d e a' b' c' d' e' : List X) → (IsIn x a → P a') → (IsIn x b → P b') → (IsIn x c → P c') → (IsIn x d → P d') → (IsIn x e → P e') →
     IsIn x (a ++ b ++ c ++ d ++ e) → P (a' ++ b' ++ c' ++ d' ++ e')
-five_into P left right x a b c d e a' b' c' d' e' f g h i j =
-    either_into P left right x (a ++ b ++ c ++ d) e (a' ++ b' ++ c' ++ d') e'
-    (either_into P left right x (a ++ b ++ c) d (a' ++ b' ++ c') d' (either_into P left right x (a ++ b) c (a' ++ b') c' (either_into P left right x a b a' b' f g) h) i) j
+five_into P left right x a b c d e a' b' c' d' e' f g h i j = search (rules, either_into P left right)
 
 pub in_map : {X Y : Type 0} (f : X → Y) (xs : List X) (x : X) → IsIn x xs → IsIn (f x) (map f xs)
 in_map f [] x at = absurd at
@@ -34,38 +29,23 @@ in_map f (y ∷ ys) x at = elim at [ inl here ↦ inl (ap f here) | inr later �
 
 pub from_map : {X Y : Type 0} (f : X → Y) (xs : List X) (y : Y) → IsIn y (map f xs) → (x : X) × IsIn x xs × (y ≡ f x)
 from_map f [] y at = absurd at
-from_map f (x ∷ xs) y at = elim at [
-  | inl here ↦ (x, inl refl, here)
-  | inr later ↦ let found = from_map f xs y later in (found.0, inr found.1, found.2)
-]
+from_map f (x ∷ xs) y at = elim at [ inl here ↦ (x, inl refl, here) | inr later ↦ let found = from_map f xs y later in (found.0, inr found.1, found.2) ]
 
 pub in_flat_map : {X Y : Type 0} (f : X → List Y) (xs : List X) (x : X) (y : Y) → IsIn x xs → IsIn y (f x) → IsIn y (flat_map f xs)
 in_flat_map f [] x y at there = absurd at
-in_flat_map f (z ∷ zs) x y at there = elim at [
-  | inl here ↦ in_left y (f z) (flat_map f zs) (subst (λ w. IsIn y (f w)) here there)
-  | inr later ↦ in_right y (f z) (flat_map f zs) (in_flat_map f zs x y later there)
-]
+in_flat_map f (z ∷ zs) x y at there = search (rules, in_left, in_right, in_flat_map f zs x y)
 
 pub from_flat_map : {X Y : Type 0} (f : X → List Y) (xs : List X) (y : Y) → IsIn y (flat_map f xs) → (x : X) × IsIn x xs × IsIn y (f x)
 from_flat_map f [] y at = absurd at
-from_flat_map f (x ∷ xs) y at = elim (in_either y (f x) (flat_map f xs) at) [
-  | inl here ↦ (x, inl refl, here)
-  | inr later ↦ let found = from_flat_map f xs y later in (found.0, inr found.1, found.2)
-]
+from_flat_map f (x ∷ xs) y at = grind (arith, in_either y (f x) (flat_map f xs), from_flat_map f xs y)
 
 pub in_range : (from n p : ℕ) → from ≤ p → p < from + n → IsIn p (range_with_len from n)
 in_range from zero p low high = absurd (omega arith)
-in_range from (suc n) p low high = elim (cases_Bool (p == from)) [
-  | inl here ↦ inl (eqb-true p from here)
-  | inr other ↦ let apart : p ≡ from → ⊥ = λ e. false≢true (sym other ∙ eq-eqb p from e) in inr (in_range (from + 1) n p (omega arith) (omega arith))
-]
+in_range from (suc n) p low high = grind (arith, eqb-true, eq-eqb, cases_Bool (p == from), in_range (from + 1) n p)
 
 pub from_range : (from n p : ℕ) → IsIn p (range_with_len from n) → (from ≤ p) × (p < from + n)
 from_range from zero p at = absurd at
-from_range from (suc n) p at = elim at [
-  | inl here ↦ (omega arith, omega arith)
-  | inr later ↦ let found = from_range (from + 1) n p later in (omega arith, omega arith)
-]
+from_range from (suc n) p at = grind (arith, from_range (from + 1) n p)
 
 -- a lease that is open on a ring
 pub data InOn (q : Ring) (v : RingView) : Leased → Type 0 where
@@ -78,23 +58,14 @@ in_on h k q l at = elim (in_either l (map (Block q.id) (leased_positions q.shape
   | inl left ↦
       let found = from_map (Block q.id) (leased_positions q.shape (k.ring q.id)) l left in
       let passed = from_filter (is_handed_over (k.ring q.id)) (range_with_len (floor_number (k.ring q.id)) (place_count q.shape)) found.0 found.1 in
-      let within = from_range (floor_number (k.ring q.id)) (place_count q.shape) found.0 passed.0 in
-      subst (InOn q (k.ring q.id)) (sym found.2) (block found.0 within.0 within.1 passed.1)
+      subst (InOn q (k.ring q.id)) (sym found.2) (block found.0 (search (rules, from_range)) (search (rules, from_range)) passed.1)
   | inr right ↦
       let found = from_map (Link q.id) (leased_crossings q.shape (k.ring q.id)) l right in
       let passed = from_filter (λ c. is_crossing q.shape c && (k.ring q.id).crossed c) (range_with_len (floor_number (k.ring q.id)) (place_count q.shape + 1)) found.0 found.1 in
-      let within = from_range (floor_number (k.ring q.id)) (place_count q.shape + 1) found.0 passed.0 in
-      subst (InOn q (k.ring q.id)) (sym found.2) (link found.0 within.0 within.1 passed.1)
+      subst (InOn q (k.ring q.id)) (sym found.2) (link found.0 (search (rules, from_range)) (search (rules, from_range)) passed.1)
 ]
 
 pub on_in : (h : Header) (k : Known) (q : Ring) (l : Leased) → InOn q (k.ring q.id) l → IsIn l (open_on h k q)
 unfolding open_on leased_positions leased_crossings due_positions due_crossings
-on_in h k q _ (block p low high lent) =
-    in_left (Block q.id p) (map (Block q.id) (leased_positions q.shape (k.ring q.id))) (map (Link q.id) (leased_crossings q.shape (k.ring q.id)))
-    (in_map (Block q.id) (leased_positions q.shape (k.ring q.id)) p
-    (in_filter (is_handed_over (k.ring q.id)) (range_with_len (floor_number (k.ring q.id)) (place_count q.shape)) p (in_range (floor_number (k.ring q.id)) (place_count q.shape) p low high) lent))
-on_in h k q _ (link c low high crossed) =
-    in_right (Link q.id c) (map (Block q.id) (leased_positions q.shape (k.ring q.id))) (map (Link q.id) (leased_crossings q.shape (k.ring q.id)))
-    (in_map (Link q.id) (leased_crossings q.shape (k.ring q.id)) c
-    (in_filter (λ c. is_crossing q.shape c && (k.ring q.id).crossed c) (range_with_len (floor_number (k.ring q.id)) (place_count q.shape + 1)) c
-    (in_range (floor_number (k.ring q.id)) (place_count q.shape + 1) c low high) crossed))
+on_in h k q _ (block p low high lent) = search (rules, in_left, in_map (Block q.id), in_filter, in_range)
+on_in h k q _ (link c low high crossed) = search (rules, in_right, in_map (Link q.id), in_filter, in_range)

@@ -1,9 +1,5 @@
 -- Floors of rings move on, and some ranges are let go: the leases of the blocks and Links that are passed end, and of these ranges
-use Rattle.leases.proofs.BaseWords.{sym, ◌∙◌, not-true, ◌≡◌, ◌≤◌, ◌==◌, ◌&&◌, ◌||◌, ℕ, Bool, true, false, not, nat_le, nat_lt, List, [], arith, ap, refl, eqb-true, and_parts, and_from, nat_tests, is_crossing, floor_number, Header, Ring, driver_rings, Known, Leased, Block, Link, Range, is_among, open_leases, open_ranges, IsIn, among_is, both_ways, in_among, is_passed, rules}
-use Rattle.leases.proofs.LeaseBooks.Members.{InOn, block, link}
-use Rattle.leases.proofs.LeaseBooks.PassedLeases.{Moves, block_was, link_was}
-use Rattle.leases.proofs.LeaseBooks.SameLeases.{lent_same}
-use Rattle.leases.proofs.LeaseBooks.RangesAlone.{IsRange, each_open, open_are_ranges, range_open, ring_open}
+use Rattle.leases.proofs.LowerLaws.{not-true, ◌≡◌, ◌≤◌, ◌==◌, ◌&&◌, ℕ, Bool, true, false, not, nat_le, nat_lt, List, [], arith, ap, eqb-true, and_parts, and_from, nat_tests, is_crossing, floor_number, Header, Ring, driver_rings, Known, Leased, Block, Link, Range, is_among, open_leases, open_ranges, IsIn, among_is, both_ways, in_among, is_passed, rules, InOn, block, link, Moves, block_was, link_was, lent_same, IsRange, each_open, open_are_ranges, range_open, ring_open}
 
 -- a block or Link that its ring passes on the way from one number to another, or a range that is let go
 abbrev pub is_left : (ℕ → ℕ) → (ℕ → ℕ) → List Leased → Leased → Bool
@@ -32,29 +28,22 @@ module _ (h : Header) (k k' : Known) (gone : List Leased) where
     over = is_left (floors k) (floors k') gone
 
     was_on : (q : Ring) → IsIn q (driver_rings h) → (l : Leased) → InOn q (k'.ring q.id) l → InOn q (k.ring q.id) l × (over l ≡ false)
-    was_on q among _ (block p low high given) = search (rules, block_was, block, not_yet)
-    was_on q among _ (link c low high crossed) = search (rules, link_was, link, not_yet)
+    was_on q among l h4 = search (rules, block_was, block, not_yet, link_was, link)
 
     stays_on : (q : Ring) → IsIn q (driver_rings h) → (l : Leased) → InOn q (k.ring q.id) l → over l ≡ false → InOn q (k'.ring q.id) l
     stays_on q among _ (block p low high given) stays = search (rules, block, late, lent_same)
     stays_on q among _ (link c low high crossed) stays = search (rules, link, late, is_crossing)
 
     gone_is : (l : Leased) → IsRange l → over l ≡ is_among gone l
-    gone_is (Range m a e) is = refl
-    gone_is _ is = absurd is
+    gone_is l is = grind arith
 
     pub narrows : (l : Leased) → is_among (open_leases h k') l ≡ (is_among (open_leases h k) l && not (over l))
     narrows l = both_ways _ _
-        (each_open h k' (λ m. (is_among (open_leases h k) m && not (over m)) ≡ true) (λ q among m on.
-        let was = was_on q among m on in and_from _ _ (in_among _ m (ring_open h k m q among was.0)) (ap not was.1))
-        (λ m range.
-        let parts = and_parts _ _ (sym (n.ranges m) ∙ in_among (open_ranges h k') m range) in
-        and_from _ _ (in_among _ m (range_open h k m (among_is _ m parts.0))) (ap not (gone_is m (open_are_ranges h k' m range)) ∙ parts.1)) l)
-        (λ e.
-        let parts = and_parts _ _ e in
-        each_open h k (λ m. over m ≡ false → is_among (open_leases h k') m ≡ true) (λ q among m on stays. in_among _ m (ring_open h k' m q among (stays_on q among m on stays)))
-        (λ m range stays. in_among _ m (range_open h k' m (among_is _ m
-        (n.ranges m ∙ and_from _ _ (in_among _ m range) (ap not (sym (gone_is m (open_are_ranges h k m range)) ∙ stays)))))) l parts.0 (not-true _ parts.1))
+        (each_open h k' (λ m. (is_among (open_leases h k) m && not (over m)) ≡ true) (λ q among m on. let was = was_on q among m on in
+        and_from _ _ (in_among _ m (ring_open h k m q among was.0)) (ap not was.1))
+        (λ m range. grind (arith, n.ranges m, in_among (open_ranges h k') m range, in_among (open_leases h k) m, range_open h k m, among_is (open_ranges h k) m, gone_is m (open_are_ranges h k' m range))) l)
+        (λ e. each_open h k (λ m. over m ≡ false → is_among (open_leases h k') m ≡ true) (λ q among m on stays. in_among _ m (ring_open h k' m q among (stays_on q among m on stays)))
+        (λ m range stays. grind (arith, n.ranges m, in_among (open_ranges h k) m range, in_among (open_leases h k') m, range_open h k' m, among_is (open_ranges h k') m, gone_is m (open_are_ranges h k m range))) l (and_parts _ _ e).0 (not-true _ (and_parts _ _ e).1))
 
 -- where only one ring moves on, what is left is what is passed on it
 pub none_between : (a b p : ℕ) → a ≡ b → (nat_le b p && nat_lt p a) ≡ false
@@ -63,15 +52,7 @@ none_between a b p e = grind (arith, nat_tests, e)
 turned : (a b : ℕ) → (a == b) ≡ (b == a)
 turned a b = grind (arith, nat_tests)
 
-alone : (x y : Bool) → (y ≡ true → ⊥) → x ≡ (x || y)
-alone true y none = refl
-alone _ _ none = search rules
-
 module _ (from to : ℕ → ℕ) (r : ℕ) (others : (q : ℕ) → (q == r) ≡ false → to q ≡ from q) where
-  passed_there : (s p : ℕ) → (nat_le (from s) p && nat_lt p (to s)) ≡ (r == s && nat_le (from r) p && nat_lt p (to r))
-  passed_there s p = search (rules, turned, eqb-true, none_between)
-
   pub one_ring_left : (l : Leased) → is_left from to [] l ≡ is_passed r (from r) (to r) l
   unfolding is_among
-  one_ring_left (Range n a e) = refl
-  one_ring_left _ = search (rules, passed_there)
+  one_ring_left l = grind (arith, turned, eqb-true, none_between)

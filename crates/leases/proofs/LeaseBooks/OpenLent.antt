@@ -1,6 +1,5 @@
 -- What is open is lent and not over
-use Rattle.leases.proofs.BaseWords.{or_left, ◌≡◌, ◌+◌, ◌<◌, ◌≤◌, ◌==◌, ◌&&◌, ◌||◌, ◌∷◌, ◌++◌, ◌∙◌, ℕ, Bool, true, false, not, List, [], length, map, arith, sym, ap, refl, inl, inr, eq-eqb, list_any, cases_Bool, and_parts, and_from, false≢true, Header, Row, Known, nothing, learned, known, Leased, is_among, open_leases, same_leased, without_end, IsIn, among_is, in_filter, leased_is, leased_itself, Lent, begun_at, ended_where, grown, in_turn, is_unended, lents, newly_open, passed_on, with_begun, with_leased, is_lent, IsInStep, rules}
-use Rattle.leases.proofs.LeaseBooks.Rows.{first_open, passed_open}
+use Rattle.leases.proofs.LowerLaws.{◌≡◌, ◌+◌, ◌<◌, ◌≤◌, ◌&&◌, ◌∷◌, ◌++◌, ℕ, Bool, true, false, not, List, [], length, map, arith, ap, inl, inr, eq-eqb, cases_Bool, false≢true, Header, Row, Known, nothing, learned, known, Leased, is_among, open_leases, same_leased, without_end, IsIn, among_is, in_filter, leased_is, leased_itself, Lent, begun_at, ended_where, grown, in_turn, is_unended, lents, newly_open, passed_on, with_begun, with_leased, is_lent, IsInStep, rules, first_open, passed_open}
 
 to_with : (l : Leased) (ls : List Leased) (m : Leased) → IsIn m (l ∷ ls) → IsIn m (with_leased l ls)
 unfolding with_leased
@@ -10,10 +9,7 @@ to_with l (x ∷ rest) m at = search (rules, to_with l rest m)
 to_turn : (ls : List Leased) (m : Leased) → IsIn m ls → IsIn m (in_turn ls)
 unfolding in_turn
 to_turn [] m at = at
-to_turn (l ∷ rest) m at = to_with l (in_turn rest) m (elim at [ inl here ↦ inl here | inr later ↦ inr (to_turn rest m later) ])
-
-or_second : (x y : Bool) → y ≡ true → (x || y) ≡ true
-or_second x y e = search rules
+to_turn (l ∷ rest) m at = search (rules, to_with l (in_turn rest) m, to_turn rest m)
 
 lent_left : (ts us : List Lent) (l : Leased) → is_lent ts l ≡ true → is_lent (ts ++ us) l ≡ true
 unfolding is_lent
@@ -23,26 +19,18 @@ lent_left (t ∷ ts) us l e = search (rules, lent_left ts us l)
 lent_right : (ts us : List Lent) (l : Leased) → is_lent us l ≡ true → is_lent (ts ++ us) l ≡ true
 unfolding is_lent
 lent_right [] us l e = e
-lent_right (t ∷ ts) us l e = or_second (is_unended t && same_leased l t.leased) _ (lent_right ts us l e)
+lent_right (t ∷ ts) us l e = search (rules, lent_right ts us l)
 
 lent_begun : (n : ℕ) (ls : List Leased) (l : Leased) → IsIn l ls → is_lent (map (begun_at n) ls) l ≡ true
 unfolding is_lent begun_at is_unended
 lent_begun n [] l at = absurd at
-lent_begun n (m ∷ ls) l at = elim at [
-  | inl here ↦ or_left _ _ (and_from (without_end == without_end) (same_leased l m) (eq-eqb without_end without_end refl) (ap (same_leased l) (sym here) ∙ leased_itself l))
-  | inr later ↦ or_second ((without_end == without_end) && same_leased l m) _ (lent_begun n ls l later)
-]
+lent_begun n (m ∷ ls) l at = search (rules, leased_itself, eq-eqb, lent_begun n ls l)
 
 -- what doesn't end is still lent
 pub still_lent : (over : Leased → Bool) (n : ℕ) (ts : List Lent) (l : Leased) → over l ≡ false → is_lent ts l ≡ true → is_lent (map (ended_where over n) ts) l ≡ true
 unfolding is_lent ended_where
 still_lent over n [] l stays e = absurd (false≢true e)
-still_lent over n (t ∷ ts) l stays e = elim (cases_Bool (is_unended t && same_leased l t.leased)) [
-  | inl this ↦ search (rules, and_parts, leased_is, or_left)
-  | inr other ↦
-      let rest : list_any (λ t. is_unended t && same_leased l t.leased) ts ≡ true = sym (ap (λ b. b || list_any (λ t. is_unended t && same_leased l t.leased) ts) other) ∙ e in
-      or_second _ _ (still_lent over n ts l stays rest)
-]
+still_lent over n (t ∷ ts) l stays e = grind (arith, cases_Bool (is_unended t && same_leased l t.leased), leased_is l t.leased, still_lent over n ts l)
 
 -- what is open behind a row is lent behind it, where what was open before it was
 pub passed_lent : (before after : List Leased) (n : ℕ) (ts : List Lent) (l : Leased) → is_among after l ≡ true → (is_among before l ≡ true → is_lent ts l ≡ true) → is_lent (passed_on before after n ts) l ≡ true
@@ -64,7 +52,7 @@ in_step_behind h g k l n ts early step = search (rules, passed_open, open_leases
 module _ (h : Header) where
   pub in_step_first : IsInStep h nothing (with_begun 0 [] (in_turn (open_leases h nothing)))
   unfolding with_begun
-  in_step_first = search (rules, first_open, open_leases, nothing, lent_begun, to_turn, among_is)
+  in_step_first = search (rules, first_open, lent_begun, to_turn, among_is)
 
   -- what is lent behind the rows of a trace is in step
   pub in_step : (first : ℕ) (past : List Row) → first + length past ≤ without_end → IsInStep h (known h past) (lents h first past)

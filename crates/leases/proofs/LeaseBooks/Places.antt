@@ -17,30 +17,19 @@ module _ (h : Header) (old new other : IndexTables) (r p n : ℕ) (ts : List Len
   pub block_found : AllUnended (IsFound h old other) 0 ts → IsPut old new r (p % place_count (shape_of h r)) (length ts) →
       is_place_free h ts (Block r p) ≡ true → AllUnended (IsFound h new other) 0 (with_begun n ts (Block r p ∷ []))
   unfolding is_place_free
-  block_found all put free =
-      all_begun (IsFound h old other) (IsFound h new other) (share_a_place h (Block r p)) n (Block r p) 0 ts step here (not-true _ free) all
+  block_found all put free = all_begun (IsFound h old other) (IsFound h new other) (share_a_place h (Block r p)) n (Block r p) 0 ts step (search rules) (not-true _ free) all
     where
       step : (i : ℕ) (m : Leased) → share_a_place h (Block r p) m ≡ false → IsFound h old other i m → IsFound h new other i m
-      step i (Block s q) apart was = elsewhere old new r (p % place_count (shape_of h r)) (length ts) s (q % place_count (shape_of h s)) put apart ∙ was
-      step i (Link s q) apart was = was
-      step i (Range m a e) apart was = tt
-
-      here : IsFound h new other (0 + length ts) (Block r p)
-      here = put.same ∙ omega arith
+      step i m apart was = grind (arith, elsewhere old new r)
 
   pub link_found : is_crossing (shape_of h r) p ≡ true → AllUnended (IsFound h other old) 0 ts → IsPut old new r (link_of (shape_of h r) p) (length ts) →
       is_place_free h ts (Link r p) ≡ true → AllUnended (IsFound h other new) 0 (with_begun n ts (Link r p ∷ []))
   unfolding is_place_free
-  link_found above all put free =
-      all_begun (IsFound h other old) (IsFound h other new) (share_a_place h (Link r p)) n (Link r p) 0 ts step here (not-true _ free) all
+  link_found above all put free = all_begun (IsFound h other old) (IsFound h other new) (share_a_place h (Link r p)) n (Link r p) 0 ts step (search rules) (not-true _ free) all
     where
       step : (i : ℕ) (m : Leased) → share_a_place h (Link r p) m ≡ false → IsFound h other old i m → IsFound h other new i m
-      step i (Block s q) apart was = was
-      step i (Link s q) apart was = (was.0, elsewhere old new r (link_of (shape_of h r) p) (length ts) s (link_of (shape_of h s) q) put apart ∙ was.1)
-      step i (Range m a e) apart was = tt
-
-      here : IsFound h other new (0 + length ts) (Link r p)
-      here = (above, put.same ∙ omega arith)
+      step i (Link s q) apart was = search (rules, elsewhere)
+      step i _ apart was = search rules
 
 -- the list, with what begins
 pub list_begun : (ts : List Lent) (row : ℕ) (l : Leased) (xs ys : List Lease) {x : Lease} → xs ≡ map lease_of ts → x ≡ as_lease row without_end l → ys ≡ xs ++ x ∷ [] →
@@ -58,8 +47,7 @@ put_at old new r m n i j e f put = let P : ℕ → ℕ → Type 0 = λ m i. IsPu
 -- a range shares no place
 pub range_found : (h : Header) (blocks links : IndexTables) (ts : List Lent) (row n a : ℕ) (e : Use) → AllUnended (IsFound h blocks links) 0 ts →
     AllUnended (IsFound h blocks links) 0 (with_begun row ts (Range n a e ∷ []))
-range_found h blocks links ts row n a e all =
-    all_begun (IsFound h blocks links) (IsFound h blocks links) (λ m. false) row (Range n a e) 0 ts (λ i m apart was. was) tt (none ts) all
+range_found h blocks links ts row n a e all = all_begun (IsFound h blocks links) (IsFound h blocks links) (λ m. false) row (Range n a e) 0 ts (λ i m apart was. was) tt (none ts) all
   where
     none : (us : List Lent) → list_any (λ t. is_unended t && false) us ≡ false
     none [] = refl

@@ -1,5 +1,5 @@
 -- The indexes find each range that is under lease, when one begins and when some end
-use Rattle.leases.proofs.BaseWords.{not-true, and_false, ◌≡◌, ◌≢◌, ◌==◌, ◌&&◌, ◌∷◌, ◌∙◌, ℕ, Bool, true, false, List, [], length, map, OnOk, Result, Ok, Err, arith, sym, refl, subst, eq-eqb, list_any, false≢true, Header, Leased, Range, Use, InputContext, SlotEntry, DeviceContext, Indexes, RangeIndexes, index_in, Lent, is_unended, ended_where, with_begun, FindsRanges, IsRangeFound, IsUseFound, StandsAt, command_place, is_use_free, share_a_use, shares_use}
+use Rattle.leases.proofs.BaseWords.{not-true, and_false, ◌≡◌, ◌≢◌, ◌==◌, ◌&&◌, ◌∷◌, ◌∙◌, ℕ, Bool, true, false, List, [], length, map, OnOk, Result, arith, sym, refl, subst, eq-eqb, list_any, false≢true, Header, Leased, Range, Use, InputContext, SlotEntry, DeviceContext, Indexes, RangeIndexes, index_in, Lent, is_unended, ended_where, with_begun, FindsRanges, IsRangeFound, IsUseFound, StandsAt, command_place, is_use_free, share_a_use, shares_use}
 use Rattle.leases.proofs.LeaseBooks.Unended.{all_anew, all_begun, all_ended}
 
 -- the ranges for other uses are found as before
@@ -8,8 +8,7 @@ IsKept h e x y = (i : ℕ) (f : Use) → share_a_use h e f ≡ false → IsUseFo
 
 module _ (h : Header) (x y : RangeIndexes) (e : Use) (kept : IsKept h e x y) where
   step : (i : ℕ) (m : Leased) → shares_use h e m ≡ false → IsRangeFound h x i m → IsRangeFound h y i m
-  step i (Range n a f) apart was = kept i f apart was
-  step i _ apart was = tt
+  step i m apart was = grind arith
 
   pub range_begins : (row n a : ℕ) (ts : List Lent) → IsUseFound h y (length ts) e → FindsRanges h ts x → is_use_free h ts e ≡ true → FindsRanges h (with_begun row ts (Range n a e ∷ [])) y
   unfolding is_use_free
@@ -21,16 +20,13 @@ other m n apart e = false≢true (sym apart ∙ eq-eqb m n (sym e))
 
 module _ (h : Header) (x : RangeIndexes) (t : Indexes) where
   pub context_put : (p place : ℕ) → place ≡ command_place h p → ((m : ℕ) → m ≢ place → index_in t m ≡ index_in x.contexts m) → IsKept h (InputContext p) x (record x { contexts = t })
-  context_put p place at others i (InputContext q) apart was = others (command_place h q) (λ e. other (command_place h p) (command_place h q) apart (e ∙ at)) ∙ was
-  context_put p place at others i _ apart was = was
+  context_put p place at others i h6 apart was = grind (arith, command_place, other)
 
   pub entry_put : (slot number : ℕ) → number ≡ slot → ((m : ℕ) → m ≢ number → index_in t m ≡ index_in x.entries m) → IsKept h (SlotEntry slot) x (record x { entries = t })
-  entry_put slot number at others i (SlotEntry s) apart was = others s (λ e. other slot s apart (e ∙ at)) ∙ was
-  entry_put slot number at others i _ apart was = was
+  entry_put slot number at others i h6 apart was = grind (arith, other)
 
   pub device_put : (slot number : ℕ) → number ≡ slot → ((m : ℕ) → m ≢ number → index_in t m ≡ index_in x.devices m) → IsKept h (DeviceContext slot) x (record x { devices = t })
-  device_put slot number at others i (DeviceContext s) apart was = others s (λ e. other slot s apart (e ∙ at)) ∙ was
-  device_put slot number at others i _ apart was = was
+  device_put slot number at others i h6 apart was = grind (arith, other)
 
 -- where the range for a use is found it stands
 pub stands : (h : Header) (x : RangeIndexes) (ts : List Lent) (n a index : ℕ) (e : Use) → ((i : ℕ) → IsUseFound h x i e → i ≡ index) → FindsRanges h ts x → StandsAt ts (Range n a e) index
@@ -53,5 +49,4 @@ some_end h x over row ts all = all_ended (IsRangeFound h x) over row 0 ts all
 
 -- what holds, holds of each answer
 pub always_ok : {T E P : Type 0} (r : Result T E) → P → OnOk r P
-always_ok (Ok x) p = p
-always_ok (Err e) p = tt
+always_ok r p = grind arith

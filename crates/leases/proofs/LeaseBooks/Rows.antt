@@ -1,5 +1,5 @@
 -- What is lent after one more row, by which leases are open after it
-use Rattle.leases.proofs.BaseWords.{◌≡◌, ◌+◌, ◌<◌, ◌&&◌, ◌∷◌, ◌++◌, ◌∙◌, ℕ, Bool, true, false, not, List, [], map, filter, sym, ap, refl, inl, inr, cond, append-nil, false≢true, and_parts, nat_tests, Header, Row, Known, learned, Leased, is_among, open_leases, begun, without_end, IsIn, from_filter, in_among, Lent, is_unended, begun_at, with_leased, in_turn, ended_where, with_begun, grown, newly_open, passed_on, AllUnended, AreOpen, rules}
+use Rattle.leases.proofs.BaseWords.{◌≡◌, ◌+◌, ◌<◌, ◌&&◌, ◌∷◌, ◌++◌, ◌∙◌, ℕ, Bool, true, false, not, List, [], map, filter, sym, refl, inl, inr, cond, append-nil, false≢true, and_parts, nat_tests, Header, Row, Known, learned, Leased, is_among, open_leases, begun, without_end, IsIn, from_filter, in_among, Lent, is_unended, begun_at, with_leased, in_turn, ended_where, with_begun, grown, newly_open, passed_on, AllUnended, AreOpen, rules}
 use Rattle.leases.proofs.LeaseBooks.Passing.{and_true, ended_alike, none_over}
 
 -- what stands in order stood there before
@@ -11,7 +11,7 @@ from_with l (x ∷ rest) m at = search (rules, from_with l rest m)
 pub from_turn : (ls : List Leased) (m : Leased) → IsIn m (in_turn ls) → IsIn m ls
 unfolding in_turn
 from_turn [] m at = at
-from_turn (l ∷ rest) m at = elim (from_with l (in_turn rest) m at) [ inl here ↦ inl here | inr later ↦ inr (from_turn rest m later) ]
+from_turn (l ∷ rest) m at = search (rules, from_with, from_turn rest m)
 
 module _ (P : Leased → Type 0) where
   abbrev F : ℕ → Leased → Type 0
@@ -42,8 +42,7 @@ abbrev pub IsOpen : List Leased → Leased → Type 0
 IsOpen open_now l = is_among open_now l ≡ true
 
 not_over : (b : Bool) → not b ≡ false → b ≡ true
-not_over true e = refl
-not_over false e = absurd (false≢true (sym e))
+not_over b e = search rules
 
 weaker : (G H : Leased → Type 0) (i : ℕ) (ts : List Lent) → ((l : Leased) → G l → H l) → AllUnended (λ j l. G l) i ts → AllUnended (λ j l. H l) i ts
 weaker G H i [] f all = tt
@@ -58,12 +57,8 @@ module _ (before after : List Leased) (n : ℕ) (ts : List Lent) where
   -- what is lent and not over behind a row is open
   pub passed_open : n < without_end → AllUnended (λ i l. IsOpen after l) 0 (passed_on before after n ts)
   unfolding passed_on with_begun
-  passed_open early =
-      let gone : Leased → Bool = λ l. not (is_among after l) in
-      all_joined (IsOpen after) 0 (map (ended_where gone n) ts) (map (begun_at n) (in_turn (newly_open before after)))
-      (weaker (λ l. gone l ≡ false) (IsOpen after) 0 (map (ended_where gone n) ts) (λ l e. not_over (is_among after l) e) (all_left gone n 0 ts early))
-      (λ j. all_new (IsOpen after) n j (in_turn (newly_open before after)) (λ l at. in_among after l
-      (from_filter (λ m. not (is_among before m)) after l (from_turn (newly_open before after) l at)).0))
+  passed_open early = all_joined (IsOpen after) 0 (map (ended_where (λ l. not (is_among after l)) n) ts) (map (begun_at n) (in_turn (newly_open before after)))
+      (search (rules, weaker (λ l. not (is_among after l) ≡ false) (IsOpen after), not_over, all_left)) (search (rules, all_new, in_among, from_filter, from_turn))
 
   module _ (opened : AllUnended (λ i l. IsOpen before l) 0 ts) where
     -- the row ends the leases of which the test holds, and begins these
@@ -75,12 +70,7 @@ module _ (before after : List Leased) (n : ℕ) (ts : List Lent) where
     -- nothing begins
     pub only_passed : (over : Leased → Bool) → ((l : Leased) → is_among after l ≡ (is_among before l && not (over l))) → passed_on before after n ts ≡ map (ended_where over n) ts
     unfolding in_turn with_begun
-    only_passed over narrows =
-        passed_by over [] (λ l is_open. narrows l ∙ ap (λ b. b && not (over l)) is_open) (ap in_turn (none_new before after there))
-        ∙ append-nil _
-      where
-        there : (l : Leased) → IsIn l after → IsOpen before l
-        there l at = (and_parts (is_among before l) (not (over l)) (sym (narrows l) ∙ in_among after l at)).0
+    only_passed over narrows = search (rules, passed_by over [], none_new, and_parts, in_among, append-nil)
 
     -- nothing begins or ends
     pub nothing_passed : ((l : Leased) → is_among after l ≡ is_among before l) → passed_on before after n ts ≡ ts
@@ -115,6 +105,4 @@ module _ (h : Header) where
     -- nothing ends
     pub only_begun : (new : List Leased) → ((l : Leased) → IsOpen was l → IsOpen is l) → in_turn (begun h k row) ≡ new →
         grown h k row n ts ≡ with_begun n ts new
-    only_begun new kept e =
-        grown_by (λ l. false) new kept e
-        ∙ ap (λ us. with_begun n us new) (none_over (λ l. false) n ts (λ l. refl))
+    only_begun new kept e = search (rules, grown_by (λ l. false), none_over)

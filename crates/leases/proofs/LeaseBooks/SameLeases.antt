@@ -1,5 +1,5 @@
 -- Rows that neither begin nor end a lease: doorbells, declarations, most registers
-use Rattle.leases.proofs.BaseWords.{◌≡◌, ◌≢◌, ◌<◌, ◌==◌, ◌∷◌, ◌++◌, ◌∙◌, ◌⊎◌, ℕ, Bool, true, false, List, [], length, Option, Some, None, slice_get, option_and_then, zero, suc, arith, sym, ap, refl, inl, inr, cond, eqb-true, flat_map, cases_Bool, RingView, is_handed_over, RingChange, Declares, Opens, Holds, changed, due_crossings, due_positions, leased_crossings, leased_positions, Trb, command_of, Header, Ring, Register, Usbcmd, Crcr, Dcbaap, Erstba, Sub, Reg, Bell, command_id, driver_rings, shape_of, reset_bit, run_bit, with_register, Known, learned, entry_of, context_ranges, device_ranges, entry_ranges, open_leases, open_on, open_ranges, range_of_command, range_of_entry, slots, IsIn, rules}
+use Rattle.leases.proofs.BaseWords.{◌≡◌, ◌≢◌, ◌<◌, ◌==◌, ◌∷◌, ◌++◌, ◌⊎◌, ℕ, Bool, true, false, List, [], length, Option, Some, None, slice_get, suc, arith, refl, inl, inr, cond, eqb-true, flat_map, cases_Bool, RingView, is_handed_over, RingChange, Declares, Opens, Holds, changed, due_crossings, due_positions, leased_crossings, leased_positions, Trb, Header, Ring, Register, Dcbaap, Erstba, Sub, Reg, Bell, command_id, driver_rings, shape_of, reset_bit, run_bit, with_register, Known, learned, entry_of, context_ranges, device_ranges, entry_ranges, open_leases, open_on, open_ranges, range_of_command, range_of_entry, slots, IsIn, rules}
 use Rattle.ring_knowledge.specs.Rings as rings
 use Rattle.ring_knowledge.specs.Registers as registers
 
@@ -38,13 +38,9 @@ module _ (h : Header) where
   unfolding rings.unfinished_positions due_positions
   unfinished_same k k' same = rw ((same.each (command_id h)).given, (same.each (command_id h)).floor) refl
 
-  contexts_same : (k k' : Known) → RestsSame k k' → context_ranges h k' ≡ context_ranges h k
-  unfolding context_ranges
-  contexts_same k k' same = search (rules, range_of_command, unfinished_same, flat_alike)
-
   pub open_same : (k k' : Known) → RestsSame k k' → open_leases h k' ≡ open_leases h k
-  unfolding open_leases open_ranges device_ranges
-  open_same k k' same = search (rules, open_ranges, flat_alike, open_on, driver_rings, on_same, contexts_same)
+  unfolding open_leases open_ranges device_ranges context_ranges
+  open_same k k' same = search (rules, open_ranges, flat_alike, open_on, driver_rings, on_same, range_of_command, unfinished_same)
 
   -- a change of a ring that leaves what is given, and the floor
   pub data IsIdle : RingChange → Type 0 where
@@ -52,33 +48,16 @@ module _ (h : Header) where
     opens : IsIdle Opens
     holds : (n : ℕ) → IsIdle (Holds n)
 
-  idle_same : (k : Known) (r : ℕ) (change : RingChange) → IsIdle change → (q : ℕ) → LeasesSame (k.ring q) ((rings.on_ring h k r change).ring q)
-  unfolding rings.on_ring
-  idle_same k r change idle q = elim (cases_Bool (q == r)) [
-    | inl same ↦ rw same (rw (eqb-true q r same) (at change idle))
-    | inr other ↦ rw other (record { given = refl; free = refl; crossed = refl; floor = refl })
-  ]
-    where
-      at : (change : RingChange) → IsIdle change → LeasesSame (k.ring r) (changed (shape_of h r) (k.ring r) change)
-      at _ (declares blocks) = record { given = refl; free = refl; crossed = refl; floor = refl }
-      at _ opens = record { given = refl; free = refl; crossed = refl; floor = refl }
-      at _ (holds n) = record { given = refl; free = refl; crossed = refl; floor = refl }
-
   -- the entries of the DCBAA stay where DCBAAP stays, or where no device context is under lease
   pub entries_kept : (k k' : Known) → k'.device ≡ k.device → (k'.register Dcbaap ≡ k.register Dcbaap) ⊎ ((s : ℕ) → k.device s ≡ None) → entry_ranges k' ≡ entry_ranges k
   unfolding entry_ranges entry_of range_of_entry
-  entries_kept k k' devices (inl array) = search (rules, flat_alike, range_of_entry, slots)
-  entries_kept k k' devices (inr none) = search (rules, flat_none, range_of_entry, slots)
-
-  -- the queue of every ring stays
-  queues_same : (k : Known) (r : ℕ) (change : RingChange) → (changed (shape_of h r) (k.ring r) change).queue ≡ (k.ring r).queue → (q : ℕ) → ((rings.on_ring h k r change).ring q).queue ≡ (k.ring q).queue
-  unfolding rings.on_ring
-  queues_same k r change stays q = search (rules, eqb-true)
+  entries_kept k k' devices h4 = grind (arith, flat_alike, range_of_entry, slots, flat_none)
 
   -- only rings and the states of endpoints change
   idle_rests : (k k' : Known) (r : ℕ) (change : RingChange) → IsIdle change → k'.ring ≡ (rings.on_ring h k r change).ring → k'.register ≡ k.register → k'.device ≡ k.device →
       ((p : ℕ) → IsIn p (rings.unfinished_positions h k) → rings.command_at h k' p ≡ rings.command_at h k p) → RestsSame k k'
-  idle_rests k k' r change idle rings_are registers devices commands = search (rules, idle_same, entries_kept)
+  unfolding rings.on_ring
+  idle_rests k k' r change idle rings_are registers devices commands = grind (arith, cases_Bool, eqb-true, RingChange, changed, shape_of, entries_kept)
 
   pub command_same : (k k' : Known) → (k'.ring (command_id h)).queue ≡ (k.ring (command_id h)).queue → (p : ℕ) → rings.command_at h k' p ≡ rings.command_at h k p
   unfolding rings.command_at
@@ -87,41 +66,29 @@ module _ (h : Header) where
   -- a doorbell
   pub bell_same : (k : Known) (s t : ℕ) → open_leases h (learned h k (Bell s t)) ≡ open_leases h k
   unfolding learned registers.rung registers.endpoint_rung rings.on_ring
-  bell_same k s t = by (s == 0)
+  bell_same k s t = by (s == 0) (k.ring_of s t)
     where
       opened : (k' : Known) (r : ℕ) → k'.ring ≡ (rings.on_ring h k r Opens).ring → k'.register ≡ k.register → k'.device ≡ k.device → open_leases h k' ≡ open_leases h k
-      opened k' r rings_are registers devices =
-          open_same k k' (idle_rests k k' r Opens opens rings_are registers devices
-          (λ p at. command_same k k' (ap (λ f. (f (command_id h)).queue) rings_are ∙ queues_same k r Opens refl (command_id h)) p))
+      opened k' r rings_are registers devices = open_same k k' (idle_rests k k' r Opens opens rings_are registers devices (search (rules, command_same, eqb-true)))
 
-      rung : (r : Option ℕ) → open_leases h (registers.endpoint_rung h k s t r) ≡ open_leases h k
-      rung None = refl
-      rung (Some r) = opened (registers.endpoint_rung h k s t (Some r)) r refl refl refl
-
-      by : (b : Bool) → open_leases h (cond b (rings.on_ring h k (command_id h) Opens) (registers.endpoint_rung h k s t (k.ring_of s t))) ≡ open_leases h k
-      by true = opened (rings.on_ring h k (command_id h) Opens) (command_id h) refl refl refl
-      by false = rung (k.ring_of s t)
+      by : (b : Bool) (r : Option ℕ) → open_leases h (cond b (rings.on_ring h k (command_id h) Opens) (registers.endpoint_rung h k s t r)) ≡ open_leases h k
+      by true r = opened (rings.on_ring h k (command_id h) Opens) (command_id h) refl refl refl
+      by false None = refl
+      by false (Some r) = opened (registers.endpoint_rung h k s t (Some r)) r refl refl refl
 
   more_queued : (k : Known) (r : ℕ) (blocks : List Trb) (q p : ℕ) → p < length (k.ring q).queue → slice_get ((rings.on_ring h k r (Declares blocks)).ring q).queue p ≡ slice_get (k.ring q).queue p
   unfolding rings.on_ring
-  more_queued k r blocks q p below = elim (cases_Bool (q == r)) [
-    | inl same ↦ rw same (let here : r ≡ q = sym (eqb-true q r same) in rw here (got (k.ring q).queue blocks p below))
-    | inr other ↦ rw other refl
-  ]
+  more_queued k r blocks q p below = search (rules, got (k.ring q).queue blocks p below, cases_Bool (q == r), eqb-true)
     where
       got : {X : Type 0} (xs ys : List X) (p : ℕ) → p < length xs → slice_get (xs ++ ys) p ≡ slice_get xs p
-      got [] ys p low = absurd (omega arith)
-      got (x ∷ xs) ys zero low = refl
       got (x ∷ xs) ys (suc p) low = got xs ys p (omega arith)
+      got xs ys p low = grind arith
 
   -- a declaration, where every command that was given is declared
   pub sub_same : (k : Known) (r : ℕ) (blocks : List Trb) → ((p : ℕ) → IsIn p (rings.unfinished_positions h k) → p < length (k.ring (command_id h)).queue) →
       open_leases h (learned h k (Sub r blocks)) ≡ open_leases h k
   unfolding learned rings.on_ring rings.command_at
-  sub_same k r blocks known =
-      open_same k (rings.on_ring h k r (Declares blocks))
-      (idle_rests k (rings.on_ring h k r (Declares blocks)) r (Declares blocks) (declares blocks) refl refl refl
-      (λ p at. ap (option_and_then command_of) (more_queued k r blocks (command_id h) p (known p at))))
+  sub_same k r blocks known = open_same k (rings.on_ring h k r (Declares blocks)) (search (rules, idle_rests k (rings.on_ring h k r (Declares blocks)) r (Declares blocks) (declares blocks), more_queued))
 
   -- a register write changes the register, and neither rings nor device contexts
   pub record WritesRegister (k k' : Known) (r : Register) (v : ℕ) : Type 0 where
@@ -129,23 +96,10 @@ module _ (h : Header) where
     pub device : k'.device ≡ k.device
     pub register : k'.register ≡ with_register k.register r v
 
-  started_or_stopped : (k : Known) (v : ℕ) → WritesRegister k (registers.run_or_stop (registers.valued k Usbcmd v) v) Usbcmd v
-  unfolding registers.run_or_stop registers.valued
-  started_or_stopped k v = search (rules, run_bit, reset_bit)
-
   pub writes_register : (k : Known) (r : Register) (v : ℕ) → WritesRegister k (learned h k (Reg r v)) r v
-  unfolding learned registers.register_written registers.valued
-  writes_register k Usbcmd v = started_or_stopped k v
-  writes_register k _ v = search (rules, started_or_stopped)
-
-  table_kept : (values : Register → Option ℕ) (r : Register) (v : ℕ) → r ≢ Erstba → with_register values r v Erstba ≡ values Erstba
-  table_kept values Crcr v other = refl
-  table_kept values _ v other = search rules
-
-  array_kept : (values : Register → Option ℕ) (r : Register) (v : ℕ) → r ≢ Dcbaap → with_register values r v Dcbaap ≡ values Dcbaap
-  array_kept values Crcr v other = refl
-  array_kept values _ v other = search rules
+  unfolding learned registers.register_written registers.valued registers.run_or_stop
+  writes_register k r v = grind (arith, run_bit, reset_bit)
 
   -- a register but ERSTBA, and DCBAAP where no device context is under lease
   pub reg_same : (k : Known) (r : Register) (v : ℕ) → r ≢ Erstba → (r ≢ Dcbaap) ⊎ ((s : ℕ) → k.device s ≡ None) → open_leases h (learned h k (Reg r v)) ≡ open_leases h k
-  reg_same k r v other array = search (rules, learned, writes_register, open_same, command_same, command_id, table_kept, entries_kept, array_kept)
+  reg_same k r v other array = search (rules, learned, writes_register, open_same, command_same, command_id, entries_kept)

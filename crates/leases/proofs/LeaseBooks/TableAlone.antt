@@ -1,9 +1,6 @@
 -- The write of ERSTBA begins the lease of the segment table, and no other
-use Rattle.leases.proofs.BaseWords.{false_unless, ◌≡◌, ◌∷◌, ◌++◌, ◌∙◌, ℕ, Bool, true, not, List, [], filter, None, sym, ap, subst, refl, flat_map, filter-append, table_bytes, Header, Ring, Reg, Erstba, driver_rings, event_shape, base_address, Known, learned, register_written, valued, entry_of, Leased, Range, SegmentTable, context_ranges, device_ranges, entry_ranges, is_among, open_leases, open_on, open_ranges, range_of_entry, segment_ranges, table_range, begun, IsIn, among_is, in_among, in_turn, with_begun, with_leased, Lent, grown, AreOpen, rules}
+use Rattle.leases.proofs.LowerLaws.{false_unless, ◌≡◌, ◌∷◌, ◌++◌, ℕ, Bool, true, not, List, [], filter, None, sym, ap, subst, refl, flat_map, filter-append, table_bytes, Header, Ring, Reg, Erstba, driver_rings, event_shape, base_address, Known, learned, register_written, valued, entry_of, Leased, Range, SegmentTable, context_ranges, device_ranges, entry_ranges, is_among, open_leases, open_on, open_ranges, range_of_entry, segment_ranges, table_range, begun, IsIn, among_is, in_among, in_turn, with_begun, with_leased, Lent, grown, AreOpen, rules, InOn, block, either_into, five_into, in_left, in_right, link, each_open, of_range, none_new, only_begun}
 use Rattle.ring_knowledge.specs.Rings as rings
-use Rattle.leases.proofs.LeaseBooks.Members.{InOn, block, either_into, five_into, in_left, in_right, link}
-use Rattle.leases.proofs.LeaseBooks.RangesAlone.{each_open, of_range}
-use Rattle.leases.proofs.LeaseBooks.Rows.{none_new, only_begun}
 
 abbrev pub IsNoTable : Leased → Type 0
 IsNoTable (Range n a SegmentTable) = ⊥
@@ -52,38 +49,27 @@ module _ (h : Header) (k : Known) where
 
     begun_is : filter IsNew (open_leases h k') ≡ the_table ∷ []
     begun_is =
-        let s = segment_ranges h in
-        let c = context_ranges h k in
-        let e = entry_ranges k in
-        let d = device_ranges h k in
-        let rest = s ++ [] ++ c ++ e ++ d in
+        let rest = segment_ranges h ++ [] ++ context_ranges h k ++ entry_ranges k ++ device_ranges h k in
         let ranges : (l : Leased) → IsIn l rest → IsIn l (open_leases h k) = λ l at. in_parts l (in_right l rings_part rest at) in
-        let new : filter IsNew (the_table ∷ []) ≡ the_table ∷ [] = rw table_is_new refl in
-        ap (filter IsNew) parts_after
-        ∙ filter-append IsNew rings_part (s ++ the_table ∷ [] ++ c ++ e ++ d)
-        ∙ rw (
-          old_fail rings_part (λ l at. in_parts l (in_left l rings_part rest at)),
-          filter-append IsNew (s ++ the_table ∷ [] ++ c ++ e) d,
-          filter-append IsNew (s ++ the_table ∷ [] ++ c) e,
-          filter-append IsNew (s ++ the_table ∷ []) c,
-          filter-append IsNew s (the_table ∷ []),
-          old_fail s (λ l at. ranges l (in_left l (s ++ [] ++ c ++ e) d (in_left l (s ++ [] ++ c) e (in_left l (s ++ []) c (in_left l s [] at))))),
-          old_fail c (λ l at. ranges l (in_left l (s ++ [] ++ c ++ e) d (in_left l (s ++ [] ++ c) e (in_right l (s ++ []) c at)))),
-          old_fail e (λ l at. ranges l (in_left l (s ++ [] ++ c ++ e) d (in_right l (s ++ [] ++ c) e at))),
-          old_fail d (λ l at. ranges l (in_right l (s ++ [] ++ c ++ e) d at)),
-          new,
-        ) refl
+        rw (parts_after, filter-append IsNew rings_part, old_fail rings_part (λ l at. in_parts l (in_left l rings_part rest at)))
+        (rw (
+          filter-append IsNew (segment_ranges h ++ the_table ∷ [] ++ context_ranges h k ++ entry_ranges k),
+          filter-append IsNew (segment_ranges h ++ the_table ∷ [] ++ context_ranges h k),
+          filter-append IsNew (segment_ranges h ++ the_table ∷ []),
+          filter-append IsNew (segment_ranges h),
+          old_fail (segment_ranges h) (search (rules, ranges, in_left)),
+          old_fail (context_ranges h k) (search (rules, ranges, in_left, in_right)),
+          old_fail (entry_ranges k) (search (rules, ranges, in_left, in_right)),
+          old_fail (device_ranges h k) (search (rules, ranges, in_right)),
+          table_is_new,
+        ) refl)
 
     all_stay : (l : Leased) → is_among (open_leases h k) l ≡ true → is_among (open_leases h k') l ≡ true
-    all_stay l among =
-        let s = segment_ranges h in
-        let c = context_ranges h k in
-        let e = entry_ranges k in
-        let d = device_ranges h k in
-        in_among (open_leases h k') l (subst (IsIn l) (sym parts_after)
-        (either_into (IsIn l) (in_left l) (in_right l) l rings_part (s ++ [] ++ c ++ e ++ d) rings_part (s ++ the_table ∷ [] ++ c ++ e ++ d) (λ here. here)
-        (five_into (IsIn l) (in_left l) (in_right l) l s [] c e d s (the_table ∷ []) c e d (λ here. here) (λ none. absurd none) (λ here. here) (λ here. here) (λ here. here))
-        (subst (IsIn l) (parts unwritten) (among_is (open_leases h k) l among))))
+    all_stay l among = in_among (open_leases h k') l (rw parts_after (either_into (IsIn l) (in_left l) (in_right l) l rings_part _ rings_part _ (λ here. here)
+        (five_into (IsIn l) (in_left l) (in_right l) l (segment_ranges h) [] (context_ranges h k) (entry_ranges k) (device_ranges h k) (segment_ranges h) (the_table ∷ [])
+        (context_ranges h k)
+        (entry_ranges k) (device_ranges h k) (λ here. here) (λ none. absurd none) (λ here. here) (λ here. here) (λ here. here))
+        (rw (← parts unwritten) (among_is (open_leases h k) l among))))
 
 -- the law
 pub lent_table : (h : Header) (k : Known) (ts : List Lent) → AreOpen h k ts → (v n : ℕ) → k.register Erstba ≡ None →

@@ -1,11 +1,6 @@
 -- What is lent after a Transfer Event: the leases end of what it tells to be passed on the ring of its endpoint
-use Rattle.leases.proofs.BaseWords.{◌≡◌, ◌≢◌, ◌+◌, ◌≤◌, ◌==◌, ◌&&◌, ◌∙◌, ℕ, Bool, true, false, not, List, [], map, Some, ap, refl, inl, inr, eqb-true, eq-eqb, cases_Bool, Trb, TransferEvent, code, endpoint, kind, slot, is_halting, is_stopping, is_success, is_trb_error, Spot, number, RingView, due_positions, floor_number, number-after, command_of, Header, Ring, Read, command_id, driver_rings, shape_of, EndpointState, Error, Halted, Known, event_read, learned, RingSpot, event_at, broken_off, passed, stopped_at, transfer_read, transferred, transferred_at, context_ranges, device_ranges, entry_ranges, open_leases, open_ranges, range_of_command, range_of_device, segment_ranges, slots, table_range, is_among, IsIn, come_to, ended_where, is_passed, Lent, grown, AreOpen, rules}
+use Rattle.leases.proofs.MiddleLaws.{◌≡◌, ◌≢◌, ◌+◌, ◌≤◌, ◌==◌, ℕ, Bool, true, false, List, [], map, Some, refl, inl, inr, eqb-true, eq-eqb, cases_Bool, Trb, TransferEvent, code, kind, is_halting, is_stopping, is_success, is_trb_error, Spot, number, due_positions, floor_number, number-after, command_of, Header, Ring, Read, command_id, driver_rings, shape_of, EndpointState, Error, Known, event_read, learned, RingSpot, event_at, broken_off, passed, stopped_at, transfer_read, transferred, transferred_at, context_ranges, device_ranges, entry_ranges, open_ranges, range_of_command, range_of_device, segment_ranges, slots, table_range, is_among, IsIn, come_to, ended_where, is_passed, Lent, grown, AreOpen, rules, and_true, Narrows, floors, narrows, one_ring_left, IsWithinLap, Moves, only_ended, entries_kept}
 use Rattle.ring_knowledge.specs.Rings as rings
-use Rattle.leases.proofs.LeaseBooks.Passing.{and_true}
-use Rattle.leases.proofs.LeaseBooks.Narrowing.{Narrows, floors, narrows, one_ring_left}
-use Rattle.leases.proofs.LeaseBooks.PassedLeases.{IsWithinLap, Moves}
-use Rattle.leases.proofs.LeaseBooks.Rows.{only_ended}
-use Rattle.leases.proofs.LeaseBooks.SameLeases.{entries_kept}
 
 module _ (h : Header) (k : Known) where
   -- one ring goes on to a number; of the others, of registers and device contexts nothing changes
@@ -21,10 +16,6 @@ module _ (h : Header) (k : Known) where
   itself : (r : ℕ) → (r == r) ≡ true
   itself r = eq-eqb r r refl
 
-  passed_goes : (r : ℕ) (t : Spot) → GoesOn (passed h k r t) r (number t + 1)
-  unfolding passed rings.on_ring
-  passed_goes r t = search (rules, itself, number-after, shape_of, number)
-
   broken_goes : (s i r : ℕ) (t : Spot) (state : EndpointState) → GoesOn (broken_off h k s i r t state) r (number t + 1)
   unfolding broken_off passed rings.on_ring
   broken_goes s i r t state = search (rules, itself, number-after, shape_of, number)
@@ -34,26 +25,23 @@ module _ (h : Header) (k : Known) where
   stopped_goes s i r t = search (rules, itself)
 
   same_goes : (r : ℕ) → GoesOn k r (floor_number (k.ring r))
-  same_goes r = record { others = λ q differ. refl; given = refl; free = refl; crossed = refl; floor = refl; register = refl; device = refl }
+  same_goes r = search rules
 
   marked_goes : (k' : Known) (r to : ℕ) (f : ℕ → ℕ → Bool) → GoesOn k' r to → GoesOn (record k' { must_move = f }) r to
-  marked_goes k' r to f g = record { others = g.others; given = g.given; free = g.free; crossed = g.crossed; floor = g.floor; register = g.register; device = g.device }
+  marked_goes k' r to f g = search rules
 
   counted_goes : (k' : Known) (r to n : ℕ) → GoesOn k' r to → GoesOn (record k' { reads = n }) r to
-  counted_goes k' r to n g = record { others = g.others; given = g.given; free = g.free; crossed = g.crossed; floor = g.floor; register = g.register; device = g.device }
+  counted_goes k' r to n g = search rules
 
   transferred_goes : (c s i r : ℕ) (t : Spot) → GoesOn (transferred h k c s i r t) r (come_to c t (floor_number (k.ring r)))
-  unfolding transferred come_to
+  unfolding transferred come_to passed rings.on_ring
   transferred_goes c s i r t = elim (cases_Bool (is_success c)) [
-    | inl so ↦ rw so (passed_goes r t)
+    | inl so ↦ rw so (search (rules, itself, number-after, shape_of, number))
     | inr not_so ↦ elim (cases_Bool (is_halting c)) [
-      | inl so ↦ rw (not_so, so) (marked_goes (broken_off h k s i r t Halted) r (number t + 1) _ (broken_goes s i r t Halted))
+      | inl so ↦ rw (not_so, so) (search (rules, marked_goes, broken_goes))
       | inr none ↦ elim (cases_Bool (is_trb_error c)) [
         | inl so ↦ rw (not_so, none, so) (broken_goes s i r t Error)
-        | inr other ↦ elim (cases_Bool (is_stopping c)) [
-          | inl so ↦ rw (not_so, none, other, so) (stopped_goes s i r t)
-          | inr last ↦ rw (not_so, none, other, last) (same_goes r)
-        ]
+        | inr other ↦ elim (cases_Bool (is_stopping c)) [ inl so ↦ rw (not_so, none, other, so) (stopped_goes s i r t) | inr last ↦ rw (not_so, none, other, last) (same_goes r) ]
       ]
     ]
   ]
@@ -61,8 +49,7 @@ module _ (h : Header) (k : Known) where
   read_goes : (b : Trb) (at : RingSpot) → kind b ≡ TransferEvent → event_at h k b ≡ Some at →
       GoesOn (learned h k (Read b)) at.ring (come_to (code b) at.spot (floor_number (k.ring at.ring)))
   unfolding learned event_read transfer_read transferred_at
-  read_goes b at transfers found =
-      rw transfers (rw found (counted_goes (transferred h k (code b) (slot b) (endpoint b) at.ring at.spot) at.ring _ (k.reads + 1) (transferred_goes (code b) (slot b) (endpoint b) at.ring at.spot)))
+  read_goes b at transfers found = rw transfers (rw found (search (rules, counted_goes, transferred_goes)))
 
   -- the ranges rest on the command ring, on registers and on device contexts
   pub ranges_rest : (k' : Known) → k'.ring (command_id h) ≡ k.ring (command_id h) → k'.register ≡ k.register → k'.device ≡ k.device → open_ranges h k' ≡ open_ranges h k
@@ -86,23 +73,9 @@ module _ (h : Header) (k : Known) (ts : List Lent) (still : AreOpen h k ts) (b :
     goes : GoesOn h k k' at.ring to
     goes = read_goes h k b at transfers found
 
-    commands_stay : k'.ring (command_id h) ≡ k.ring (command_id h)
-    commands_stay = search (rules, command_id, eqb-true, goes)
-
-    here : (q : Ring) → IsIn q (driver_rings h) → q.id ≡ at.ring → Moves q.shape (k.ring q.id) (k'.ring q.id) (floors k' q.id)
-    here q among e = search (rules, Moves, floors, goes, floor_number, IsWithinLap)
-
-    there : (q : Ring) → IsIn q (driver_rings h) → (q.id == at.ring) ≡ false → Moves q.shape (k.ring q.id) (k'.ring q.id) (floors k' q.id)
-    there q among differ = search (rules, goes)
-
     narrow : Narrows h k k' []
     unfolding is_among
-    narrow = search (rules, here, eqb-true, there, is_among, ranges_rest, commands_stay, goes, and_true, open_ranges)
+    narrow = search (rules, Moves, floors, floor_number, IsWithinLap, eqb-true, is_among, ranges_rest, command_id, goes, and_true, open_ranges)
 
     pub transfer_lent : grown h k (Read b) n ts ≡ map (ended_where (is_passed at.ring from to) n) ts
-    transfer_lent =
-        only_ended h k ts still (Read b) n (is_passed at.ring from to) (λ l.
-        narrows h k k' [] narrow l
-        ∙ ap (λ x. is_among (open_leases h k) l && not x)
-        (one_ring_left (floors k) (floors k') at.ring (λ q differ. ap (λ (v : RingView). floor_number v) (goes.others q differ)) l
-        ∙ ap (λ (n : ℕ). is_passed at.ring from n l) goes.floor))
+    transfer_lent = search (rules, only_ended, narrows h k k' [] narrow, one_ring_left (floors k) (floors k') at.ring, goes)

@@ -1,12 +1,6 @@
 -- The leases that a write begins: those of what it gives
-use Rattle.leases.proofs.BaseWords.{◌≡◌, ◌+◌, ◌<◌, ◌≤◌, ◌&&◌, ◌||◌, ◌∷◌, ◌++◌, ◌∙◌, ℕ, Bool, true, not, List, [], filter, map, zero, suc, arith, sym, ap, refl, cond, subst, append-nil, flat_map, range_with_len, and_parts, and_from, or_left, false≢true, filter-append, Shape, is_crossing, place_count, RingView, Writes, changed, crossings_given, due_crossings, due_positions, floor_number, gives, gives_crossing, is_crossing_due, leased_crossings, leased_positions, is_handed_over, positions_given, Header, Ring, driver_rings, shape_of, Known, Given, Position, Crossing, with_word, Leased, Block, Link, is_among, open_leases, open_on, open_ranges, IsIn, among_is, both_ways, in_among, FreeWasGiven, rules}
-use Rattle.leases.proofs.RingLeases.Filtered.{filter_mapped}
+use Rattle.leases.proofs.LowerLaws.{◌≡◌, ◌+◌, ◌<◌, ◌≤◌, ◌&&◌, ◌||◌, ◌∷◌, ◌++◌, ◌∙◌, ℕ, Bool, true, not, List, [], filter, map, zero, suc, arith, ap, refl, cond, append-nil, flat_map, range_with_len, and_parts, and_from, or_left, false≢true, filter-append, Shape, is_crossing, place_count, RingView, Writes, changed, crossings_given, due_crossings, due_positions, floor_number, gives, gives_crossing, is_crossing_due, leased_crossings, leased_positions, is_handed_over, positions_given, Header, Ring, driver_rings, shape_of, Known, Given, Position, Crossing, with_word, Leased, Block, Link, is_among, open_leases, open_on, open_ranges, IsIn, among_is, both_ways, in_among, FreeWasGiven, rules, filter_mapped, map_append, map_map, none_new, flat_alike, InOn, block, either_into, link, from_flat_map, in_flat_map, in_left, in_on, in_right, on_in, each_open, open_are_ranges, ring_open}
 use Rattle.ring_knowledge.specs.Rings as rings
-use Rattle.leases.proofs.LeaseBooks.Growing.{map_append, map_map}
-use Rattle.leases.proofs.LeaseBooks.Rows.{none_new}
-use Rattle.leases.proofs.LeaseBooks.SameLeases.{flat_alike}
-use Rattle.leases.proofs.LeaseBooks.Members.{InOn, block, either_into, link, from_flat_map, in_flat_map, in_left, in_on, in_right, on_in}
-use Rattle.leases.proofs.LeaseBooks.RangesAlone.{IsRange, each_open, open_are_ranges, ring_open}
 
 -- the lease of what is given
 abbrev pub lease_given : Given → Leased
@@ -27,12 +21,10 @@ filter_range p q t from zero same = refl
 filter_range p q t from (suc n) same = search (rules, cond, filter, range_with_len, filter_range p q t (from + 1) n (λ x l u. same x (omega arith) (omega arith)))
 
 newly_given : (g s f : Bool) → (f ≡ true → g ≡ true) → (((g || s) && not f) && not (g && not f)) ≡ (not g && s)
-newly_given true s true only = refl
-newly_given _ _ _ only = search (rules, false≢true)
+newly_given g s f only = grind (arith, false≢true)
 
 newly_crossed : (c g s : Bool) → (s ≡ true → c ≡ true) → ((c && (g || s)) && not (c && g)) ≡ (not g && s)
-newly_crossed true true s only = refl
-newly_crossed _ _ _ only = search rules
+newly_crossed c g s only = grind arith
 
 -- only a crossing is given as one
 gives_crossings : (shape : Shape) (v : RingView) (q a w : ℕ) → gives_crossing shape v.floor q a w ≡ true → is_crossing shape q ≡ true
@@ -56,59 +48,32 @@ module _ (h : Header) (shaped : AreShaped h) (k : Known) (freed : FreeWasGiven h
 
     -- a due position is under lease where it was handed over
     block_was : (p : ℕ) → floor_number (k.ring q.id) ≤ p → p < floor_number (k.ring q.id) + place_count q.shape → is_among (open_leases h k) (Block q.id p) ≡ is_handed_over (k.ring q.id) p
-    block_was p low high = both_ways _ _
-        (λ e. each_open h k (λ l. l ≡ Block q.id p → is_handed_over (k.ring q.id) p ≡ true) (λ s at. given_on s)
-        (λ l range same. absurd (subst IsRange same (open_are_ranges h k l range))) (Block q.id p) e refl)
+    block_was p low high = both_ways _ _ (λ e. each_open h k (λ l. l ≡ Block q.id p → is_handed_over (k.ring q.id) p ≡ true) (λ s at l on e. grind arith)
+        (λ l range e. grind (arith, open_are_ranges h k l range)) (Block q.id p) e refl)
         (λ lent. in_among _ (Block q.id p) (ring_open h k (Block q.id p) q among (block p low high lent)))
-      where
-        given_on : (s : Ring) (l : Leased) → InOn s (k.ring s.id) l → l ≡ Block q.id p → is_handed_over (k.ring q.id) p ≡ true
-        given_on s _ (block m least most given) e = let ids : s.id ≡ q.id = cc in let same : m ≡ p = cc in subst (λ (i : ℕ). is_handed_over (k.ring i) p ≡ true) ids (subst (λ (i : ℕ). is_handed_over (k.ring s.id) i ≡ true) same given)
-        given_on s _ (link m least most crossed) e = cc
 
     -- and a due crossing
     link_was : (c : ℕ) → floor_number (k.ring q.id) ≤ c → c < floor_number (k.ring q.id) + (place_count q.shape + 1) →
         is_among (open_leases h k) (Link q.id c) ≡ (is_crossing q.shape c && (k.ring q.id).crossed c)
-    link_was c low high = both_ways _ _
-        (λ e. each_open h k (λ l. l ≡ Link q.id c → (is_crossing q.shape c && (k.ring q.id).crossed c) ≡ true) crossed_on
-        (λ l range same. absurd (subst IsRange same (open_are_ranges h k l range))) (Link q.id c) e refl)
+    link_was c low high = both_ways _ _ (λ e. each_open h k (λ l. l ≡ Link q.id c → (is_crossing q.shape c && (k.ring q.id).crossed c) ≡ true)
+        (λ s at l on e. grind (arith, shaped s at, shaped q among)) (λ l range e. grind (arith, open_are_ranges h k l range)) (Link q.id c) e refl)
         (λ crossed. in_among _ (Link q.id c) (ring_open h k (Link q.id c) q among (link c low high crossed)))
-      where
-        crossed_on : (s : Ring) → IsIn s (driver_rings h) → (l : Leased) → InOn s (k.ring s.id) l → l ≡ Link q.id c → (is_crossing q.shape c && (k.ring q.id).crossed c) ≡ true
-        crossed_on s at _ (block m least most given) e = cc
-        crossed_on s at _ (link m least most crossed) e =
-            let ids : s.id ≡ q.id = cc in
-            let same : m ≡ c = cc in
-            let shapes : s.shape ≡ q.shape = sym (shaped s at) ∙ ap (shape_of h) ids ∙ shaped q among in
-            search (rules, is_crossing)
 
     new_blocks : filter (λ p. IsNew (Block q.id p)) (leased_positions q.shape (changed q.shape (k.ring q.id) (Writes a w))) ≡ positions_given q.shape (k.ring q.id) a w
     unfolding leased_positions due_positions positions_given
-    new_blocks = search (rules, filter_range, is_handed_over, changed, gives, block_was, newly_given)
+    new_blocks = search (rules, filter_range, block_was, newly_given)
 
     new_links : filter (λ c. IsNew (Link q.id c)) (leased_crossings q.shape (changed q.shape (k.ring q.id) (Writes a w))) ≡ crossings_given q.shape (k.ring q.id) a w
     unfolding leased_crossings due_crossings crossings_given
-    new_links = search (rules, filter_range, is_crossing, changed, gives_crossing, link_was, newly_crossed, gives_crossings)
+    new_links = search (rules, filter_range, link_was, newly_crossed, gives_crossings)
 
     new_on : filter IsNew (open_on h after q) ≡ map lease_given (rings.given_of h k a w q.id)
     unfolding open_on rings.given_of
-    new_on =
-        ap (λ v. filter IsNew (map (Block q.id) (leased_positions q.shape v) ++ map (Link q.id) (leased_crossings q.shape v))) view_after
-        ∙ filter-append IsNew (map (Block q.id) (leased_positions q.shape (changed q.shape (k.ring q.id) (Writes a w)))) (map (Link q.id) (leased_crossings q.shape (changed q.shape (k.ring q.id) (Writes a w))))
-        ∙ rw (
-          filter_mapped IsNew (Block q.id) (leased_positions q.shape (changed q.shape (k.ring q.id) (Writes a w))),
-          filter_mapped IsNew (Link q.id) (leased_crossings q.shape (changed q.shape (k.ring q.id) (Writes a w))),
-          new_blocks,
-          new_links,
-        ) (sym (
-        ap (λ s. map lease_given (map (Position q.id) (positions_given s (k.ring q.id) a w) ++ map (Crossing q.id) (crossings_given s (k.ring q.id) a w))) (shaped q among)
-        ∙ map_append lease_given (map (Position q.id) (positions_given q.shape (k.ring q.id) a w)) (map (Crossing q.id) (crossings_given q.shape (k.ring q.id) a w))
-        ∙ rw (map_map lease_given (Position q.id) (positions_given q.shape (k.ring q.id) a w), map_map lease_given (Crossing q.id) (crossings_given q.shape (k.ring q.id) a w)) refl
-        ))
+    new_on = search (rules, view_after, filter-append, filter_mapped, new_blocks, new_links, shaped q among, map_append, map_map)
 
     -- what was open on the ring still is
     kept_on : (l : Leased) → InOn q (k.ring q.id) l → InOn q (after.ring q.id) l
-    kept_on _ (block p low high lent) = search (rules, and_parts, view_after, block, and_from, or_left, gives)
-    kept_on _ (link c low high crossed) = search (rules, and_parts, is_crossing, view_after, link, and_from, or_left, gives_crossing)
+    kept_on l h2 = grind (arith, and_parts, view_after, block, and_from, or_left, gives, is_crossing, link, gives_crossing)
 
   -- on all rings
   pub new_on_rings : filter IsNew (flat_map (open_on h after) (driver_rings h)) ≡ map lease_given (rings.given_by h k a w)
@@ -116,15 +81,12 @@ module _ (h : Header) (shaped : AreShaped h) (k : Known) (freed : FreeWasGiven h
   new_on_rings = search (rules, filter_flat_map, open_on, driver_rings, flat_alike, new_on, map_flat_map)
 
   pub kept_on_rings : (l : Leased) → IsIn l (flat_map (open_on h k) (driver_rings h)) → IsIn l (flat_map (open_on h after) (driver_rings h))
-  kept_on_rings l on =
-      let found = from_flat_map (open_on h k) (driver_rings h) l on in
-      in_flat_map (open_on h after) (driver_rings h) found.0 l found.1 (on_in h after found.0 l (kept_on found.0 found.1 l (in_on h k found.0 l found.2)))
+  kept_on_rings l on = search (rules, in_flat_map, on_in, kept_on, in_on, from_flat_map (open_on h k) (driver_rings h) l on)
 
   module _ (ranges : open_ranges h after ≡ open_ranges h k) where
     no_new_range : filter IsNew (open_ranges h after) ≡ []
     unfolding open_leases
-    no_new_range =
-        ap (filter IsNew) ranges ∙ none_new (open_leases h k) (open_ranges h k) (λ l at. in_among _ l (in_right l (flat_map (open_on h k) (driver_rings h)) (open_ranges h k) at))
+    no_new_range = rw ranges (none_new (open_leases h k) (open_ranges h k) (search (rules, in_among, in_right)))
 
     pub new_leases : filter IsNew (open_leases h after) ≡ map lease_given (rings.given_by h k a w)
     unfolding open_leases
@@ -132,6 +94,5 @@ module _ (h : Header) (shaped : AreShaped h) (k : Known) (freed : FreeWasGiven h
 
     pub all_kept : (l : Leased) → is_among (open_leases h k) l ≡ true → is_among (open_leases h after) l ≡ true
     unfolding open_leases
-    all_kept l e =
-        in_among _ l (either_into (IsIn l) (in_left l) (in_right l) l (flat_map (open_on h k) (driver_rings h)) (open_ranges h k) (flat_map (open_on h after) (driver_rings h)) (open_ranges h after)
-        (kept_on_rings l) (subst (IsIn l) (sym ranges)) (among_is _ l e))
+    all_kept l e = in_among _ l (rw ranges (either_into (IsIn l) (in_left l) (in_right l) l (flat_map (open_on h k) (driver_rings h)) (open_ranges h k)
+        (flat_map (open_on h after) (driver_rings h)) (open_ranges h k) (kept_on_rings l) (λ x. x) (among_is _ l e)))

@@ -1,17 +1,8 @@
 -- What is lent after the completion of a command
-use Rattle.leases.proofs.BaseWords.{◌≡◌, ◌≢◌, ◌+◌, ◌∙◌, ◌&&◌, ◌||◌, ◌==◌, ℕ, List, Bool, true, false, None, Some, Option, refl, ap, sym, arith, subst, filter, map, nat_le, nat_lt, eqb-true, eq-eqb, position, false≢true, CommandCompletion, code, kind, is_command_completion, Command, Shape, place_count, RingView, due_positions, floor_number, due_is, number-after, Ring, Header, Read, IsHeader, command_id, driver_rings, is_command_kind, shape_of, Known, completed, event_read, learned, Leased, Block, Link, Range, Use, context_ranges, device_ranges, entry_ranges, is_among, open_leases, range_of_command, range_of_device, range_of_entry, slots, range_with_len, IsIn, in_among, in_filter, DriverKeeps, EventFacts, event_facts, floors_grow, CompletionFacts, completion_facts, next_at_floor, command_is_ring, SameDriver, event_same, Lent, ended_where, is_passed, let_go, slot_left, slot_ranges, is_lent, RangeIndexes, command_found, no_command_ring, shape_there, any_append, false_unless, or_false, IsAmong, same_number, TraceRecord, EndpointRings, HoldsAll, AreLent, FloorsMove, MovesOn, IsMovedTo, IsOtherRing, is_behind, is_moved_past, moved_when, IsNextRow, grown, is_some, command_ring, command_id_is, rules}
-use Rattle.leases.proofs.LeaseBooks.DevicesAfter.{completed_device}
-use Rattle.leases.proofs.LeaseBooks.Finishing.{finish_lent}
-use Rattle.leases.proofs.LeaseBooks.LettingGo.{Finishes, gone_are_ranges}
-use Rattle.leases.proofs.LeaseBooks.Members.{in_either, in_flat_map, in_range}
-use Rattle.leases.proofs.LeaseBooks.RangesAlone.{context_open, device_open, entry_open}
-use Rattle.leases.proofs.LeaseBooks.Narrowing.{floors, is_left, none_between}
-use Rattle.leases.proofs.LeaseBooks.PassedLeases.{IsWithinLap, Moves}
-use Rattle.leases.proofs.LeaseBooks.Passing.{all_twice, none_over, over_alike}
+use Rattle.leases.proofs.UpperLaws.{◌≡◌, ◌≢◌, ◌+◌, ◌∙◌, ◌&&◌, ◌||◌, ◌==◌, ℕ, List, Bool, true, false, None, Some, Option, refl, ap, sym, arith, subst, map, nat_le, nat_lt, eqb-true, eq-eqb, position, false≢true, CommandCompletion, code, kind, is_command_completion, Command, Shape, RingView, due_positions, floor_number, due_is, number-after, Ring, Header, Read, IsHeader, command_id, driver_rings, is_command_kind, shape_of, Known, completed, event_read, learned, Leased, Block, Range, Use, context_ranges, device_ranges, entry_ranges, is_among, open_leases, range_of_command, range_of_device, range_of_entry, slots, IsIn, in_among, in_filter, DriverKeeps, EventFacts, event_facts, floors_grow, completion_facts, next_at_floor, command_is_ring, SameDriver, event_same, Lent, ended_where, is_passed, let_go, slot_left, slot_ranges, is_lent, RangeIndexes, command_found, no_command_ring, shape_there, any_append, false_unless, or_false, IsAmong, same_number, TraceRecord, EndpointRings, HoldsAll, AreLent, FloorsMove, MovesOn, IsOtherRing, is_behind, is_moved_past, moved_when, IsNextRow, grown, is_some, command_ring, command_id_is, rules, completed_device, finish_lent, Finishes, gone_are_ranges, in_either, in_flat_map, in_range, context_open, device_open, entry_open, floors, is_left, none_between, IsWithinLap, Moves, all_twice, none_over, over_alike, no_ring}
+use Rattle.leases.proofs.LeaseRows.TransferRows.{lap_now}
 use Rattle.trb.specs.declared.block.Block as blocks
 use Rattle.ring_knowledge.specs.Rings as rings
-use Rattle.trace_record.proofs.RingFinder.CommandRings.{no_ring}
-use Rattle.leases.proofs.LeaseRows.TransferRows.{lap_now}
 
 -- ---- numbers that are passed on two rings
 
@@ -41,9 +32,7 @@ module _ (h : Header) (headed : IsHeader h) (k : Known) (ts : List Lent) (b : bl
 
   -- the header has a command ring
   not_without : command_ring h ≡ None → ⊥
-  not_without none =
-      let ring = command_is_ring h k keeps facts.started in
-      search (rules, no_ring)
+  not_without none = grind (arith, command_is_ring, keeps, facts, no_ring)
 
   pub has_commands : is_some (command_ring h) ≡ true
   has_commands = search (rules, command_ring, not_without)
@@ -104,15 +93,6 @@ module _ (h : Header) (headed : IsHeader h) (k : Known) (ts : List Lent) (b : bl
     abbrev moved : Option (ℕ × ℕ)
     moved = moved_when h k success o
 
-    arrives : (x : Option (ℕ × ℕ)) → IsMovedTo h k' x → Arrives (command_id h) (floors k') x
-    arrives x there = search rules
-
-    past_block : (x : Option (ℕ × ℕ)) (r p : ℕ) → is_moved_past k x (Block r p) ≡ moved_number (floors k) x r p
-    past_block x r p = search rules
-
-    past_link : (x : Option (ℕ × ℕ)) (r p : ℕ) → is_moved_past k x (Link r p) ≡ moved_number (floors k) x r p
-    past_link x r p = search rules
-
     past_range : (x : Option (ℕ × ℕ)) (a c : ℕ) (u : Use) → is_moved_past k x (Range a c u) ≡ false
     past_range x a c u = search rules
 
@@ -124,16 +104,14 @@ module _ (h : Header) (headed : IsHeader h) (k : Known) (ts : List Lent) (b : bl
     passed_one l = is_passed (command_id h) (floors k (command_id h)) (floors k (command_id h) + 1) l
 
     numbers : (r p : ℕ) → (nat_le (floors k r) p && nat_lt p (floors k' r)) ≡ (moved_number (floors k) moved r p || (command_id h == r && nat_le (floors k (command_id h)) p && nat_lt p (floors k (command_id h) + 1)))
-    numbers r p = passes (floors k) (floors k') (command_id h) floor_after moved (arrives moved moves.there) moves.others r p
+    numbers r p = passes (floors k) (floors k') (command_id h) floor_after moved (search rules) moves.others r p
 
     left_is : (l : Leased) → (is_behind h k n success o l || passed_one l) ≡ is_left (floors k) (floors k') (let_go h k (slot_left success o)) l
-    left_is (Range a c u) = or_false _ ∙ ap (λ x. (is_among (range_of_command h n o) (Range a c u) || is_among (slot_ranges h k (slot_left success o)) (Range a c u)) || x) (past_range moved a c u) ∙ or_false _ ∙ gone_is (Range a c u)
-    left_is _ = search (rules, or_false, range_of_command, past_range, gone_is, false_unless, gone_are_ranges, past_block, numbers, past_link)
+    left_is (Range a c u) = search (rules, or_false, past_range, gone_is)
+    left_is _ = search (rules, or_false, range_of_command, past_range, gone_is, false_unless, gone_are_ranges, numbers)
 
     completed_lent : grown h k (Read b) number_ ts ≡ map (ended_where (λ l. is_behind h k n success o l || passed_one l) number_) ts
-    completed_lent =
-        finish_lent h k ts next.step.opened (Read b) number_ (slot_left success o) finishes each
-        ∙ sym (over_alike (λ l. is_behind h k n success o l || passed_one l) (is_left (floors k) (floors k') (let_go h k (slot_left success o))) number_ ts left_is)
+    completed_lent = search (rules, finish_lent h k ts next.step.opened (Read b) number_ (slot_left success o) finishes each, over_alike, left_is)
 
     module _ {B : Type 0} {Holds : Header → List Lent → B → Type 0} where
       pub completion_ends : (book : B) (x : RangeIndexes) (p r : ℕ) (s : Bool) (c : Option Command) → p ≡ n → r ≡ command_id h → s ≡ success → c ≡ o →
@@ -156,31 +134,21 @@ module _ (h : Header) (headed : IsHeader h) (k : Known) (ts : List Lent) (b : bl
   pub context_lent : AreLent ts (range_of_command h n o)
   unfolding context_ranges rings.unfinished_positions due_positions rings.next_command
   context_lent l at =
-      let finish : CompletionFacts h k b = completion_facts h k b (ap is_command_completion completes) facts.possible in
-      let floor = next_at_floor h headed k keeps facts.started finish.below in
-      let v = k.ring (command_id h) in
-      let count : ℕ = place_count (shape_of h (command_id h)) in
-      let due = due_is (shape_of h (command_id h)) v.floor (floor_number v) floor.due in
-      open_lent l (context_open h k l (in_flat_map (λ p. range_of_command h p (rings.command_at h k p)) (filter v.given (range_with_len (floor_number v) count)) (floor_number v) l
-      (in_filter v.given (range_with_len (floor_number v) count) (floor_number v) (in_range (floor_number v) count (floor_number v) due.0 due.1) floor.given) at))
+      let floor = next_at_floor h headed k keeps facts.started (completion_facts h k b (ap is_command_completion completes) facts.possible).below in
+      let due = due_is (shape_of h (command_id h)) (k.ring (command_id h)).floor (floor_number (k.ring (command_id h))) floor.due in
+      search (rules, open_lent, context_open, in_flat_map, in_filter, in_range)
 
   slot_in : (s d : ℕ) → k.device s ≡ Some d → IsIn s slots
   unfolding slots
-  slot_in s d at = let slot = (keeps.devices s d at).slot in in_range 1 255 s (omega (arith, slot.0)) (omega (arith, slot.1))
+  slot_in s d at = search (rules, in_range, keeps.devices s d at)
 
   entry_lent : (s : ℕ) (x : Option ℕ) (l : Leased) → k.device s ≡ x → IsIn l (range_of_entry k s x) → is_lent ts l ≡ true
   unfolding entry_ranges range_of_entry
-  entry_lent s None l is at = absurd at
-  entry_lent s (Some d) l is at =
-      open_lent l (entry_open h k l
-      (in_flat_map (λ z. range_of_entry k z (k.device z)) slots s l (slot_in s d is) (subst (λ y. IsIn l (range_of_entry k s y)) (sym is) at)))
+  entry_lent s x l is at = grind (arith, open_lent l, entry_open h k l, in_flat_map (λ z. range_of_entry k z (k.device z)) slots s l, slot_in s)
 
   device_lent : (s : ℕ) (x : Option ℕ) (l : Leased) → k.device s ≡ x → IsIn l (range_of_device h s x) → is_lent ts l ≡ true
   unfolding device_ranges range_of_device
-  device_lent s None l is at = absurd at
-  device_lent s (Some d) l is at =
-      open_lent l (device_open h k l
-      (in_flat_map (λ z. range_of_device h z (k.device z)) slots s l (slot_in s d is) (subst (λ y. IsIn l (range_of_device h s y)) (sym is) at)))
+  device_lent s x l is at = grind (arith, open_lent l, device_open h k l, in_flat_map (λ z. range_of_device h z (k.device z)) slots s l, slot_in s)
 
   pub slot_lent : (left : Option ℕ) → AreLent ts (slot_ranges h k left)
   slot_lent None l at = absurd at
@@ -189,11 +157,7 @@ module _ (h : Header) (headed : IsHeader h) (k : Known) (ts : List Lent) (b : bl
   -- so the command's may end
   pub command_behind : FloorsMove h k b → (p : ℕ) (s : Bool) (c : Option Command) → p ≡ n → s ≡ success → c ≡ o →
       MovesOn k (moved_when h k s c) × AreLent ts (range_of_command h p c) × AreLent ts (slot_ranges h k (slot_left s c))
-  command_behind moves p s c at tells says = (
-    subst (λ (x : Option (ℕ × ℕ)). MovesOn k x) (sym (ap (λ x. moved_when h k x c) tells ∙ ap (moved_when h k success) says)) moves.on,
-    subst (λ (ls : List Leased). AreLent ts ls) (sym (ap (λ (x : ℕ). range_of_command h x c) at ∙ ap (range_of_command h n) says)) context_lent,
-    slot_lent (slot_left s c),
-  )
+  command_behind moves p s c at tells says = (rw (tells, says) moves.on, rw (at, says) context_lent, slot_lent (slot_left s c))
 
   -- where no command is declared nothing is left behind
   pub none_behind : (p : ℕ) (s : Bool) (us : List Lent) → map (ended_where (is_behind h k p s None) number_) us ≡ us

@@ -1,9 +1,5 @@
 -- The leases of ranges that a completion lets go end, one after another
-use Rattle.leases.proofs.BaseWords.{◌≡◌, ◌∷◌, ◌++◌, ◌∙◌, ◌||◌, ◌==◌, ℕ, List, [], Bool, true, false, None, Some, Option, refl, ap, sym, subst, inl, map, device_context_bytes, Command, DisableSlot, SetTrDequeue, position, RingKind, Xfer, Spot, target, floor_number, Ring, IsHeader, is_driver_kind, is_transfer_kind, ring_with, shape_of, none_here, not_found, ring_found, IsAmong, EndpointRings, Header, Known, entry_of, Leased, Range, DeviceContext, SlotEntry, is_among, range_of_command, range_of_device, range_of_entry, same_leased, IsIn, both_ways, leased_is, leased_itself, RangeIndexes, Lent, ended_where, is_passed, slot_disabled, slot_left, slot_ranges, FindsRanges, is_lent, and_false, or_false, HoldsAll, AreLent, MovesOn, is_behind, is_moved_past, moved_by, moved_on, moved_ring, moved_when, slot_let_go, rules}
-use Rattle.leases.proofs.LeaseBooks.LettingGo.{slot_apart}
-use Rattle.leases.proofs.LeaseBooks.OpenLent.{still_lent}
-use Rattle.leases.proofs.LeaseBooks.Passing.{all_twice, none_over, over_alike}
-use Rattle.leases.proofs.LeaseBooks.RangePlaces.{some_end}
+use Rattle.leases.proofs.MiddleLaws.{arith, ◌≡◌, ◌∷◌, ◌++◌, ◌∙◌, ◌||◌, ◌==◌, ℕ, List, [], Bool, true, false, None, Some, Option, refl, ap, sym, subst, inl, map, device_context_bytes, Command, DisableSlot, SetTrDequeue, position, RingKind, Spot, target, floor_number, Ring, IsHeader, is_driver_kind, is_transfer_kind, ring_with, shape_of, none_here, not_found, ring_found, IsAmong, EndpointRings, Header, Known, entry_of, Leased, Range, DeviceContext, SlotEntry, is_among, range_of_command, range_of_device, range_of_entry, same_leased, IsIn, both_ways, leased_is, leased_itself, RangeIndexes, Lent, ended_where, is_passed, slot_disabled, slot_left, slot_ranges, FindsRanges, is_lent, and_false, or_false, HoldsAll, AreLent, MovesOn, is_behind, is_moved_past, moved_by, moved_on, moved_ring, moved_when, slot_let_go, rules, slot_apart, still_lent, all_twice, none_over, over_alike, some_end}
 
 turned : (l m : Leased) → same_leased l m ≡ same_leased m l
 turned l m = search (rules, both_ways, same_leased, leased_is, leased_itself)
@@ -29,11 +25,8 @@ module _ {B : Type 0} {Holds : Header → List Lent → B → Type 0} (h : Heade
 
   pub two_ended : (ls : List Leased) (a b : Leased) → ls ≡ a ∷ b ∷ [] → HoldsAll Holds h (map (ended_where (same_leased b) n) (map (ended_where (same_leased a) n) ts)) book x →
       HoldsAll Holds h (map (ended_where (is_among ls) n) ts) book x
-  two_ended ls a b two all =
-      subst (λ us. HoldsAll Holds h us book x)
-      (all_twice (same_leased b) (same_leased a) n ts
-      ∙ over_alike (λ l. same_leased a l || same_leased b l) (is_among (a ∷ b ∷ [])) n ts (two_of a b)
-      ∙ ap (λ ms. map (ended_where (is_among ms) n) ts) (sym two)) all
+  two_ended ls a b two all = subst (λ us. HoldsAll Holds h us book x) (all_twice (same_leased b) (same_leased a) n ts
+      ∙ rw two (over_alike (λ l. same_leased a l || same_leased b l) (is_among (a ∷ b ∷ [])) n ts (two_of a b))) all
 
 -- with a lease that ends the indexes still find the others
 pub ends_all : {B : Type 0} (Holds : Header → List Lent → B → Type 0) (h : Header) (n : ℕ) (ts : List Lent) (book : B) (x : RangeIndexes) (over : Leased → Bool) → Holds h (map (ended_where over n) ts) book →
@@ -51,8 +44,7 @@ device_lent n ts ls a e s m d z is lent = search (rules, still_lent, and_false)
 -- ---- the slot that a command disables
 
 pub disables_none : (c : Command) → ((s : ℕ) → c ≡ DisableSlot s → ⊥) → slot_disabled c ≡ None
-disables_none (DisableSlot s) other = absurd (other s refl)
-disables_none _ other = refl
+disables_none c other = grind arith
 
 pub leaves_none : (h : Header) (k : Known) (c : Command) → slot_disabled c ≡ None → slot_let_go h k c ≡ []
 leaves_none h k c none = ap (slot_ranges h k) none
@@ -69,8 +61,7 @@ leaves_two h k c s d entry bytes is some at same = search (rules, range_of_entry
 -- ---- the ring that a command moves
 
 pub moves_none : (h : Header) (k : Known) (c : Command) → ((s i p : ℕ) (cycle : Bool) → c ≡ SetTrDequeue s i p cycle → ⊥) → moved_by h k c ≡ None
-moves_none h k (SetTrDequeue s i p cycle) other = absurd (other s i p cycle refl)
-moves_none h k _ other = refl
+moves_none h k c other = grind arith
 
 pub moved_is : (h : Header) (k : Known) (c : Command) (s i p : ℕ) (cycle : Bool) (r : ℕ) (o : Option Spot) → c ≡ SetTrDequeue s i p cycle → k.ring_of s i ≡ Some r → target (shape_of h r) (k.ring r) p cycle ≡ o →
     moved_by h k c ≡ moved_on r o
@@ -89,14 +80,10 @@ module _ {B : Type 0} {Holds : Header → List Lent → B → Type 0} (h : Heade
 
 -- the ring of an endpoint is one of the driver's
 pub transfer_drives : (kind : RingKind) → is_transfer_kind kind ≡ true → is_driver_kind kind ≡ true
-transfer_drives Xfer e = refl
-transfer_drives _ e = absurd (cc)
+transfer_drives kind e = grind arith
 
 pub endpoint_named : (h : Header) (k : Known) → EndpointRings h k → (s i r : ℕ) → k.ring_of s i ≡ Some r → position (λ (q : Ring). q.id == r) h.rings ≡ None → ⊥
-endpoint_named h k rings s i r at none =
-    let ring = rings s i r at in
-    let nowhere : ring_with h r ≡ None = not_found (λ q. q.id == r) h.rings (none_here h (λ q. q.id == r) h.rings none refl) in
-    search rules
+endpoint_named h k rings s i r at none = grind (arith, ring_with, not_found, none_here, rings s i r at, not_found (λ q. q.id == r) h.rings (none_here h (λ q. q.id == r) h.rings none refl))
 
 pub endpoint_driven : (h : Header) → IsHeader h → (k : Known) → EndpointRings h k → (s i r : ℕ) (q : Ring) → k.ring_of s i ≡ Some r → IsAmong q h.rings → q.id ≡ r → is_driver_kind q.shape.kind ≡ true
 endpoint_driven h headed k rings s i r q at among id = search (rules, ring_with, ring_found, transfer_drives, is_transfer_kind)
@@ -106,8 +93,7 @@ endpoint_driven h headed k rings s i r q at among id = search (rules, ring_with,
 module _ {B : Type 0} {Holds : Header → List Lent → B → Type 0} where
   pub failed_behind : (h : Header) (k : Known) (n p : ℕ) (c : Command) (success : Bool) (ts : List Lent) (book : B) (x : RangeIndexes) → success ≡ false →
       HoldsAll Holds h (map (ended_where (is_among (range_of_command h p (Some c))) n) ts) book x → HoldsAll Holds h (map (ended_where (is_behind h k p success (Some c)) n) ts) book x
-  failed_behind h k n p c true ts book x failed all = absurd (cc)
-  failed_behind h k n p c false ts book x failed all = search (rules, over_alike, range_of_command, or_false, none_of)
+  failed_behind h k n p c success ts book x failed all = grind (arith, over_alike, range_of_command, or_false, none_of)
 
 module _ {B : Type 0} {Holds : Header → List Lent → B → Type 0} where
   pub succeeded_behind : (h : Header) (k : Known) (n p : ℕ) (c : Command) (success : Bool) (ts : List Lent) (book : B) (x : RangeIndexes) → success ≡ true →
@@ -119,9 +105,7 @@ module _ {B : Type 0} {Holds : Header → List Lent → B → Type 0} where
 -- when the input context's lease has ended those of the slot are still lent
 pub slot_still : (h : Header) (k : Known) (n p : ℕ) (c : Command) (success : Bool) (ts : List Lent) → success ≡ true → AreLent ts (slot_ranges h k (slot_left success (Some c))) →
     AreLent (map (ended_where (is_among (range_of_command h p (Some c))) n) ts) (slot_let_go h k c)
-slot_still h k n p c false ts succeeded lent l at = absurd (cc)
-slot_still h k n p c true ts succeeded lent l at = search (rules, still_lent, range_of_command, slot_apart)
+slot_still h k n p c success ts succeeded lent l at = grind (arith, still_lent, range_of_command, slot_apart)
 
 pub moves_when : (h : Header) (k : Known) (c : Command) (success : Bool) → success ≡ true → MovesOn k (moved_when h k success (Some c)) → MovesOn k (moved_by h k c)
-moves_when h k c true is on = on
-moves_when h k c false is on = absurd (cc)
+moves_when h k c success is on = grind arith

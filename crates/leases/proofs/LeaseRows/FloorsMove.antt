@@ -1,5 +1,6 @@
 -- The completion of a command moves the ring of a Set TR Dequeue on, and no other but the command ring
-use Rattle.leases.proofs.BaseWords.{◌≡◌, ◌≢◌, ◌≤◌, ◌==◌, if◌then◌else◌, ◌∷◌, ◌∙◌, ℕ, Bool, true, false, List, [], map, Option, None, Some, refl, sym, ap, subst, eqb-true, cond-false, CommandCompletion, kind, code, slot, is_command_completion, Spot, number, after, RingView, Reaches, floor_number, target, target_ahead, added_endpoints, is_dropped, context_pointer, context_cycle, Command, AddressDevice, ConfigureEndpoint, StopEndpoint, SetTrDequeue, Stopped, is_off, Change, SlotGoesOn, Disables, Places, changes, placed_by_context, Header, Read, IsHeader, shape_of, command_id, ring_having, Known, on_ring, command_at, next_command, set_to, bound_to, moved_to, moved, pointed, in_state, changed_by, changed_by_all, succeeded, stop_ended, finished, completed, event_read, learned, has_repeats, binds, binding_in, ring_bound, lenient, DriverKeeps, MayChangeAll, StillHolds, transfer_not_command, may_move, ring_elsewhere, may_change, still_of, address_ready, all_ready, dropped, map_map, view_after, FloorsMove, MovesOn, IsMovedTo, IsOtherRing, moved_on, moved_ring, moved_by, moved_when, rings_of, rules}
+use Rattle.leases.proofs.BaseWords.{arith, ◌≡◌, ◌≢◌, ◌≤◌, ◌==◌, if◌then◌else◌, ◌∷◌, ◌∙◌, ℕ, Bool, true, false, List, [], map, Option, None, Some, refl, sym, ap, eqb-true, cond-false, CommandCompletion, kind, code, slot, is_command_completion, Spot, number, after, RingView, Reaches, floor_number, target, target_ahead, added_endpoints, is_dropped, context_pointer, context_cycle, Command, AddressDevice, ConfigureEndpoint, SetTrDequeue, Stopped, is_off, Change, SlotGoesOn, Disables, Places, changes, placed_by_context, Header, Read, IsHeader, shape_of, command_id, ring_having, Known, on_ring, command_at, next_command, set_to, bound_to, moved_to, moved, pointed, in_state, changed_by, changed_by_all, succeeded, stop_ended, finished, completed, event_read, learned, has_repeats, binds, binding_in, ring_bound, lenient, DriverKeeps, MayChangeAll, StillHolds, transfer_not_command, may_move, ring_elsewhere, may_change, still_of, address_ready, all_ready, dropped, FloorsMove, MovesOn, IsMovedTo, IsOtherRing, moved_on, moved_ring, moved_by, moved_when, rings_of, rules}
+use Rattle.safety.proofs.Placings.{map_map}
 use Rattle.trb.specs.declared.block.Block.{Block}
 use Rattle.safety.proofs.DriverRows.{ring_here}
 use Rattle.leases.proofs.LeaseRows.FloorsStay.{ChangesStay, FloorsStay, StaysHere, stay_none, changes_stay, each_stays, address_stays, hold_stays, ready_stays}
@@ -24,29 +25,14 @@ module _ (h : Header) where
   none_goes : (k l : Known) → FloorsStay k l → Goes h k l None
   none_goes k l stay = record { on = tt; not_command = tt; there = tt; others = λ q other. stay q }
 
-  arrives_as : (l m : Known) (o : Option (ℕ × ℕ)) → FloorsStay l m → Arrives l o → Arrives m o
-  arrives_as l m None stay there = tt
-  arrives_as l m (Some e) stay there = stay e.0 ∙ there
-
   goes_as : (k l m : Known) (o : Option (ℕ × ℕ)) → FloorsStay l m → Goes h k l o → Goes h k m o
-  goes_as k l m o stay goes = record { on = goes.on; not_command = goes.not_command; there = arrives_as l m o stay goes.there; others = λ q other. stay q ∙ goes.others q other }
+  goes_as k l m o stay goes = record { on = goes.on; not_command = goes.not_command; there = grind arith; others = λ q other. stay q ∙ goes.others q other }
 
   -- ---- Set TR Dequeue
 
-  set_there : (k : Known) (r : ℕ) (t : Spot) → floor_number ((set_to h k r t).ring r) ≡ number t
-  unfolding set_to
-  set_there k r t = search (rules, on_ring, ring_here, number)
-
-  set_others : (k : Known) (r : ℕ) (t : Spot) (q : ℕ) → q ≢ r → floor_number ((set_to h k r t).ring q) ≡ floor_number (k.ring q)
-  unfolding set_to
-  set_others k r t q other =
-      let l : Known = on_ring h k r (Reaches t) in
-      hold_stays h l r (number t) q ∙ view_after h (λ v. floor_number v ≡ floor_number (k.ring q)) k r (Reaches t) q (λ same. absurd (other same)) (λ _. refl)
-
   target_goes : (k : Known) (r : ℕ) → r ≢ command_id h → (o : Option Spot) → ((t : Spot) → o ≡ Some t → floor_number (k.ring r) ≤ number t) → Goes h k (moved_to h k r o) (moved_on r o)
-  unfolding moved_to
-  target_goes k r apart None ahead = none_goes k k (stay_none k)
-  target_goes k r apart (Some t) ahead = record { on = ahead t refl; not_command = apart; there = set_there k r t; others = λ q other. set_others k r t q other }
+  unfolding moved_to set_to
+  target_goes k r apart o ahead = grind (arith, none_goes, stay_none, on_ring, ring_here, number, hold_stays, ring_elsewhere)
 
   moved_goes : (k : Known) (o : Option ℕ) (p : ℕ) (cycle : Bool) → ((r : ℕ) → o ≡ Some r → r ≢ command_id h) → Goes h k (moved h k o p cycle) (moved_ring h k o p cycle)
   unfolding moved
@@ -65,11 +51,10 @@ module _ (h : Header) where
     dequeue_goes : (s i p : ℕ) (cycle : Bool) → StillHolds h k (SetTrDequeue s i p cycle) →
         Goes h k (changed_by_all h (SetTrDequeue s i p cycle) k (Places s i p cycle Stopped ∷ [])) (moved_ring h k (k.ring_of s i) p cycle)
     dequeue_goes s i p cycle still =
-        let may = may_move h is k d s i p cycle still.moves_on in
         goes_as k (pointed h k s i p cycle) (changed_by_all h (SetTrDequeue s i p cycle) k (Places s i p cycle Stopped ∷ [])) (moved_ring h k (k.ring_of s i) p cycle)
         (placed_rings (SetTrDequeue s i p cycle) k s i p cycle)
-        (subst (λ (l : Known). Goes h k l (moved_ring h k (k.ring_of s i) p cycle)) (pointed_is k s i p cycle may.on)
-        (moved_goes k (k.ring_of s i) p cycle (λ r has same. transfer_not_command h is r (d.states.transfer s i r has) same)))
+        (rw (← pointed_is k s i p cycle (may_move h is k d s i p cycle still.moves_on).on)
+        (moved_goes k (k.ring_of s i) p cycle (search (rules, transfer_not_command, d.states.transfer))))
 
     -- ---- the other commands
 
@@ -89,55 +74,51 @@ module _ (h : Header) where
     address_list : (s a : ℕ) (bsr : Bool) → StillHolds h k (AddressDevice s bsr a) →
         ChangesStay h (AddressDevice s bsr a) k (SlotGoesOn s ∷ placed_by_context h.context_size k.memory s a 1 ∷ [])
     unfolding changed_by
-    address_list s a bsr still =
-        let c : Command = AddressDevice s bsr a in (
-          tt,
-          (
-            stays_behind (changed_by h c k (SlotGoesOn s)) s 1 (context_pointer h.context_size k.memory a 1) (context_cycle h.context_size k.memory a 1) refl refl refl
-                (address_stays h is k d s a bsr still)
-                (λ r t off at named.
-                ready_stays h is k k.memory s 1 (context_pointer h.context_size k.memory a 1) (context_cycle h.context_size k.memory a 1) (address_ready h is k (rings_of h k d) s a bsr still off) r t at named),
-            tt,
-          ),
-        )
+    address_list s a bsr still = (
+      tt,
+      (
+        stays_behind (changed_by h (AddressDevice s bsr a) k (SlotGoesOn s)) s 1 (context_pointer h.context_size k.memory a 1)
+            (context_cycle h.context_size k.memory a 1) refl refl refl (address_stays h is k d s a bsr still)
+            (λ r t off at named. ready_stays h is k k.memory s 1 (context_pointer h.context_size k.memory a 1) (context_cycle h.context_size k.memory a 1)
+            (address_ready h is k (rings_of h k d) s a bsr still off) r t at named),
+        tt,
+      ),
+    )
 
     succeeds : (n : ℕ) (c : Command) → StillHolds h k c → MayChangeAll h c k (changes h.context_size k.memory n c) →
         Goes h k (changed_by_all h c k (changes h.context_size k.memory n c)) (moved_by h k c)
     unfolding changes
     succeeds n (ConfigureEndpoint s false a) still may =
-        let c : Command = ConfigureEndpoint s false a in
-        let added : List Change = map (placed_by_context h.context_size k.memory s a) (added_endpoints k.memory a) in
-        stays c (SlotGoesOn s ∷ Disables s (is_dropped k.memory a) ∷ added)
-        (tt, (tt, each_stays h is c k.memory s a (added_endpoints k.memory a) (dropped h is c k s a) (all_ready h is k (rings_of h k d) s a still) (no_repeats s a still)))
+        stays (ConfigureEndpoint s false a) (SlotGoesOn s ∷ Disables s (is_dropped k.memory a) ∷ map (placed_by_context h.context_size k.memory s a) (added_endpoints k.memory a)) (
+          tt,
+          (
+            tt,
+            each_stays h is (ConfigureEndpoint s false a) k.memory s a (added_endpoints k.memory a) (dropped h is (ConfigureEndpoint s false a) k s a)
+                (all_ready h is k (rings_of h k d) s a still) (no_repeats s a still),
+          ),
+        )
     succeeds n (SetTrDequeue s i p cycle) still may = dequeue_goes s i p cycle still
-    succeeds n _ still may = search (rules, stays, placed_by_context, address_list)
+    succeeds n _ still may = search (rules, stays, address_list)
 
     -- ---- a completion
 
-    stop_stays : (l : Known) (c : Command) → FloorsStay l (stop_ended h l c)
-    unfolding stop_ended
-    stop_stays l (StopEndpoint s i) = λ r. refl
-    stop_stays l _ = stay_none l
-
     by_success : (success : Bool) (n : ℕ) (c : Command) → (success ≡ true → StillHolds h k c × MayChangeAll h c k (changes h.context_size k.memory n c)) →
         Goes h k (stop_ended h (if success then succeeded h k n c else k) c) (moved_when h k success (Some c))
-    unfolding succeeded
-    by_success true n c ends = search (rules, changed_by_all, changes, goes_as, stop_ended, stop_stays, succeeds)
-    by_success false n c ends = none_goes k (stop_ended h k c) (stop_stays k c)
+    unfolding succeeded stop_ended
+    by_success success n c ends = grind (arith, changed_by_all, changes, goes_as, stop_ended, stay_none, succeeds, none_goes)
 
     finish_goes : (b : Block) (o : Option Command) → ((c : Command) → o ≡ Some c → code b ≡ 1 → StillHolds h k c × MayChangeAll h c k (changes h.context_size k.memory (slot b) c)) →
         Goes h k (finished h k b o) (moved_when h k (code b == 1) o)
     unfolding finished
     finish_goes b None ends = none_goes k k (stay_none k)
-    finish_goes b (Some c) ends = by_success (code b == 1) (slot b) c (λ one. ends c refl (eqb-true (code b) 1 one))
+    finish_goes b (Some c) ends = search (rules, by_success, eqb-true)
 
     -- besides, the pointer of the command ring alone goes on
     beside : (l : Known) (t : Spot) (q : ℕ) → q ≢ command_id h → floor_number ((on_ring h l (command_id h) (Reaches t)).ring q) ≡ floor_number (l.ring q)
     beside l t q other = ap (λ (v : RingView). floor_number v) (ring_elsewhere h l (command_id h) q (Reaches t) other)
 
     moved_there : (l m : Known) → ((q : ℕ) → q ≢ command_id h → floor_number (m.ring q) ≡ floor_number (l.ring q)) → (o : Option (ℕ × ℕ)) → NotCommand h o → Arrives l o → IsMovedTo h m o
-    moved_there l m same None apart there = tt
-    moved_there l m same (Some e) apart there = (apart, same e.0 apart ∙ there)
+    moved_there l m same o apart there = grind arith
 
     module _ (b : Block) (clean : lenient h k (Read b) ≡ []) (completes : kind b ≡ CommandCompletion) where
       abbrev o : Option Command
@@ -150,13 +131,8 @@ module _ (h : Header) where
       unfolding learned event_read completed
       rings_after = ap (λ x. (event_read h k x b).ring) completes
 
-      after_same : (q : ℕ) → q ≢ command_id h → floor_number ((learned h k (Read b)).ring q) ≡ floor_number ((finished h k b o).ring q)
-      after_same q other = search (rules, rings_after, beside, finished, after, shape_of, command_id, next_command)
-
       moves : FloorsMove h k b
-      moves =
-          let goes = finish_goes b o ends in
-          search (rules, moved_there, finished, learned, after_same, code)
+      moves = grind (arith, finish_goes, ends, moved_there, finished, learned, rings_after, beside, after, shape_of, command_id, next_command, code, finish_goes b o ends)
 
 -- as the premise of a completion has it
 pub floors_move : (h : Header) → IsHeader h → (k : Known) → DriverKeeps h k → (b : Block) → lenient h k (Read b) ≡ [] → kind b ≡ CommandCompletion → FloorsMove h k b

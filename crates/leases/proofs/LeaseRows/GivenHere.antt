@@ -1,8 +1,5 @@
 -- What a write gives, by the ring that has the word
-use Rattle.leases.proofs.BaseWords.{rules, ◌≡◌, ◌%◌, ◌++◌, ◌∙◌, ℕ, [], true, false, Option, Some, None, refl, ap, sym, inl, inr, map, append-nil, false≢true, Xfer, is_inside, touches, positions_given, crossings_given, due_positions, Ring, Header, IsHeader, command_id, command_ring, driver_rings, is_command_kind, is_driver_kind, is_event_kind, shape_of, shape_or, Known, given_of, given_by, false_unless, IsAmong, Apart, same_or_apart, all_from_one, nothing_from, shape_allowed, shape_there, together, command_found, Position, Crossing, command_id_is, commands_among, driven}
-use Rattle.trace_record.proofs.RingFinder.CommandRings.{no_ring}
-use Rattle.trace_record.proofs.WordsInside.{gives_no_position, gives_no_crossing}
-use Rattle.trace_record.proofs.OneRingHas.{inside_is, no_driver_event}
+use Rattle.leases.proofs.BaseWords.{rules, ◌≡◌, ◌%◌, ◌++◌, ◌∙◌, ℕ, [], true, false, Option, Some, None, refl, ap, sym, map, append-nil, Xfer, is_inside, touches, positions_given, crossings_given, due_positions, Ring, Header, IsHeader, command_id, command_ring, driver_rings, is_command_kind, is_driver_kind, is_event_kind, shape_of, shape_or, Known, given_of, given_by, false_unless, IsAmong, Apart, same_or_apart, all_from_one, nothing_from, shape_allowed, shape_there, together, command_found, Position, Crossing, command_id_is, commands_among, driven, no_ring, gives_no_position, gives_no_crossing, inside_is, no_driver_event, arith}
 
 module _ (h : Header) (headed : IsHeader h) where
   module _ (k : Known) (a : ℕ) (aligned : a % 4 ≡ 0) (w : ℕ) where
@@ -22,9 +19,7 @@ module _ (h : Header) (headed : IsHeader h) where
         by None none = ap (λ o. positions_given (shape_or Xfer o) (k.ring (command_id h)) a w) (no_ring h headed none)
         by (Some c) there =
             let among = (commands_among h c there).0 in
-            ap (λ i. positions_given (shape_of h i) (k.ring i) a w) (command_id_is h c there)
-            ∙ ap (λ s. positions_given s (k.ring c.id) a w) (shape_there h headed c among)
-            ∙ gives_no_position c.shape (shape_allowed h headed c among) a aligned (outside c there) (k.ring c.id) w
+            rw (command_id_is h c there, shape_there h headed c among) (gives_no_position c.shape (shape_allowed h headed c among) a aligned (outside c there) (k.ring c.id) w)
 
     -- no driver's ring has the word
     module _ (outside : (q : Ring) → IsAmong q h.rings → is_driver_kind q.shape.kind ≡ true → is_inside q.shape a ≡ false) where
@@ -40,10 +35,7 @@ module _ (h : Header) (headed : IsHeader h) where
 
     -- the event ring has it
     pub in_events : (e : Ring) → IsAmong e h.rings → is_event_kind e.shape.kind ≡ true → touches e.shape a 4 ≡ true → (q : Ring) → IsAmong q h.rings → is_driver_kind q.shape.kind ≡ true → is_inside q.shape a ≡ false
-    in_events e among event has q there driver = elim (same_or_apart h.rings (together h headed) e q among there) [
-      | inl same ↦ absurd (no_driver_event q.shape.kind driver (ap (λ (y : Ring). is_event_kind y.shape.kind) same ∙ event))
-      | inr apart ↦ false_unless (is_inside q.shape a) (λ inside. apart.memory a (sym (inside_is h headed k a aligned e among) ∙ has) inside)
-    ]
+    in_events e among event has q there driver = grind (arith, same_or_apart h.rings (together h headed) e q among there, no_driver_event q.shape.kind driver, inside_is h headed k a aligned e among)
 
     -- a command or transfer ring has it
     module _ (r : Ring) (among : IsAmong r h.rings) (driver : is_driver_kind r.shape.kind ≡ true) (has : touches r.shape a 4 ≡ true) where
@@ -52,17 +44,11 @@ module _ (h : Header) (headed : IsHeader h) where
 
       pub given_by_one : given_by h k a w ≡ map (Position r.id) (positions_given r.shape (k.ring r.id) a w) ++ map (Crossing r.id) (crossings_given r.shape (k.ring r.id) a w)
       unfolding given_by driver_rings
-      given_by_one =
-          all_from_one (λ q. given_of h k a w q.id) h.rings (together h headed) r among driver (λ q there apart. none_given q there (others q there apart))
-          ∙ append-nil (given_of h k a w r.id) ∙ given_here r among
+      given_by_one = all_from_one (λ q. given_of h k a w q.id) h.rings (together h headed) r among driver (search (rules, none_given, others)) ∙ append-nil (given_of h k a w r.id)
+          ∙ given_here r among
 
       pub commanded_here : is_command_kind r.shape.kind ≡ true → positions_given (shape_of h (command_id h)) (k.ring (command_id h)) a w ≡ positions_given r.shape (k.ring r.id) a w
       commanded_here command = search (rules, positions_given, shape_of, command_id_is, command_found, shape_there)
 
       pub commanded_elsewhere : is_command_kind r.shape.kind ≡ false → positions_given (shape_of h (command_id h)) (k.ring (command_id h)) a w ≡ []
-      commanded_elsewhere other = no_commands (λ c there.
-          let found = commands_among h c there in
-          elim (same_or_apart h.rings (together h headed) r c among found.0) [
-            | inl same ↦ absurd (false≢true (sym other ∙ ap (λ (y : Ring). is_command_kind y.shape.kind) (sym same) ∙ found.1))
-            | inr apart ↦ others c found.0 apart
-          ])
+      commanded_elsewhere other = no_commands (λ c there. grind (arith, commands_among h c there, same_or_apart h.rings (together h headed) r c among, others c))

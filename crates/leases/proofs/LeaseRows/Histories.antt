@@ -1,7 +1,5 @@
 -- A row behind a clean history of a trace's rows is the next row of what is known and lent behind them
-use Rattle.leases.proofs.BaseWords.{◌∷◌, ℕ, List, arith, subst, Row, Header, IsHeader, known, lents, grown, clean_tests, driver_keeps, Lent, RangeIndexes, TraceRecord, FollowsBook, HoldsAll, IsCleanRow, IsNextRow}
-use Rattle.leases.proofs.LeaseBooks.OpenLent.{in_step}
-use Rattle.leases.proofs.LeaseRows.EntriesFit.{entries_fit}
+use Rattle.leases.proofs.MiddleLaws.{◌∷◌, ℕ, List, arith, subst, Row, Header, IsHeader, known, lents, grown, clean_tests, driver_keeps, Lent, RangeIndexes, TraceRecord, FollowsBook, HoldsAll, IsCleanRow, IsNextRow, in_step, entries_fit}
 
 module _ (h : Header) (headed : IsHeader h) (first : ℕ) (past : List Row) (row : Row) (number : ℕ) (t : TraceRecord) (m : ℕ → ℕ) (clean : IsCleanRow h first past row number t m) where
   pub next_row : IsNextRow h (known h past) (lents h first past) row t m

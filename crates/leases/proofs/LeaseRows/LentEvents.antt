@@ -1,7 +1,6 @@
 -- What the leases of a completion rest on, behind a clean history
-use Rattle.leases.proofs.BaseWords.{◌≡◌, ℕ, List, kind, CommandCompletion, Read, Header, IsHeader, TraceRecord, EntriesFit, FloorsMove, Known, Lent, IsNextRow}
+use Rattle.leases.proofs.LowerLaws.{◌≡◌, ℕ, List, kind, CommandCompletion, Read, Header, IsHeader, TraceRecord, EntriesFit, FloorsMove, Known, Lent, IsNextRow, floors_move}
 use Rattle.trb.specs.declared.block.Block.{Block}
-use Rattle.leases.proofs.LeaseRows.FloorsMove.{floors_move}
 
 module _ (h : Header) (headed : IsHeader h) (k : Known) (ts : List Lent) (b : Block) (t : TraceRecord) (m : ℕ → ℕ) (clean : IsNextRow h k ts (Read b) t m) where
   pub entries : EntriesFit k

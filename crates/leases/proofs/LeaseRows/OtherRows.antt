@@ -1,25 +1,17 @@
 -- What is lent after a clean declaration, doorbell or register write
-use Rattle.leases.proofs.BaseWords.{◌≡◌, ◌+◌, ◌<◌, ◌∷◌, ◌≢◌, ◌⊎◌, ℕ, List, [], true, false, None, Result, Ok, Err, ap, sym, inl, inr, subst, length, OnOk, nat_le, nat_lt, le-leb, lt-ltb, and_from, Trb, table_bytes, place_count, due_positions, floor_number, Ring, Header, Row, Sub, Write, Reg, Bell, Read, Register, Dcbaap, Erstba, IsHeader, command_id, driver_rings, event_shape, is_driver_kind, shape_of, base_address, Known, learned, is_bad_register, is_written, Range, SegmentTable, is_among, open_leases, IsIn, from_filter, in_filter, DriverKeeps, register_facts, due_has_ring, Lent, with_begun, FindsRanges, RangeIndexes, shape_there, IsAmong, TraceRecord, HoldsAll, IsOtherRow, IsNextRow, AreOpen, grown, rules}
-use Rattle.leases.proofs.LeaseBooks.Members.{from_range}
-use Rattle.leases.proofs.LeaseBooks.RangePlaces.{others_begin}
-use Rattle.leases.proofs.LeaseBooks.Rows.{nothing_new}
-use Rattle.leases.proofs.LeaseBooks.SameLeases.{bell_same, reg_same, sub_same}
-use Rattle.leases.proofs.LeaseBooks.TableAlone.{lent_table}
-use Rattle.leases.proofs.LeaseBooks.Writing.{AreShaped}
+use Rattle.leases.proofs.MiddleLaws.{arith, ◌≡◌, ◌<◌, ◌∷◌, ◌≢◌, ◌⊎◌, ℕ, List, [], true, false, None, Result, ap, sym, inl, inr, subst, length, OnOk, le-leb, lt-ltb, and_from, Trb, table_bytes, place_count, due_positions, floor_number, Ring, Header, Row, Sub, Write, Reg, Bell, Read, Register, Dcbaap, Erstba, IsHeader, command_id, driver_rings, event_shape, is_driver_kind, shape_of, base_address, Known, learned, is_bad_register, is_written, Range, SegmentTable, is_among, open_leases, IsIn, from_filter, in_filter, DriverKeeps, register_facts, due_has_ring, Lent, with_begun, FindsRanges, RangeIndexes, shape_there, IsAmong, TraceRecord, HoldsAll, IsOtherRow, IsNextRow, AreOpen, grown, rules, from_range, others_begin, nothing_new, bell_same, reg_same, sub_same, lent_table, AreShaped}
 use Rattle.ring_knowledge.specs.Rings as rings
 
 -- from what an answer promises to what follows
 pub on_more : {X E P Q : Type 0} (answer : Result X E) → (P → Q) → OnOk answer P → OnOk answer Q
-on_more (Ok x) f p = f p
-on_more (Err e) f p = p
+on_more answer f p = grind arith
 
 pub on_both : {X E P Q R : Type 0} (answer : Result X E) → (P → Q → R) → OnOk answer P → OnOk answer Q → OnOk answer R
-on_both (Ok x) f p q = f p q
-on_both (Err e) f p q = p
+on_both answer f p q = grind arith
 
 pub in_rings : (q : Ring) (rs : List Ring) → IsIn q rs → IsAmong q rs
 in_rings q [] at = absurd at
-in_rings q (x ∷ rest) at = elim at [ inl here ↦ inl (sym here) | inr later ↦ inr (in_rings q rest later) ]
+in_rings q (x ∷ rest) at = search (rules, in_rings q rest)
 
 from_rings : (q : Ring) (rs : List Ring) → IsAmong q rs → IsIn q rs
 from_rings q [] at = absurd at
@@ -53,12 +45,10 @@ array_rests h k _ v d fine = inl (λ e. cc)
 declared_given : (h : Header) → IsHeader h → (k : Known) → DriverKeeps h k → (p : ℕ) → IsIn p (rings.unfinished_positions h k) → p < length (k.ring (command_id h)).queue
 unfolding rings.unfinished_positions due_positions
 declared_given h headed k d p at =
-    let v = k.ring (command_id h) in
-    let count : ℕ = place_count (shape_of h (command_id h)) in
-    let found = from_filter v.given (due_positions (shape_of h (command_id h)) v) p at in
-    let range = from_range (floor_number v) count p found.0 in
-    let ring = due_has_ring h headed v.floor p (and_from (nat_le (floor_number v) p) (nat_lt p (floor_number v + count)) (le-leb (floor_number v) p range.0) (lt-ltb p (floor_number v + count) range.1)) in
-    (d.rings (command_id h) ring).given_declared p found.1
+    let found = from_filter (k.ring (command_id h)).given (due_positions (shape_of h (command_id h)) (k.ring (command_id h))) p at in
+    let range = from_range (floor_number (k.ring (command_id h))) (place_count (shape_of h (command_id h))) p found.0 in
+    (d.rings (command_id h) (due_has_ring h headed (k.ring (command_id h)).floor p (and_from _ _ (le-leb (floor_number (k.ring (command_id h))) p range.0)
+    (lt-ltb p _ range.1)))).given_declared p found.1
 
 module _ (h : Header) (headed : IsHeader h) (k : Known) (ts : List Lent) where
   -- the book still holds what is lent
@@ -94,8 +84,7 @@ module _ (h : Header) (headed : IsHeader h) (k : Known) (ts : List Lent) where
     -- rows but those of registers
     pub other_held : {B : Type 0} {Holds : Header → List Lent → B → Type 0} (book : B) (x : RangeIndexes) (row : Row) → IsOtherRow row → ((r : Register) (v : ℕ) → row ≡ Reg r v → ⊥) → IsNextRow h k ts row t m →
         HoldsAll Holds h ts book x → HoldsAll Holds h (grown h k row number ts) book x
-    other_held book x (Write a w) other none next held = absurd other
-    other_held book x _ other none next held = search (rules, held_still, lent_sub, lent_bell)
+    other_held book x row other none next held = grind (arith, held_still, lent_sub, lent_bell)
 
 -- a row that is neither a write nor an event
 pub other_row : (row : Row) → ((a w : ℕ) → row ≡ Write a w → ⊥) → ((b : Trb) → row ≡ Read b → ⊥) → IsOtherRow row

@@ -1,17 +1,11 @@
 -- What is lent after a clean write: what it gives comes under lease, at a free place, and the ranges that its command takes
-use Rattle.leases.proofs.BaseWords.{not-true, ◌≡◌, ◌+◌, ◌<◌, ◌≤◌, ◌%◌, ◌^◌, ◌∷◌, ◌++◌, ◌∙◌, ◌&&◌, ℕ, List, [], true, false, None, Some, Option, refl, ap, sym, arith, inl, inr, subst, nat_lt, length, not, map, max, option_and_then, slice_get, eqb-true, ltb-true, leb-true, get_or, cases_Bool, flat_map, and_parts, or_cases, nat_tests, slice_get_read, put, ContextSize, Bytes32, Bytes64, device_context_bytes, input_context_bytes, Command, named_context, is_crossing, is_inside, place_count, touches, crossings_given, due_crossings, due_positions, floor_number, gives, gives_crossing, is_crossing_due, positions_given, link_of, Ring, Header, Write, IsHeader, command_id, is_command_kind, is_driver_kind, is_event_kind, shape_of, RingGiving, RingRecord, FollowsRing, crossings_of, positions_of, Known, command_given, entry_of, taken_device, noted_past, Leased, Block, Link, Range, InputContext, SlotEntry, DeviceContext, range_of_command, range_of_context, as_lease, comes_before, IsIn, from_filter, DriverKeeps, area_parts, written_devices, taking, rules_of, written_device, Lent, in_turn, is_place_free, precedes, with_begun, with_leased, is_use_free, command_found, ring_here, shape_allowed, shape_there, and_false, IsAmong, among_at, same_number, TraceRecord, RowPlace, FollowsTrace, IsGivenBy, IsPlacedSo, EntryFits, SlotIsFree, command_taken, slot_taken, IsNextRow, grown, slice_get_cases, slice_get_within, command_id_is, rules}
+use Rattle.leases.proofs.UpperLaws.{not-true, ◌≡◌, ◌+◌, ◌<◌, ◌≤◌, ◌%◌, ◌^◌, ◌∷◌, ◌++◌, ◌∙◌, ◌&&◌, ℕ, List, [], true, false, None, Some, Option, refl, ap, sym, arith, inl, inr, subst, nat_lt, length, not, map, max, option_and_then, slice_get, eqb-true, ltb-true, leb-true, get_or, cases_Bool, flat_map, and_parts, or_cases, nat_tests, slice_get_read, put, Command, named_context, is_crossing, is_inside, place_count, touches, crossings_given, due_crossings, due_positions, floor_number, gives, gives_crossing, is_crossing_due, positions_given, link_of, Ring, Header, Write, IsHeader, command_id, is_command_kind, is_driver_kind, is_event_kind, shape_of, RingGiving, RingRecord, FollowsRing, crossings_of, positions_of, Known, command_given, entry_of, taken_device, noted_past, Leased, Block, Link, InputContext, range_of_command, range_of_context, as_lease, comes_before, IsIn, from_filter, DriverKeeps, area_parts, written_devices, taking, rules_of, written_device, Lent, in_turn, is_place_free, precedes, with_begun, with_leased, is_use_free, command_found, ring_here, shape_allowed, shape_there, and_false, IsAmong, among_at, same_number, TraceRecord, RowPlace, FollowsTrace, IsGivenBy, IsPlacedSo, EntryFits, SlotIsFree, command_taken, slot_taken, IsNextRow, grown, slice_get_cases, slice_get_within, command_id_is, rules, block_free, from_range, lease_given, among_drivers, are_shaped, commanded_elsewhere, commanded_here, commanded_nowhere, given_by_one, given_nowhere, begun_none, still_free}
 use Rattle.ring_knowledge.specs.declared.ring_record.RingGiving.TheVariants.{Position, Crossing}
 use Rattle.leases.proofs.LeaseBooks.FreeLinks.{NoneAhead, link_free}
-use Rattle.leases.proofs.LeaseBooks.FreePlaces.{block_free}
 use Rattle.leases.proofs.LeaseBooks.FreeRanges.{context_free, device_free, entry_free}
 use Rattle.leases.proofs.LeaseBooks.GivingCommands.{MayTake, device_taken, entry_taken, lent_commands}
-use Rattle.leases.proofs.LeaseBooks.Members.{from_range}
-use Rattle.leases.proofs.LeaseBooks.Writing.{lease_given}
-use Rattle.ring_knowledge.specs.Rings as rings
-use Rattle.leases.proofs.LeaseRows.OtherRows.{among_drivers, are_shaped}
 use Rattle.leases.proofs.LeaseRows.TransferRows.{driver_there}
-use Rattle.leases.proofs.LeaseRows.GivenHere.{commanded_elsewhere, commanded_here, commanded_nowhere, given_by_one, given_nowhere}
-use Rattle.leases.proofs.LeaseRows.TakenRanges.{begun_none, still_free}
+use Rattle.ring_knowledge.specs.Rings as rings
 
 -- a lap ahead of the least crossing none is given
 pub none_ahead : (q : Ring) (k : Known) (r : RingRecord) → FollowsRing q.shape (k.ring q.id) r → NoneAhead q.shape (k.ring q.id)
@@ -19,32 +13,10 @@ none_ahead q k r f m far = search (rules, is_crossing, noted_past, link_of, and_
 
 -- ---- the order of leases that begin at one row: a block, and then ranges by their bytes
 
-four_in_turn : (size : ContextSize) (r p a e d s : ℕ) →
-    in_turn (Block r p ∷ Range (input_context_bytes size) a (InputContext p) ∷ Range 8 e (SlotEntry s) ∷ Range (device_context_bytes size) d (DeviceContext s) ∷ [])
-    ≡ Block r p ∷ Range 8 e (SlotEntry s) ∷ Range (device_context_bytes size) d (DeviceContext s) ∷ Range (input_context_bytes size) a (InputContext p) ∷ []
-unfolding in_turn with_leased precedes comes_before as_lease
-four_in_turn Bytes32 r p a e d s = refl
-four_in_turn Bytes64 r p a e d s = refl
-
-three_in_turn : (size : ContextSize) (r p e d s : ℕ) →
-    in_turn (Block r p ∷ Range 8 e (SlotEntry s) ∷ Range (device_context_bytes size) d (DeviceContext s) ∷ []) ≡ Block r p ∷ Range 8 e (SlotEntry s) ∷ Range (device_context_bytes size) d (DeviceContext s) ∷ []
-unfolding in_turn with_leased precedes comes_before as_lease
-three_in_turn Bytes32 r p e d s = refl
-three_in_turn Bytes64 r p e d s = refl
-
-two_in_turn : (r p n a : ℕ) → in_turn (Block r p ∷ Range n a (InputContext p) ∷ []) ≡ Block r p ∷ Range n a (InputContext p) ∷ []
-unfolding in_turn with_leased precedes comes_before as_lease
-two_in_turn r p n a = refl
-
-one_in_turn : (r p : ℕ) → in_turn (Block r p ∷ []) ≡ Block r p ∷ []
-unfolding in_turn with_leased
-one_in_turn r p = refl
-
 command_in_turn : (h : Header) (k : Known) (r p : ℕ) (c : Option ℕ) (o : Option (ℕ × ℕ)) →
     in_turn (Block r p ∷ ((range_of_context h p c ++ []) ++ entry_taken k o ++ device_taken h o)) ≡ Block r p ∷ (slot_taken h k o ++ range_of_context h p c)
-unfolding range_of_context
-command_in_turn h k r p None None = one_in_turn r p
-command_in_turn h k r p _ _ = search (rules, four_in_turn, entry_of, three_in_turn, two_in_turn, input_context_bytes, one_in_turn)
+unfolding range_of_context in_turn with_leased precedes comes_before as_lease
+command_in_turn h k r p c o = grind arith
 
 put_there : (f : ℕ → Option ℕ) (s : ℕ) (o : Option ℕ) → put f s o s ≡ o
 put_there f s o = rw (same_number s) refl
@@ -61,11 +33,7 @@ module _ (h : Header) (headed : IsHeader h) (k : Known) (ts : List Lent) (a w nu
 
   may_take : (o : Option (ℕ × ℕ)) → taken ≡ o → MayTake k o
   may_take None is = tt
-  may_take (Some e) is =
-      let fresh = (taking h k a w e next.clean is).takes.fresh in
-      let after = ap (λ f. f e.0) (written_device h k a w e is) ∙ put_there k.device e.0 (Some e.1) in
-      let slot = (written_devices h headed k keeps a w next.clean e.0 e.1 after).slot in
-      (fresh, slot.0, slot.1)
+  may_take (Some e) is = search (rules, taking h k a w e next.clean is, written_device, put_there, written_devices h headed k keeps a w next.clean e.0 e.1)
 
   fits : (o : Option (ℕ × ℕ)) → taken ≡ o → EntryFits k o
   fits None is = tt
@@ -134,24 +102,19 @@ module _ (h : Header) (headed : IsHeader h) (k : Known) (ts : List Lent) (a w nu
 
           lent_undeclared : rings.command_at h k p ≡ None → grown h k (Write a w) number ts ≡ with_begun number ts (Block q.id p ∷ [])
           unfolding begun_of taken_at range_of_command range_of_context with_begun
-          lent_undeclared none =
-              lent_of (rings.Position q.id p ∷ []) (p ∷ []) (given_is (Some (Position p)) is) commanded
-              ∙ ap (λ o. with_begun number ts (in_turn (Block q.id p ∷ ((range_of_command h p o ++ []) ++ entry_taken k (option_and_then (taken_device k) o) ++ device_taken h (option_and_then (taken_device k) o))))) none
-              ∙ ap (λ ls. with_begun number ts ls) (command_in_turn h k q.id p None None)
+          lent_undeclared none = lent_of (rings.Position q.id p ∷ []) (p ∷ []) (given_is (Some (Position p)) is) commanded
+              ∙ rw none (ap (with_begun number ts) (command_in_turn h k q.id p None None))
 
           pub lent_command : (c : Command) → rings.command_at h k p ≡ Some c → grown h k (Write a w) number ts ≡ with_begun number ts ((Block q.id p ∷ []) ++ command_taken h k p c)
           unfolding begun_of taken_at range_of_command range_of_context with_begun
-          lent_command c at =
-              lent_of (rings.Position q.id p ∷ []) (p ∷ []) (given_is (Some (Position p)) is) commanded
-              ∙ ap (λ o. with_begun number ts (in_turn (Block q.id p ∷ ((range_of_command h p o ++ []) ++ entry_taken k (option_and_then (taken_device k) o) ++ device_taken h (option_and_then (taken_device k) o))))) at
-              ∙ ap (λ ls. with_begun number ts ls) (command_in_turn h k q.id p (named_context c) (taken_device k c))
+          lent_command c at = lent_of (rings.Position q.id p ∷ []) (p ∷ []) (given_is (Some (Position p)) is) commanded
+              ∙ rw at (ap (with_begun number ts) (command_in_turn h k q.id p (named_context c) (taken_device k c)))
 
           pub command_fits : (c : Command) → rings.command_at h k p ≡ Some c → EntryFits k (taken_device k c)
           command_fits c at = fits (taken_device k c) (taken_is c at)
 
           slot_free : (o : Option (ℕ × ℕ)) → MayTake k o → SlotIsFree h (with_begun number ts (Block q.id p ∷ [])) o
-          slot_free None may = tt
-          slot_free (Some e) may = search (rules, still_free, entry_free, device_free)
+          slot_free o may = grind (arith, still_free, entry_free, device_free)
 
           pub command_slot_free : (c : Command) → rings.command_at h k p ≡ Some c → SlotIsFree h (with_begun number ts (Block q.id p ∷ [])) (taken_device k c)
           command_slot_free c at = slot_free (taken_device k c) (may_take (taken_device k c) (taken_is c at))
@@ -168,19 +131,12 @@ module _ (h : Header) (headed : IsHeader h) (k : Known) (ts : List Lent) (a w nu
         given_there_is command o said = sym (command_is command (rings.command_at h k p) refl) ∙ said
 
         pub lent_without : command_given h k a w ≡ None → grown h k (Write a w) number ts ≡ with_begun number ts (Block q.id p ∷ [])
-        lent_without none = elim (cases_Bool (is_command_kind q.shape.kind)) [
-          | inl command ↦ lent_undeclared command (given_there_is command None none)
-          | inr other ↦ lent_block other
-        ]
+        lent_without none = grind (arith, cases_Bool, is_command_kind, lent_undeclared, given_there_is, lent_block)
 
         -- a position that is given is due, and wasn't given before
         due_now : (floor_number (k.ring q.id) ≤ p) × (p < floor_number (k.ring q.id) + place_count q.shape) × ((k.ring q.id).given p ≡ false)
         unfolding positions_given due_positions
-        due_now =
-            let v = k.ring q.id in
-            let at : IsIn p (positions_given q.shape v a w) = subst (λ ps. IsIn p ps) (sym (positions ∙ ap positions_of is)) (inl refl) in
-            let found = from_filter (λ m. not (v.given m) && gives q.shape v.floor m a w) (due_positions q.shape v) p at in
-            search (rules, from_range, not-true, and_parts)
+        due_now = search (rules, from_filter (λ m. not ((k.ring q.id).given m) && gives q.shape (k.ring q.id).floor m a w) (due_positions q.shape (k.ring q.id)) p (subst (IsIn p) (sym (positions ∙ ap positions_of is)) (inl refl)), from_range, not-true, and_parts)
 
         pub place_free : is_place_free h ts (Block q.id p) ≡ true
         place_free = search (rules, block_free, are_shaped, among_drivers, due_now)
@@ -191,11 +147,8 @@ module _ (h : Header) (headed : IsHeader h) (k : Known) (ts : List Lent) (a w nu
       module _ (r : RingRecord) (f : FollowsRing q.shape (k.ring q.id) r) (c : ℕ) (is : giving ≡ Some (Crossing c)) where
         given_there : (not ((k.ring q.id).crossed c) ≡ true) × (gives_crossing q.shape (k.ring q.id).floor c a w ≡ true)
         unfolding crossings_given due_crossings
-        given_there =
-            let v = k.ring q.id in
-            let at : IsIn c (crossings_given q.shape v a w) = subst (λ qs. IsIn c qs) (sym (crossings ∙ ap crossings_of is)) (inl refl) in
-            and_parts (not (v.crossed c)) (gives_crossing q.shape v.floor c a w)
-            (from_filter (λ m. not (v.crossed m) && gives_crossing q.shape v.floor m a w) (due_crossings q.shape v) c at).1
+        given_there = and_parts _ _ (from_filter (λ m. not ((k.ring q.id).crossed m) && gives_crossing q.shape (k.ring q.id).floor m a w) (due_crossings q.shape (k.ring q.id)) c
+            (subst (IsIn c) (sym (crossings ∙ ap crossings_of is)) (inl refl))).1
 
         due : is_crossing_due q.shape (k.ring q.id).floor c ≡ true
         due = (and_parts _ _ (and_parts (is_crossing_due q.shape (k.ring q.id).floor c && _) _ given_there.1).0).0
@@ -207,16 +160,11 @@ module _ (h : Header) (headed : IsHeader h) (k : Known) (ts : List Lent) (a w nu
         crosses = parts.0
 
         pub link_is_free : is_place_free h ts (Link q.id c) ≡ true
-        link_is_free =
-            link_free h (are_shaped h headed) k ts next.step.opened q (among_drivers h q among driver) (shape_allowed h headed q among) (none_ahead q k r f) c parts.0 parts.1 parts.2
-            (not-true ((k.ring q.id).crossed c) given_there.0)
+        link_is_free = grind (arith, link_free, are_shaped, among_drivers, shape_allowed, none_ahead, parts, not-true, given_there)
 
 -- there is a record of each ring
 record_at : (h : Header) (items : List RingRecord) (n : ℕ) (q : Ring) → length items ≡ length h.rings → slice_get h.rings n ≡ Some q → (r : RingRecord) × (slice_get items n ≡ Some r)
-record_at h items n q as_many at = elim (slice_get_cases items n).1 [
-  | inl found ↦ (found.0, found.2)
-  | inr past ↦ let below = slice_get_within h.rings n q at in absurd (omega (arith, as_many, past.0, below))
-]
+record_at h items n q as_many at = elim (slice_get_cases items n).1 [ inl found ↦ (found.0, found.2) | inr past ↦ absurd (omega (arith, as_many, past.0, slice_get_within h.rings n q at)) ]
 
 -- the ring that a row's word lies in, its record, and what the write gives of it
 pub record AtRing (h : Header) (k : Known) (a w : ℕ) (q : Ring) (giving : Option RingGiving) : Type 0 where
@@ -234,15 +182,7 @@ at_ring h k t memory follows a w n p q placed is item other =
     let here = ring_here h (λ x. touches x.shape a 4) h.rings n q (sym placed.ring ∙ is) refl item in
     let given = subst (λ (o : Option ℕ). IsGivenBy h k a w o p.giving) is placed.given q here.0 in
     let record_of = record_at h t.rings.items n q follows.rings.as_many here.0 in
-    record {
-      among = among_at h.rings n q here.0;
-      driver = ap not other;
-      has = here.1;
-      known = record_of.0;
-      follows = follows.rings.each n q record_of.0 here.0 record_of.1 (ap not other);
-      positions = given.positions (ap not other);
-      crossings = given.crossings (ap not other);
-    }
+    search (rules, among_at h.rings n q here.0, ap not other, follows.rings.each n q record_of.0 here.0 record_of.1, given.positions, given.crossings)
 
 -- what a look-up has found
 pub record_there : (xs ys : List RingRecord) (n : ℕ) (r : RingRecord) → xs ≡ ys → true ≡ nat_lt n (length xs) → r ≡ get_or xs n r → slice_get ys n ≡ Some r

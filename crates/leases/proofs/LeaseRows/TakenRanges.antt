@@ -1,15 +1,12 @@
 -- The ranges that a command takes, one after another
-use Rattle.leases.proofs.BaseWords.{not-true, ◌≡◌, ◌%◌, ◌∷◌, ◌++◌, ◌∙◌, ◌↔◌, ℕ, List, [], Bool, true, false, None, Some, Option, Ok, Err, Result, refl, ap, sym, subst, append_assoc, is_some, append-nil, result_ok, Fault, device_context_bytes, input_context_bytes, long_at, register_or_zero, Command, AddressDevice, named_context, Header, Known, device_named, entry_of, no_device, taken_device, Leased, Range, Use, InputContext, SlotEntry, DeviceContext, range_of_command, range_of_context, RangeIndexes, Lent, begun_at, with_begun, is_use_free, shares_use, and_false, any_append, or_false, HoldsAll, slot_taken, rules}
+use Rattle.leases.proofs.BaseWords.{arith, not-true, ◌≡◌, ◌%◌, ◌∷◌, ◌++◌, ◌∙◌, ◌↔◌, ℕ, List, [], Bool, true, false, None, Some, Option, Ok, Err, Result, refl, ap, sym, subst, append_assoc, is_some, append-nil, result_ok, Fault, device_context_bytes, input_context_bytes, long_at, register_or_zero, Command, AddressDevice, named_context, Header, Known, device_named, entry_of, no_device, taken_device, Leased, Range, Use, InputContext, SlotEntry, DeviceContext, range_of_command, range_of_context, RangeIndexes, Lent, begun_at, with_begun, is_use_free, shares_use, and_false, any_append, or_false, HoldsAll, slot_taken, rules}
 use Rattle.leases.proofs.LeaseBooks.Growing.{map_append}
 
 -- what a block says that was read
 pub read_is : (o : Option Command) (r : Result Command Fault) → ((c : Command) → (r ≡ Ok c) ↔ (o ≡ Some c)) → result_ok r ≡ o
 read_is o (Ok c) said = sym ((said c).0 refl)
 read_is None (Err e) said = refl
-read_is (Some c) (Err e) said = absurd (never c ((said c).1 refl))
-  where
-    never : (c : Command) → Err e ≡ Ok c → ⊥
-    never c same = cc
+read_is (Some c) (Err e) said = grind (arith, said c)
 
 -- what begins at one row begins at once
 pub begun_twice : (n : ℕ) (ts : List Lent) (xs ys : List Leased) → with_begun n (with_begun n ts xs) ys ≡ with_begun n ts (xs ++ ys)
@@ -49,26 +46,15 @@ one_context h p a bytes c some same = ap (range_of_context h p) some ∙ ap (λ 
 
 pub takes_none : (k : Known) (c : Command) → ((s : ℕ) (bsr : Bool) (n : ℕ) → c ≡ AddressDevice s bsr n → ⊥) → taken_device k c ≡ None
 unfolding taken_device
-takes_none k (AddressDevice s bsr n) other = absurd (other s bsr n refl)
-takes_none k _ other = refl
-
-has_one : (o : Option ℕ) (s d : ℕ) → is_some o ≡ true → no_device o s d ≡ None
-unfolding no_device
-has_one None s d e = absurd (cc)
-has_one (Some x) s d e = refl
-
-has_none : (o : Option ℕ) (s d : ℕ) → is_some o ≡ false → no_device o s d ≡ Some (s, d)
-unfolding no_device
-has_none None s d e = refl
-has_none (Some x) s d e = absurd (cc)
+takes_none k c other = grind arith
 
 pub takes_no_more : (k : Known) (c : Command) (s : ℕ) (bsr : Bool) (n : ℕ) → c ≡ AddressDevice s bsr n → is_some (k.device s) ≡ true → taken_device k c ≡ None
-unfolding taken_device
-takes_no_more k c s bsr n is some = ap (taken_device k) is ∙ has_one (k.device s) s (device_named k s) some
+unfolding taken_device no_device
+takes_no_more k c s bsr n is some = ap (taken_device k) is ∙ (grind arith)
 
 pub takes_one : (k : Known) (c : Command) (s : ℕ) (bsr : Bool) (n : ℕ) → c ≡ AddressDevice s bsr n → is_some (k.device s) ≡ false → taken_device k c ≡ Some (s, device_named k s)
-unfolding taken_device
-takes_one k c s bsr n is none = ap (taken_device k) is ∙ has_none (k.device s) s (device_named k s) none
+unfolding taken_device no_device
+takes_one k c s bsr n is none = ap (taken_device k) is ∙ (grind arith)
 
 pub slot_is : (h : Header) (k : Known) (o : Option (ℕ × ℕ)) (s entry d bytes : ℕ) → o ≡ Some (s, d) → entry ≡ entry_of k s → bytes ≡ device_context_bytes h.context_size →
     slot_taken h k o ≡ (Range 8 entry (SlotEntry s) ∷ []) ++ (Range bytes d (DeviceContext s) ∷ [])
@@ -90,8 +76,5 @@ named_at k s memory entry words at = search (rules, register_or_zero)
 -- the ranges of a slot share no index with an input context
 pub still_free_slot : (h : Header) (k : Known) (n : ℕ) (ts : List Lent) (p : ℕ) (o : Option (ℕ × ℕ)) → is_use_free h ts (InputContext p) ≡ true → is_use_free h (with_begun n ts (slot_taken h k o)) (InputContext p) ≡ true
 still_free_slot h k n ts p None free = ap (λ us. is_use_free h us (InputContext p)) (begun_none n ts) ∙ free
-still_free_slot h k n ts p (Some e) free =
-    let entry : Leased = Range 8 (entry_of k e.0) (SlotEntry e.0) in
-    let device : Leased = Range (device_context_bytes h.context_size) e.1 (DeviceContext e.0) in
-    ap (λ us. is_use_free h us (InputContext p)) (sym (begun_twice n ts (entry ∷ []) (device ∷ [])))
-    ∙ still_free h n (with_begun n ts (entry ∷ [])) (InputContext p) device refl (still_free h n ts (InputContext p) entry refl free)
+still_free_slot h k n ts p (Some e) free = rw (← begun_twice n ts (Range 8 (entry_of k e.0) (SlotEntry e.0) ∷ []) (Range (device_context_bytes h.context_size) e.1 (DeviceContext e.0) ∷ []))
+    (search (rules, still_free))

@@ -1,11 +1,6 @@
 -- What is lent after an event but a completion: a Transfer Event ends the leases of what its ring passes
-use Rattle.leases.proofs.BaseWords.{◌≡◌, ◌≢◌, ◌+◌, ◌≤◌, ◌∙◌, ◌&&◌, ◌==◌, ℕ, List, true, false, None, Some, Option, refl, ap, sym, arith, inl, inr, subst, map, position, option_map, and_parts, BlockKind, TransferEvent, CommandCompletion, code, endpoint, kind, pointer, slot, is_transfer_event, is_stopping, is_success, Spot, Shape, is_crossing, number, named, RingKeeps, floor_number, named_ahead, Ring, Header, Read, IsHeader, driver_rings, is_driver_kind, ring_with, shape_of, Known, event_read, learned, RingSpot, event_at, spot_on, transfer_read, transferred_at, is_among, open_leases, IsIn, DriverKeeps, IsDriverRing, IsTransferRing, transfer_driver, transfer_not_command, come_to, Lent, ended_where, is_passed, RangeIndexes, none_here, not_found, ring_found, shape_there, false_unless, IsAmong, TraceRecord, HoldsAll, IsNextRow, grown, rules}
-use Rattle.leases.proofs.LeaseBooks.PassedLeases.{IsWithinLap}
-use Rattle.leases.proofs.LeaseBooks.Rows.{nothing_new}
-use Rattle.leases.proofs.LeaseBooks.SameLeases.{command_same, entries_kept, open_same}
-use Rattle.leases.proofs.LeaseBooks.Transferring.{transfer_lent}
+use Rattle.leases.proofs.UpperLaws.{◌≡◌, ◌≢◌, ◌+◌, ◌≤◌, ◌∙◌, ◌==◌, ℕ, List, true, false, None, Some, Option, refl, ap, sym, arith, subst, map, position, option_map, and_parts, BlockKind, TransferEvent, CommandCompletion, code, endpoint, kind, pointer, slot, is_transfer_event, is_stopping, is_success, Spot, Shape, number, named, RingKeeps, floor_number, named_ahead, Ring, Header, Read, IsHeader, driver_rings, is_driver_kind, ring_with, shape_of, Known, event_read, learned, RingSpot, event_at, spot_on, transfer_read, transferred_at, is_among, open_leases, IsIn, DriverKeeps, IsDriverRing, IsTransferRing, transfer_driver, transfer_not_command, come_to, Lent, ended_where, is_passed, RangeIndexes, none_here, not_found, ring_found, shape_there, false_unless, IsAmong, TraceRecord, HoldsAll, IsNextRow, grown, rules, IsWithinLap, nothing_new, command_same, entries_kept, open_same, transfer_lent, from_drivers}
 use Rattle.trb.specs.declared.block.Block as blocks
-use Rattle.leases.proofs.LeaseRows.OtherRows.{from_drivers}
 
 -- one event more was read
 counted_same : (h : Header) (k : Known) → open_leases h (record k { reads = k.reads + 1 }) ≡ open_leases h k
@@ -19,14 +14,7 @@ driver_there h headed q at = let found = from_drivers h q at in record { ring = 
 pub lap_now : (h : Header) → IsHeader h → (k : Known) → DriverKeeps h k → (q : Ring) → IsIn q (driver_rings h) → IsWithinLap q.shape (k.ring q.id)
 lap_now h headed k d q at =
     let keeps : RingKeeps q.shape k.memory (k.ring q.id) = subst (λ (s : Shape). RingKeeps s k.memory (k.ring q.id)) (shape_there h headed q (from_drivers h q at).0) (d.rings q.id (driver_there h headed q at)) in
-    record {
-      given = λ p far. false_unless ((k.ring q.id).given p) (λ e. let near = keeps.given_within p e in omega arith);
-      crossed = λ c far. false_unless (is_crossing q.shape c && (k.ring q.id).crossed c) (λ e.
-          elim (keeps.crossed_within c (and_parts (is_crossing q.shape c) ((k.ring q.id).crossed c) e).1) [
-            | inl near ↦ omega (arith, far, near)
-            | inr last ↦ omega (arith, far, last.0, last.1)
-          ]);
-    }
+    search (rules, false_unless, keeps.given_within, keeps.crossed_within, and_parts)
 
 -- to come on is to come not back
 pub comes_on : (c : ℕ) (t : Spot) (floor : ℕ) → floor ≤ number t → floor ≤ come_to c t floor
@@ -34,8 +22,7 @@ unfolding come_to
 comes_on c t floor ahead = search (rules, is_success, number, is_stopping)
 
 is_transfer : (n : BlockKind) → is_transfer_event n ≡ true → n ≡ TransferEvent
-is_transfer TransferEvent e = refl
-is_transfer _ e = absurd (cc)
+is_transfer n e = grind arith
 
 spot_found : (h : Header) (k : Known) (p : ℕ) (o : Option ℕ) (r : ℕ) (t : Spot) → o ≡ Some r → named (shape_of h r) (k.ring r) p ≡ Some t → spot_on h k p o ≡ Some (record { ring = r; spot = t })
 unfolding spot_on
@@ -51,10 +38,7 @@ no_ring_spot h k p o none = ap (spot_on h k p) none
 
 -- the ring of an endpoint is one of the header
 pub ring_of_header : (h : Header) (k : Known) → DriverKeeps h k → (s i r : ℕ) → k.ring_of s i ≡ Some r → position (λ (q : Ring). q.id == r) h.rings ≡ None → ⊥
-ring_of_header h k d s i r at none =
-    let transfer = d.states.transfer s i r at in
-    let nowhere : ring_with h r ≡ None = not_found (λ q. q.id == r) h.rings (none_here h (λ q. q.id == r) h.rings none refl) in
-    search rules
+ring_of_header h k d s i r at none = grind (arith, ring_with, not_found, none_here, d.states.transfer s i r at, not_found (λ q. q.id == r) h.rings (none_here h (λ q. q.id == r) h.rings none refl))
 
 module _ (h : Header) (headed : IsHeader h) (k : Known) (ts : List Lent) (b : blocks.Block) (number_ : ℕ) (t : TraceRecord) (m : ℕ → ℕ) (next : IsNextRow h k ts (Read b) t m) where
   pub keeps : DriverKeeps h k
@@ -65,13 +49,9 @@ module _ (h : Header) (headed : IsHeader h) (k : Known) (ts : List Lent) (b : bl
   unfolding learned
   quiet is = nothing_new h k ts next.step.opened (Read b) number_ (λ l. ap (λ (x : Known). is_among (open_leases h (record x { reads = k.reads + 1 })) l) is ∙ ap (λ ls. is_among ls l) (counted_same h k))
 
-  others : (n : BlockKind) → is_transfer_event n ≡ false → n ≢ CommandCompletion → event_read h k n b ≡ k
-  unfolding event_read
-  others TransferEvent e f = absurd (cc)
-  others _ e f = search rules
-
   pub other_lent : is_transfer_event (kind b) ≡ false → kind b ≢ CommandCompletion → grown h k (Read b) number_ ts ≡ ts
-  other_lent e f = quiet (others (kind b) e f)
+  unfolding event_read
+  other_lent e f = quiet (grind arith)
 
   unnamed : is_transfer_event (kind b) ≡ true → event_at h k b ≡ None → event_read h k (kind b) b ≡ k
   unfolding event_read transfer_read transferred_at
@@ -110,8 +90,17 @@ module _ (h : Header) (headed : IsHeader h) (k : Known) (ts : List Lent) (b : bl
       found = spot_found h k (pointer b) (k.ring_of (slot b) (endpoint b)) q.id spot here (named_here (Some spot) is)
 
       passed_lent : grown h k (Read b) number_ ts ≡ map (ended_where (is_passed q.id (floor_number (k.ring q.id)) (come_to (code b) spot (floor_number (k.ring q.id)))) number_) ts
-      passed_lent =
-          transfer_lent h k ts next.step.opened b number_ (record { ring = q.id; spot = spot }) (is_transfer (kind b) transfers) found (transfer_not_command h headed q.id transfer) comes (lap_now h headed k keeps)
+      passed_lent = search (
+        rules,
+        transfer_lent h k ts next.step.opened b number_ (record { ring = q.id; spot = spot }),
+        is_transfer,
+        found,
+        transfer_not_command,
+        transfer,
+        comes,
+        lap_now,
+        keeps,
+      )
 
       module _ {B : Type 0} {Holds : Header → List Lent → B → Type 0} where
         pub transfer_ends : (book : B) (x : RangeIndexes) (from to : ℕ) → from ≡ floor_number (k.ring q.id) → to ≡ come_to (code b) spot (floor_number (k.ring q.id)) →

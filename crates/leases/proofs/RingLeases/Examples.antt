@@ -1,6 +1,5 @@
 -- Worked examples of leases of rings that come and go, and of descriptors that are withdrawn
-use Rattle.leases.proofs.BaseWords.{◌≡◌, ℕ, List, [], ◌∷◌, nat_lt, refl, put, Xfer, Bytes32, Restores, Withdraws, new_ring, Three, Header, Write, TraceRow, Comes, Goes, Plain, Known, nothing, on_ring, as_lease, comes_before, without_end, rules_on_literals, Block, Link, open_leases, Lent, begun_at, ended_where, in_turn, is_unended, passed_on, precedes, with_begun, with_leased, forgotten, with_ring, without_ring, restored_on, ring_moved, ring_restored, open_now, ring_lents}
-use Rattle.trb.specs.declared.block.Block.{Block as Trb}
+use Rattle.leases.proofs.BaseWords.{◌≡◌, ℕ, List, [], ◌∷◌, nat_lt, refl, put, Xfer, Bytes32, Restores, Withdraws, new_ring, Three, Header, Write, TraceRow, Comes, Goes, Plain, Known, nothing, on_ring, as_lease, comes_before, without_end, rules_on_literals, Block, Link, open_leases, Lent, begun_at, ended_where, in_turn, is_unended, passed_on, precedes, with_begun, with_leased, forgotten, with_ring, without_ring, restored_on, ring_moved, ring_restored, open_now, ring_lents, Trb}
 
 abbrev no_rings : Header
 no_rings = record { version = Three; context_size = Bytes32; rings = [] }

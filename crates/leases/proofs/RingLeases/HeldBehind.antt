@@ -1,27 +1,20 @@
 -- A log of leases goes on with the rings that are there behind a ring that goes, and behind one that comes: what isn't over is of other rings
-use Rattle.leases.proofs.BaseWords.{◌≡◌, ◌≢◌, ◌%◌, ◌==◌, ◌∙◌, ℕ, false, not, List, refl, sym, subst, and_parts, eqb-false, not-true, Header, IsHeader, Ring, Known, DriverKeeps, IsIn, driver_rings, from_filter, open_leases, place_count, command_id, shape_of, is_driver_kind, Leased, Block, Link, Range, is_among, index_in, AreOpen, AreShapedAlike, IsShapedAlike, FindsRanges, IsRangeFound, IsUseFound, RangeIndexes, InputContext, Use, Shape, Lent, IsComing, forgotten, is_bad_free, is_bad_ring, with_ring, without_ring, none_found, bad_same, f_keeps, fresh, no_ring, is_of_ring, rules}
-use Rattle.leases.proofs.LeaseBooks.Members.{InOn, block, link}
-use Rattle.leases.proofs.LeaseBooks.RangesAlone.{IsRange, each_open, open_are_ranges}
-use Rattle.leases.proofs.LeaseBooks.Rows.{IsOpen}
-use Rattle.leases.proofs.LeaseBooks.Unended.{all_anew}
+use Rattle.leases.proofs.MiddleLaws.{arith, ◌≡◌, ◌==◌, ◌∙◌, ℕ, false, not, List, and_parts, eqb-false, not-true, Header, IsHeader, Ring, Known, DriverKeeps, IsIn, driver_rings, from_filter, open_leases, place_count, command_id, shape_of, Leased, Block, Link, Range, is_among, index_in, AreOpen, AreShapedAlike, IsShapedAlike, FindsRanges, IsRangeFound, RangeIndexes, Shape, Lent, IsComing, forgotten, is_bad_free, is_bad_ring, with_ring, without_ring, none_found, bad_same, f_keeps, fresh, is_of_ring, rules, each_open, open_are_ranges, IsOpen, all_anew, among_filtered, goes_open}
+use Rattle.safety.proofs.RingChanges.RingRuns.{no_ring}
 use Rattle.safety.proofs.RingChanges.GoneRings as gone
 use Rattle.safety.proofs.RingChanges.NewRings as new
-use Rattle.leases.proofs.RingLeases.OpenBehind.{among_filtered, goes_open}
 
 module _ (h : Header) (is : IsHeader h) (k : Known) (d : DriverKeeps h k) (id : ℕ) (good : is_bad_free h k id ≡ false) where
   same_shape : (s : ℕ) → (s == id) ≡ false → shape_of (without_ring h id) s ≡ shape_of h s
   unfolding without_ring
   same_shape s apart = gone.shape_same h is k d id good s (eqb-false s id apart)
 
-  alike : (l : Leased) → is_of_ring id l ≡ false → IsShapedAlike h (without_ring h id) l
-  alike u other = search (rules, same_shape)
-
   pub open_alike : (l : Leased) → IsOpen (open_leases (without_ring h id) (forgotten k id)) l → IsShapedAlike h (without_ring h id) l
-  open_alike l is_open = search (rules, is_among, goes_open, among_filtered, not, is_of_ring, open_leases, alike, not-true, and_parts)
+  open_alike l is_open = search (rules, is_among, goes_open, among_filtered, not, is_of_ring, open_leases, same_shape, not-true, and_parts)
 
   -- with the ring left out the log goes on, where what isn't over is open behind it
   pub goes_alike : (ts : List Lent) → AreOpen (without_ring h id) (forgotten k id) ts → AreShapedAlike h (without_ring h id) ts
-  goes_alike ts opened = search (rules, all_anew, open_leases, open_alike)
+  goes_alike ts opened = search (rules, all_anew, open_alike)
 
   -- the command ring has the same shape
   pub goes_commands : shape_of (without_ring h id) (command_id (without_ring h id)) ≡ shape_of h (command_id h)
@@ -36,18 +29,9 @@ IsThere h (Block r p) = (q : Ring) × IsIn q h.rings × (q.id ≡ r)
 IsThere h (Link r c) = (q : Ring) × IsIn q h.rings × (q.id ≡ r)
 IsThere h (Range n a e) = Unit {0}
 
-range_there : (h : Header) (l : Leased) → IsRange l → IsThere h l
-range_there h (Range n a e) is = tt
-range_there h _ is = absurd is
-
-on_there : (h : Header) (k : Known) (q : Ring) (l : Leased) → IsIn q h.rings → InOn q (k.ring q.id) l → IsThere h l
-on_there h k q _ at (block p low high lent) = (q, at, refl)
-on_there h k q _ at (link c low high crossed) = (q, at, refl)
-
 open_there : (h : Header) (k : Known) (l : Leased) → IsOpen (open_leases h k) l → IsThere h l
 unfolding driver_rings
-open_there h k =
-    each_open h k (IsThere h) (λ q at l on. on_there h k q l (from_filter (λ r. is_driver_kind r.shape.kind) h.rings q at).0 on) (λ l at. range_there h l (open_are_ranges h k l at))
+open_there h k = search (rules, each_open h k (IsThere h), from_filter, open_are_ranges)
 
 module _ (h : Header) (is : IsHeader h) (k : Known) (d : DriverKeeps h k) (r : Ring) (coming : IsComing r) (good : is_bad_ring h k r ≡ false) where
   -- other rings keep their shapes
@@ -55,8 +39,8 @@ module _ (h : Header) (is : IsHeader h) (k : Known) (d : DriverKeeps h k) (r : R
   unfolding with_ring forgotten
   kept_shape s q at same =
       let absent = no_ring h is r coming k good in
-      let apart : q.id ≢ r.id = eqb-false q.id r.id (none_found (λ x. x.id == r.id) h.rings absent q at) in
-      new.shape_same h is (forgotten k r.id) (f_keeps h is r coming k d absent) r coming (fresh h is r coming k d absent) (bad_same h is r coming k d absent ∙ good) s (λ e. apart (same ∙ e))
+      new.shape_same h is (forgotten k r.id) (f_keeps h is r coming k d absent) r coming (fresh h is r coming k d absent) (bad_same h is r coming k d absent ∙ good) s
+      (search (rules, eqb-false, none_found))
 
   alike_there : (l : Leased) → IsThere h l → IsShapedAlike h (with_ring h r) l
   alike_there (Block s p) there = kept_shape s there.0 there.1 there.2
@@ -79,13 +63,8 @@ module _ (h : Header) (is : IsHeader h) (k : Known) (d : DriverKeeps h k) (r : R
 -- ---- the indexes of ranges
 
 module _ (h g : Header) (x : RangeIndexes) (commands : shape_of g (command_id g) ≡ shape_of h (command_id h)) where
-  use_alike : (i : ℕ) (e : Use) → IsUseFound h x i e → IsUseFound g x i e
-  use_alike i (InputContext p) found = subst (λ (s : Shape). index_in x.contexts (p % place_count s) ≡ i) (sym commands) found
-  use_alike i _ found = found
-
   range_alike : (i : ℕ) (l : Leased) → IsRangeFound h x i l → IsRangeFound g x i l
-  range_alike i (Range n a e) found = use_alike i e found
-  range_alike i _ found = found
+  range_alike i l found = grind (arith, Shape, index_in, place_count)
 
   -- with a command ring of the same shape they find the same
   pub ranges_found : (ts : List Lent) → FindsRanges h ts x → FindsRanges g ts x

@@ -1,9 +1,5 @@
 -- What is lent behind a ring that goes, and behind one that comes; behind plain rows it is as in a trace of these alone
-use Rattle.leases.proofs.BaseWords.{rules, ◌≡◌, ◌+◌, ◌≤◌, ◌∷◌, ◌∙◌, ℕ, false, not, List, [], length, map, arith, refl, ap, length-map, Header, IsHeader, Ring, DriverKeeps, learned, open_leases, Row, known, without_end, is_among, AllUnended, ended_where, grown, lents, passed_on, nothing_free, IsInStep, IsComing, is_bad_free, is_bad_ring, TraceRow, Plain, Comes, Goes, header_now, known_now, restored, is_of_ring, open_now, ring_lents}
-use Rattle.leases.proofs.LeaseBooks.Rows.{IsOpen, first_open, nothing_passed, only_passed, passed_open}
-use Rattle.leases.proofs.LeaseBooks.OpenLent.{in_step_behind, in_step_first}
-use Rattle.leases.proofs.RingLeases.NothingRestored.{restored_same}
-use Rattle.leases.proofs.RingLeases.OpenBehind.{among_filtered, comes_open, goes_open}
+use Rattle.leases.proofs.MiddleLaws.{rules, ◌≡◌, ◌+◌, ◌≤◌, ◌∷◌, ℕ, false, not, List, [], length, map, arith, refl, length-map, Header, IsHeader, Ring, DriverKeeps, learned, open_leases, Row, known, without_end, is_among, AllUnended, ended_where, grown, lents, passed_on, nothing_free, IsInStep, IsComing, is_bad_free, is_bad_ring, TraceRow, Plain, Comes, Goes, header_now, known_now, restored, is_of_ring, open_now, ring_lents, IsOpen, first_open, nothing_passed, only_passed, passed_open, in_step_behind, in_step_first, restored_same, among_filtered, comes_open, goes_open}
 
 module _ (h : Header) (first : ℕ) where
   -- what is lent and not over is open
@@ -43,9 +39,7 @@ module _ (h : Header) (first : ℕ) where
   known_plain : (past : List Row) → known_now h (map Plain past) ≡ known h past
   unfolding known
   known_plain [] = refl
-  known_plain (row ∷ past) =
-      (λ j. learned (header_plain past j) (restored (header_plain past j) (known_plain past j) row) row)
-      ∙ ap (λ k. learned h k row) (restored_same h (known h past) row (nothing_free h past))
+  known_plain (row ∷ past) = grind (arith, learned, header_plain, restored, restored_same, known, nothing_free, known_plain past)
 
   pub plain_lents : (past : List Row) → ring_lents h first (map Plain past) ≡ lents h first past
   unfolding ring_lents lents grown known

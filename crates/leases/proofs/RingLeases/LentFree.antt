@@ -1,17 +1,5 @@
 -- What is lent where a descriptor is withdrawn, and where a ring is restored
-use Rattle.leases.proofs.BaseWords.{and_false, false_unless, if◌then◌else◌, ◌≡◌, ◌≢◌, ◌+◌, ◌%◌, ◌<◌, ◌≤◌, ◌==◌, ◌&&◌, ◌||◌, ◌++◌, ◌∷◌, ◌∙◌, ℕ, zero, suc, Bool, true, false, not, nat_le, nat_lt, List, [], Some, filter, length, map, take, get_or, arith, refl, sym, ap, subst, inl, inr, eqb-true, list_any, range_with_len, and_parts, false≢true, not-true, nat_tests, take_more, list_any-append, cases_Bool, IsIn, Header, IsHeader, Ring, Known, is_driver_kind, is_transfer_kind, ring_with, shape_of, command_id, driver_rings, on_ring, open_leases, place_count, floor_number, due_positions, from_filter, transfer_not_command, length_from, unrestored, Restores, Withdraws, same_due, in_among, as_lease, comes_before, Leased, Block, Link, Range, is_among, same_leased, AreOpen, Lent, begun_at, ended_where, in_turn, is_place_free, is_unended, passed_on, precedes, share_a_place, with_begun, with_leased, find_some, shape_there, IsAmong, is_freed, rules}
-use Rattle.leases.proofs.LeaseBooks.FreePlaces.{unlent_free}
-use Rattle.leases.proofs.LeaseBooks.Growing.{map_append}
-use Rattle.leases.proofs.LeaseBooks.Members.{from_map, from_range}
-use Rattle.leases.proofs.LeaseBooks.Passing.{all_twice, none_over, over_alike}
-use Rattle.leases.proofs.LeaseBooks.Rows.{only_passed}
-use Rattle.leases.proofs.RingLeases.Filtered.{filter_alike}
-use Rattle.leases.proofs.RingLeases.OpenBehind.{among_filtered}
-use Rattle.leases.proofs.RingLeases.OpenFree.{freed_are, restored_open, withdrawn_open}
-use Rattle.leases.proofs.RingLeases.TwoSteps.{either_way, only_begins, with_first}
-use Rattle.leases.proofs.LeaseRows.EndedRanges.{transfer_drives}
-use Rattle.leases.proofs.LeaseRows.OtherRows.{among_drivers, are_shaped}
-use Rattle.leases.proofs.LeaseRows.TakenRanges.{begun_twice}
+use Rattle.leases.proofs.UpperLaws.{and_false, false_unless, if◌then◌else◌, ◌≡◌, ◌≢◌, ◌+◌, ◌%◌, ◌<◌, ◌≤◌, ◌==◌, ◌&&◌, ◌||◌, ◌∷◌, ◌∙◌, ℕ, zero, suc, Bool, true, false, not, nat_le, nat_lt, List, [], Some, filter, length, map, take, get_or, arith, refl, sym, ap, inl, inr, eqb-true, list_any, range_with_len, and_parts, false≢true, not-true, nat_tests, take_more, list_any-append, cases_Bool, IsIn, Header, IsHeader, Ring, Known, is_driver_kind, is_transfer_kind, ring_with, shape_of, command_id, driver_rings, on_ring, open_leases, place_count, floor_number, due_positions, from_filter, transfer_not_command, length_from, unrestored, Restores, Withdraws, same_due, in_among, as_lease, comes_before, Leased, Block, Link, Range, is_among, same_leased, AreOpen, Lent, begun_at, ended_where, in_turn, is_place_free, is_unended, passed_on, precedes, share_a_place, with_begun, with_leased, find_some, shape_there, IsAmong, is_freed, rules, unlent_free, map_append, from_map, from_range, all_twice, none_over, only_passed, filter_alike, among_filtered, freed_are, restored_open, withdrawn_open, either_way, only_begins, with_first, transfer_drives, among_drivers, are_shaped, begun_twice}
 
 -- ---- a transfer ring of the header
 
@@ -40,19 +28,17 @@ is_between r from to (Link s q) = false
 is_between r from to (Range n a e) = false
 
 none_between : (r from : ℕ) (l : Leased) → is_between r from from l ≡ false
-none_between r from (Block s q) = grind (arith, nat_tests)
-none_between r from _ = refl
+none_between r from l = grind (arith, nat_tests)
 
 one_between : (r from n : ℕ) (l : Leased) → from ≤ n → (is_between r from n l || same_leased (Block r n) l) ≡ is_between r from (n + 1) l
-one_between r from n (Block s q) least = grind (arith, nat_tests, least)
-one_between r from n _ least = refl
+one_between r from n l least = grind (arith, nat_tests)
 
 pub ends_none : (r from row : ℕ) (ts : List Lent) → map (ended_where (is_between r from from) row) ts ≡ ts
 ends_none r from row ts = none_over (is_between r from from) row ts (none_between r from)
 
 pub ends_one : (r from n row : ℕ) (ts : List Lent) → from ≤ n →
     map (ended_where (same_leased (Block r n)) row) (map (ended_where (is_between r from n) row) ts) ≡ map (ended_where (is_between r from (n + 1)) row) ts
-ends_one r from n row ts least = search (rules, all_twice, over_alike, one_between)
+ends_one r from n row ts least = search (rules, all_twice, one_between)
 
 module _ (h : Header) (headed : IsHeader h) (k : Known) (q : Ring) (found : ring_with h q.id ≡ Some q) (transfer : is_transfer_kind q.shape.kind ≡ true)
     (ts : List Lent) (opened : AreOpen h k ts) (row : ℕ) where
@@ -73,25 +59,11 @@ module _ (h : Header) (headed : IsHeader h) (k : Known) (q : Ring) (found : ring
 rising : (r : ℕ) (f : ℕ → Bool) (a n : ℕ) → in_turn (map (Block r) (filter f (range_with_len a n))) ≡ map (Block r) (filter f (range_with_len a n))
 unfolding in_turn with_leased precedes comes_before as_lease
 rising r f a zero = refl
-rising r f a (suc n) =
-    let rest : List Leased = map (Block r) (filter f (range_with_len (a + 1) n)) in
-    elim (cases_Bool (f a)) [
-      | inl passes ↦
-          rw passes
-          (ap (with_leased (Block r a)) (rising r f (a + 1) n)
-          ∙ with_first (Block r a) [] rest (λ m at. later (filter f (range_with_len (a + 1) n)) (λ p there. from_range (a + 1) n p (from_filter f (range_with_len (a + 1) n) p there).0) m at)
-          ∙ alone rest)
-      | inr fails ↦ rw fails (rising r f (a + 1) n)
-    ]
+rising r f a (suc n) = grind (arith, cases_Bool (f a), rising r f (a + 1) n, with_first (Block r a) [] (map (Block r) (filter f (range_with_len (a + 1) n))) later)
   where
-    alone : (xs : List Leased) → with_leased (Block r a) [] ++ xs ≡ Block r a ∷ xs
-    alone xs = refl
-
-    above : (p : ℕ) → a + 1 ≤ p → precedes (Block r a) (Block r p) ≡ true
-    above p low = grind (arith, nat_tests, low)
-
-    later : (ps : List ℕ) → ((p : ℕ) → IsIn p ps → (a + 1 ≤ p) × (p < a + 1 + n)) → (m : Leased) → IsIn m (map (Block r) ps) → precedes (Block r a) m ≡ true
-    later ps bounds m at = let found = from_map (Block r) ps m at in ap (precedes (Block r a)) found.2 ∙ above found.0 (bounds found.0 found.1).0
+    later : (m : Leased) → IsIn m (map (Block r) (filter f (range_with_len (a + 1) n))) → precedes (Block r a) m ≡ true
+    later m at = let found = from_map (Block r) (filter f (range_with_len (a + 1) n)) m at in
+        let low = (from_range (a + 1) n found.0 (from_filter f (range_with_len (a + 1) n) found.0 found.1).0).0 in ap (precedes (Block r a)) found.2 ∙ grind (arith, nat_tests, low)
 
 -- those before an index are less
 in_get : (xs : List ℕ) (i : ℕ) → i < length xs → IsIn (get_or xs i 0) xs
@@ -117,9 +89,7 @@ less_before f a (suc n) i low u at = by (f a) i low at (less_before f (a + 1) n)
 free_still : (h : Header) (row : ℕ) (ts : List Lent) (l : Leased) (us : List Leased) → is_place_free h ts l ≡ true → ((u : Leased) → IsIn u us → share_a_place h l u ≡ false) →
     is_place_free h (with_begun row ts us) l ≡ true
 unfolding is_place_free with_begun begun_at
-free_still h row ts l us free apart =
-    let test : Lent → Bool = λ t. is_unended t && share_a_place h l t.leased in
-    ap not (list_any-append test ts (map (begun_at row) us) ∙ (λ j. not-true (list_any test ts) free j || none us apart j))
+free_still h row ts l us free apart = search (rules, list_any-append, not-true, none)
   where
     none : (us : List Leased) → ((u : Leased) → IsIn u us → share_a_place h l u ≡ false) → list_any (λ t. is_unended t && share_a_place h l t.leased) (map (begun_at row) us) ≡ false
     none [] apart = refl
@@ -142,14 +112,11 @@ module _ (h : Header) (k : Known) (ts : List Lent) (q : Ring) (ps : List ℕ) (x
   pub restored_lent : passed_on (open_leases h k) (open_leases h (on_ring h k id Restores)) row ts ≡ with_begun row ts (map (Block id) ps)
   unfolding unrestored due_positions
   restored_lent =
-      let before : List Leased = open_leases h k in
-      let after : List Leased = open_leases h (on_ring h k id Restores) in
-      let freed : Leased → Bool = is_freed (k.ring id).free id in
-      let kept : (l : Leased) → is_among before l ≡ (is_among after l && not (freed l)) =
-      λ l. ap (λ ms. is_among ms l) (restored_open h k id (not_command h q x.found x.transfer x.headed)) ∙ among_filtered (λ m. not (freed m)) after l in
-      only_begins before after row ts x.opened (λ l at. (and_parts (is_among after l) (not (freed l)) (sym (kept l) ∙ at)).0)
-      ∙ ap (λ ls. with_begun row ts (in_turn ls))
-      (filter_alike (λ l. not (is_among before l)) freed after (λ l at. either_way (is_among before l) (is_among after l) (freed l) (kept l) (in_among after l at))
+      let kept : (l : Leased) → is_among (open_leases h k) l ≡ (is_among (open_leases h (on_ring h k id Restores)) l && not (is_freed (k.ring id).free id l)) = λ l. rw
+      (restored_open h k id (not_command h q x.found x.transfer x.headed)) (among_filtered (λ m. not (is_freed (k.ring id).free id m)) (open_leases h (on_ring h k id Restores)) l) in
+      only_begins (open_leases h k) (open_leases h (on_ring h k id Restores)) row ts x.opened (search (rules, kept, and_parts))
+      ∙ ap (λ ls. with_begun row ts (in_turn ls)) (filter_alike (λ l. not (is_among (open_leases h k) l)) (is_freed (k.ring id).free id) (open_leases h (on_ring h k id Restores))
+      (search (rules, either_way, kept, in_among))
       ∙ freed_are h x.headed k q (among h q x.found x.transfer) (driver h q x.found x.transfer) x.freed_given)
       ∙ ap (with_begun row ts) (rising id (k.ring id).free (floor_number (k.ring id)) (place_count q.shape) ∙ ap (map (Block id)) (sym x.positions))
 
@@ -158,33 +125,29 @@ module _ (h : Header) (k : Known) (ts : List Lent) (q : Ring) (ps : List ℕ) (x
     abbrev p : ℕ
     p = get_or ps i 0
 
-    standing : IsIn p (filter (k.ring id).free (due_positions q.shape (k.ring id)))
-    unfolding unrestored
-    standing = subst (IsIn p) x.positions (in_get ps i low)
-
     within : (u : ℕ) → IsIn u ps → (floor_number (k.ring id) ≤ u) × (u < floor_number (k.ring id) + place_count q.shape) × ((k.ring id).free u ≡ true)
     unfolding unrestored due_positions
     within u at = search (rules, from_filter, due_positions, from_range)
 
     from_take : (xs : List ℕ) (n : ℕ) (u : ℕ) → IsIn u (take n xs) → IsIn u xs
-    from_take [] zero u at = at
+    from_take (y ∷ xs) (suc n) u at = grind (arith, from_take xs n u)
+    from_take xs zero u at = search rules
     from_take [] (suc n) u at = at
-    from_take (y ∷ xs) zero u at = absurd at
-    from_take (y ∷ xs) (suc n) u at = elim at [ inl here ↦ inl here | inr later ↦ inr (from_take xs n u later) ]
-
-    less : (u : ℕ) → IsIn u (take i ps) → u < p
-    unfolding unrestored due_positions
-    less u at = search (rules, unrestored, less_before)
 
     no_share : (u : ℕ) → IsIn u (take i ps) → share_a_place h (Block id p) (Block id u) ≡ false
-    no_share u at = false_unless (id == id && p % place_count (shape_of h id) == u % place_count (shape_of h id)) (λ shares.
-        let shaped = shape_there h x.headed q (among h q x.found x.transfer) in
-        let here = within p (in_get ps i low) in
-        let there = within u (from_take ps i u at) in
-        let rests : p % place_count q.shape ≡ u % place_count q.shape = search (rules, eqb-true, and_parts, shape_of) in
-        let same : p ≡ u = same_due (floor_number (k.ring id)) (place_count q.shape) p u (omega (arith, here.0, here.1)) here.0 here.1 there.0 there.1 rests in
-        let less_than : u < p = less u at in
-        omega (arith, same, less_than))
+    unfolding unrestored due_positions
+    no_share u at = grind (
+      arith,
+      false_unless (id == id && p % place_count (shape_of h id) == u % place_count (shape_of h id)),
+      shape_there h x.headed q (among h q x.found x.transfer),
+      within p (in_get ps i low),
+      within u (from_take ps i u at),
+      eqb-true,
+      and_parts,
+      same_due (floor_number (k.ring id)) (place_count q.shape) p u,
+      unrestored,
+      less_before,
+    )
 
     none_shares : (us : List ℕ) → ((u : ℕ) → IsIn u us → share_a_place h (Block id p) (Block id u) ≡ false) → (m : Leased) → IsIn m (map (Block id) us) → share_a_place h (Block id p) m ≡ false
     none_shares us all m at = let found = from_map (Block id) us m at in ap (share_a_place h (Block id p)) found.2 ∙ all found.0 found.1
@@ -193,6 +156,4 @@ module _ (h : Header) (k : Known) (ts : List Lent) (q : Ring) (ps : List ℕ) (x
     next_free = search (rules, within, in_get, free_still, unlent_free, are_shaped, in_drivers, none_shares, no_share, false≢true)
 
     pub next_begun : with_begun row (with_begun row ts (map (Block id) (take i ps))) (Block id p ∷ []) ≡ with_begun row ts (map (Block id) (take (i + 1) ps))
-    next_begun =
-        begun_twice row ts (map (Block id) (take i ps)) (Block id p ∷ [])
-        ∙ ap (with_begun row ts) (sym (map_append (Block id) (take i ps) (p ∷ [])) ∙ ap (map (Block id)) (sym (take_more ps i 0 low)))
+    next_begun = begun_twice row ts (map (Block id) (take i ps)) (Block id p ∷ []) ∙ rw (take_more ps i 0 low, map_append) refl

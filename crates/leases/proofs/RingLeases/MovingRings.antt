@@ -1,15 +1,8 @@
 -- A write that gives a Set TR Dequeue restores the ring that it moves, and begins the lease of its own block. The log is told of both in the order
 -- of their rings' IDs, as of what begins at one row
-use Rattle.leases.proofs.BaseWords.{◌≡◌, ◌≢◌, ◌+◌, ◌<◌, ◌≤◌, ◌==◌, ◌&&◌, ◌++◌, ◌∷◌, ◌∙◌, ℕ, Bool, true, false, not, List, [], Option, Some, None, filter, map, option_and_then, slice_get, arith, refl, sym, ap, subst, inl, inr, append-nil, eqb-true, and_parts, false≢true, not-true, or_left, nat_tests, range_with_len, cases_eq, none-some, IsIn, Header, IsHeader, Ring, Known, RingView, changed, on_ring, learned, Write, driver_rings, is_driver_kind, open_leases, shape_of, command_id, positions_given, crossings_given, due_positions, place_count, floor_number, is_inside, address_of, link_address, gives_is, gives_crossing_is, address_inside, link_address_inside, position_given_is, gives, gives_crossing, is_crossing, Command, SetTrDequeue, command_given, command_at, command_of, with_device, with_word, written, taken_device, given_of, given_by, range_of_command, range_of_context, from_filter, DriverKeeps, IsDriverRing, due_has_ring, contains_first, and_then_parts, ring_elsewhere, ring_shape, not_in_both, unrestored, Restores, due_crossings, Shape, IsShape, Gives, GivesCrossing, gives_one, data_not_link, Given, Position, Crossing, as_lease, comes_before, without_end, Leased, Block, Link, AreOpen, Lent, in_turn, is_place_free, newly_open, passed_on, precedes, with_begun, with_leased, FreeWasGiven, all_from_one, find_some, shape_allowed, shape_there, together, Apart, IsAmong, restored, restored_on, ring_moved, ring_restored, is_freed, MovesRing, rules}
+use Rattle.leases.proofs.UpperLaws.{◌≡◌, ◌≢◌, ◌+◌, ◌<◌, ◌≤◌, ◌==◌, ◌&&◌, ◌∷◌, ◌∙◌, ℕ, Bool, true, false, not, List, [], Some, None, filter, map, option_and_then, slice_get, arith, refl, sym, ap, inl, append-nil, eqb-true, and_parts, false≢true, not-true, or_left, nat_tests, none-some, IsIn, Header, IsHeader, Ring, Known, changed, on_ring, learned, Write, driver_rings, is_driver_kind, open_leases, shape_of, command_id, positions_given, crossings_given, due_positions, place_count, floor_number, is_inside, address_of, link_address, gives_is, gives_crossing_is, address_inside, link_address_inside, position_given_is, gives, gives_crossing, is_crossing, SetTrDequeue, command_given, command_at, with_device, with_word, written, taken_device, given_of, given_by, range_of_command, range_of_context, from_filter, DriverKeeps, IsDriverRing, due_has_ring, contains_first, and_then_parts, ring_elsewhere, ring_shape, unrestored, Restores, due_crossings, IsShape, GivesCrossing, gives_one, data_not_link, Given, Position, Crossing, as_lease, comes_before, without_end, Leased, Block, AreOpen, Lent, in_turn, is_place_free, newly_open, passed_on, precedes, with_begun, with_leased, FreeWasGiven, all_from_one, find_some, shape_allowed, shape_there, together, Apart, IsAmong, restored, restored_on, ring_moved, ring_restored, is_freed, MovesRing, rules, from_map, from_range, in_either, IsOpen, passed_open, lease_given, block_free, freed_are, restored_open, IsBefore, there_both, newly_own, only_begins, restored_first, restored_last, are_shaped, RingView, range_with_len, command_of}
 use Rattle.safety.proofs.DriverRows.{ring_here}
 use Rattle.leases.proofs.LeaseBooks.GivingCommands.{all_kept, contexts_given, new_leases, none_at}
-use Rattle.leases.proofs.LeaseBooks.Members.{from_flat_map, from_map, from_range, in_either}
-use Rattle.leases.proofs.LeaseBooks.Rows.{IsOpen, passed_open}
-use Rattle.leases.proofs.LeaseBooks.Writing.{lease_given}
-use Rattle.leases.proofs.LeaseBooks.FreePlaces.{block_free}
-use Rattle.leases.proofs.RingLeases.OpenFree.{freed_are, restored_open}
-use Rattle.leases.proofs.RingLeases.TwoSteps.{IsBefore, L_in_U as there_both, newly_own, only_begins, restored_first, restored_last}
-use Rattle.leases.proofs.LeaseRows.OtherRows.{are_shaped}
 use Rattle.leases.proofs.LeaseRows.TransferRows.{driver_there}
 use Rattle.leases.proofs.RingLeases.LentFree.{among, driver, driver_in, in_drivers, not_command}
 
@@ -39,14 +32,9 @@ pub record Moves (h : Header) (k : Known) (r a w : ℕ) : Type 0 where
   pub cycle : Bool
   pub given : command_given h k a w ≡ Some (SetTrDequeue slot index pointer cycle)
 
-moves_by : (h : Header) (k : Known) (r a w : ℕ) (o : Option Command) → command_given h k a w ≡ o → ring_moved k o ≡ Some r → Moves h k r a w
-unfolding ring_moved
-moves_by h k r a w None given at = absurd (none-some r at)
-moves_by h k r a w _ given at = search (rules, none-some)
-
 moves_is : (h : Header) (k : Known) (r a w : ℕ) → ring_restored h k (Write a w) ≡ Some r → Moves h k r a w
-unfolding ring_restored
-moves_is h k r a w at = moves_by h k r a w (command_given h k a w) refl at
+unfolding ring_restored ring_moved
+moves_is h k r a w at = search (rules, none-some)
 
 -- such a write takes no device context
 only_word : (h : Header) (k : Known) (r a w : ℕ) → Moves h k r a w → learned h k (Write a w) ≡ with_word h k a w
@@ -63,7 +51,6 @@ module _ (h : Header) (headed : IsHeader h) (k : Known) (freed : FreeWasGiven h 
   -- the position that it gives
   pub record GivesHere : Type 0 where
     pub position : ℕ
-    pub contained : slice_get (positions_given (shape_of h c) (k.ring c) a w) 0 ≡ Some position
     pub gives : gives (shape_of h c) (k.ring c).floor position a w ≡ true
     pub command : command_at h k position ≡ Some (SetTrDequeue m.slot m.index m.pointer m.cycle)
     pub ring : IsDriverRing h c
@@ -82,23 +69,9 @@ module _ (h : Header) (headed : IsHeader h) (k : Known) (freed : FreeWasGiven h 
   inside : is_inside (shape_of h c) a ≡ true
   inside = ap (λ x. is_inside (shape_of h c) x) gives_here.at ∙ address_inside (shape_of h c) (shape_is c gives_here.ring) gives_here.position 12 (omega arith)
 
-  -- no other ring has the word
-  at_command : (q : ℕ) → IsDriverRing h q → is_inside (shape_of h q) a ≡ true → q ≡ c
-  at_command q d here = elim (cases_eq q c) [
-    | inl same ↦ same
-    | inr away ↦ absurd (not_in_both h headed q c d gives_here.ring away a here inside)
-  ]
-
-  -- so the write gives a block of the command ring, and no Link
-  record GivenAt (q : ℕ) (g : Given) : Type 0 where
-    pub there : q ≡ c
-    pub position : ℕ
-    pub is : g ≡ Position q position
-
-  no_link : (q x : ℕ) → IsDriverRing h q → q ≡ c → is_crossing (shape_of h q) x ≡ true → a ≡ link_address (shape_of h q) x + 12 → ⊥
-  no_link q x d same crossing at =
-      let here : a ≡ address_of (shape_of h q) gives_here.position + 12 = gives_here.at ∙ ap (λ n. address_of (shape_of h n) gives_here.position + 12) (sym same) in
-      data_not_link (shape_of h q) (shape_is q d) gives_here.position x crossing (omega (arith, here, at))
+  -- so it is of no Link
+  no_link : (x : ℕ) → is_crossing (shape_of h c) x ≡ true → a ≡ link_address (shape_of h c) x + 12 → ⊥
+  no_link x crossing at = data_not_link (shape_of h c) (shape_is c gives_here.ring) gives_here.position x crossing (omega (arith, gives_here.at, at))
 
   abbrev gives_new : ℕ → ℕ → Bool
   gives_new q p = not ((k.ring q).given p) && gives (shape_of h q) (k.ring q).floor p a w
@@ -106,67 +79,38 @@ module _ (h : Header) (headed : IsHeader h) (k : Known) (freed : FreeWasGiven h 
   abbrev crosses_new : ℕ → ℕ → Bool
   crosses_new q x = not ((k.ring q).crossed x) && gives_crossing (shape_of h q) (k.ring q).floor x a w
 
-  new_position : (q p : ℕ) → gives_new q p ≡ true → Gives (shape_of h q) (k.ring q).floor p a w
-  new_position q p new = gives_is (shape_of h q) (k.ring q).floor p a w (and_parts (not ((k.ring q).given p)) (gives (shape_of h q) (k.ring q).floor p a w) new).1
+  position_inside : (q p : ℕ) → IsShape (shape_of h q) → gives_new q p ≡ true → is_inside (shape_of h q) a ≡ true
+  position_inside q p is new = rw ((gives_is (shape_of h q) (k.ring q).floor p a w (and_parts (not ((k.ring q).given p)) _ new).1).at) (address_inside (shape_of h q) is p 12 (omega arith))
 
   new_crossing : (q x : ℕ) → crosses_new q x ≡ true → GivesCrossing (shape_of h q) (k.ring q).floor x a w
   new_crossing q x new = gives_crossing_is (shape_of h q) (k.ring q).floor x a w (and_parts (not ((k.ring q).crossed x)) (gives_crossing (shape_of h q) (k.ring q).floor x a w) new).1
 
+  crossing_inside : (q x : ℕ) → IsShape (shape_of h q) → crosses_new q x ≡ true → is_inside (shape_of h q) a ≡ true
+  crossing_inside q x is new = ap (λ y. is_inside (shape_of h q) y) (new_crossing q x new).at ∙ link_address_inside (shape_of h q) is x 12 (new_crossing q x new).due.crossing (omega arith)
+
   -- the word is one of the ring
-  data OfRing (q : ℕ) : Given → Type 0 where
-    at_position : (p : ℕ) → a ≡ address_of (shape_of h q) p + 12 → OfRing q (Position q p)
-    at_crossing : (x : ℕ) → is_crossing (shape_of h q) x ≡ true → a ≡ link_address (shape_of h q) x + 12 → OfRing q (Crossing q x)
-
-  given_of_ring : (q : ℕ) (g : Given) → IsIn g (given_of h k a w q) → OfRing q g
+  given_inside : (q : ℕ) → IsShape (shape_of h q) → (g : Given) → IsIn g (given_of h k a w q) → is_inside (shape_of h q) a ≡ true
   unfolding given_of positions_given crossings_given
-  given_of_ring q g at =
-      let v : RingView = k.ring q in
-      let s : Shape = shape_of h q in
-      elim (in_either g (map (Position q) (filter (gives_new q) (due_positions s v))) (map (Crossing q) (filter (crosses_new q) (due_crossings s v))) at) [
-        | inl left ↦
-            let found = from_map (Position q) (filter (gives_new q) (due_positions s v)) g left in
-            subst (OfRing q) (sym found.2) (at_position found.0 (new_position q found.0 (from_filter (gives_new q) (due_positions s v) found.0 found.1).1).at)
-        | inr right ↦
-            let found = from_map (Crossing q) (filter (crosses_new q) (due_crossings s v)) g right in
-            let writes = new_crossing q found.0 (from_filter (crosses_new q) (due_crossings s v) found.0 found.1).1 in
-            subst (OfRing q) (sym found.2) (at_crossing found.0 writes.due.crossing writes.at)
-      ]
-
-  given_inside : (q : ℕ) → IsShape (shape_of h q) → (g : Given) → OfRing q g → is_inside (shape_of h q) a ≡ true
-  given_inside q is _ (at_position p at) = ap (λ x. is_inside (shape_of h q) x) at ∙ address_inside (shape_of h q) is p 12 (omega arith)
-  given_inside q is _ (at_crossing x crossing at) = ap (λ y. is_inside (shape_of h q) y) at ∙ link_address_inside (shape_of h q) is x 12 crossing (omega arith)
-
-  given_at : (q : ℕ) → IsDriverRing h q → (g : Given) → OfRing q g → GivenAt q g
-  given_at q d _ (at_position p at) = record { there = at_command q d (given_inside q (shape_is q d) (Position q p) (at_position p at)); position = p; is = refl }
-  given_at q d _ (at_crossing x crossing at) = absurd (no_link q x d (at_command q d (given_inside q (shape_is q d) (Crossing q x) (at_crossing x crossing at))) crossing at)
+  given_inside q is g at = grind (
+    arith,
+    in_either g (map (Position q) (filter (gives_new q) (due_positions (shape_of h q) (k.ring q))))
+        (map (Crossing q) (filter (crosses_new q) (due_crossings (shape_of h q) (k.ring q)))) at,
+    from_map (Position q) (filter (gives_new q) (due_positions (shape_of h q) (k.ring q))) g,
+    from_map (Crossing q) (filter (crosses_new q) (due_crossings (shape_of h q) (k.ring q))) g,
+    from_filter,
+    position_inside q,
+    crossing_inside q,
+  )
 
   -- its command names no input context
   contexts_none : contexts_given h k a w ≡ []
   unfolding positions_given range_of_command range_of_context
-  contexts_none = none_at (λ p. range_of_command h p (command_at h k p)) (filter (gives_new c) (due_positions (shape_of h c) (k.ring c))) (λ p at. no_context p (from_filter (gives_new c) (due_positions (shape_of h c) (k.ring c)) p at).1)
-    where
-      no_context : (p : ℕ) → gives_new c p ≡ true → range_of_command h p (command_at h k p) ≡ []
-      no_context p new =
-          let here = gives_here in
-          let same : p ≡ here.position =
-          gives_one (shape_of h c) (shape_is c here.ring) (k.ring c).floor a w p here.position (and_parts (not ((k.ring c).given p)) (gives (shape_of h c) (k.ring c).floor p a w) new).1 here.gives in
-          ap (λ x. range_of_command h x (command_at h k x)) same ∙ ap (range_of_command h here.position) here.command
+  contexts_none = none_at (λ p. range_of_command h p (command_at h k p)) (filter (gives_new c) (due_positions (shape_of h c) (k.ring c)))
+      (λ p at. grind (arith, and_parts, from_filter (gives_new c) (due_positions (shape_of h c) (k.ring c)) p at, gives_one (shape_of h c) (shape_is c gives_here.ring) (k.ring c).floor a w p gives_here.position, gives_here))
 
   own_are : newly_open (open_leases h k) (open_leases h step) ≡ map lease_given (given_by h k a w)
   unfolding with_device
-  own_are =
-      new_leases h (are_shaped h headed) k freed a w None tt
-      ∙ ap (λ xs. map lease_given (given_by h k a w) ++ (xs ++ [] ++ [])) contexts_none
-      ∙ append-nil (map lease_given (given_by h k a w))
-
-  -- what the row's own step begins
-  own : (l : Leased) → IsIn l (newly_open (open_leases h k) (open_leases h step)) → (p : ℕ) × (l ≡ Block c p)
-  unfolding given_by
-  own l at =
-      let found = from_map lease_given (given_by h k a w) l (subst (IsIn l) own_are at) in
-      let on = from_flat_map (λ q. given_of h k a w q.id) (driver_rings h) found.0 found.1 in
-      let given = given_at on.0.id (driver_there h headed on.0 on.1) found.0 (given_of_ring on.0.id found.0 on.2) in
-      (given.position, found.2 ∙ ap lease_given given.is ∙ ap (λ i. Block i given.position) given.there)
+  own_are = search (rules, new_leases h (are_shaped h headed) k freed a w None tt, contexts_none, append-nil)
 
   own_stays : (l : Leased) → IsOpen (open_leases h k) l → IsOpen (open_leases h step) l
   unfolding with_device
@@ -185,39 +129,30 @@ module _ (h : Header) (headed : IsHeader h) (k : Known) (freed : FreeWasGiven h 
     elsewhere_none : (q : Ring) → IsAmong q h.rings → Apart command q → given_of h k a w q.id ≡ []
     elsewhere_none q at apart =
         let shaped = shape_there h headed q at in
-        empty_if (given_of h k a w q.id) (λ g there.
-        apart.memory a (ap (λ s. is_inside s a) (sym shape_here) ∙ inside)
-        (ap (λ s. is_inside s a) (sym shaped) ∙ given_inside q.id (subst IsShape (sym shaped) (shape_allowed h headed q at)) g (given_of_ring q.id g there)))
+        empty_if (given_of h k a w q.id) (λ g there. apart.memory a (rw (← shape_here) inside) (rw (← shaped) (given_inside q.id (rw shaped (shape_allowed h headed q at)) g there)))
 
     crossings_none : crossings_given (shape_of h c) (k.ring c) a w ≡ []
     unfolding crossings_given
-    crossings_none = empty_if (filter (crosses_new c) (due_crossings (shape_of h c) (k.ring c))) (λ x there.
-        let writes = new_crossing c x (from_filter (crosses_new c) (due_crossings (shape_of h c) (k.ring c)) x there).1 in
-        no_link c x gives_here.ring refl writes.due.crossing writes.at)
+    crossings_none = empty_if (filter (crosses_new c) (due_crossings (shape_of h c) (k.ring c))) (search (rules, from_filter, new_crossing c, no_link))
 
     commanded : given_of h k a w command.id ≡ Position c p ∷ []
     unfolding given_of
-    commanded = ap (λ i. map (Position i) (positions_given (shape_of h i) (k.ring i) a w) ++ map (Crossing i) (crossings_given (shape_of h i) (k.ring i) a w)) is ∙ rw (gives_p, crossings_none) refl
+    commanded = rw is (rw (gives_p, crossings_none) refl)
 
     pub own_one : newly_open (open_leases h k) (open_leases h step) ≡ Block c p ∷ []
     unfolding given_by driver_rings
-    own_one =
-        own_are
-        ∙ ap (map lease_given)
-        (all_from_one (λ q. given_of h k a w q.id) h.rings (together h headed) command among driver (λ q at apart. elsewhere_none q at apart)
+    own_one = own_are ∙ ap (map lease_given) (all_from_one (λ q. given_of h k a w q.id) h.rings (together h headed) command among driver elsewhere_none
         ∙ append-nil (given_of h k a w command.id) ∙ commanded)
 
 -- ---- the order of what begins
 
 before_own : (f : ℕ → Bool) (r c p : ℕ) → r < c → (l m : Leased) → is_freed f r l ≡ true → m ≡ Block c p → IsBefore l m
 unfolding precedes comes_before as_lease
-before_own f r c p less (Link s x) m here at = absurd (false≢true here)
-before_own f r c p less _ m here at = search (rules, eqb-true, and_parts, nat_tests, false≢true)
+before_own f r c p less l m here at = grind (arith, false≢true, eqb-true, and_parts, nat_tests)
 
 after_own : (f : ℕ → Bool) (r c p : ℕ) → c < r → (l m : Leased) → is_freed f r l ≡ true → m ≡ Block c p → IsBefore m l
 unfolding precedes comes_before as_lease
-after_own f r c p less (Link s x) m here at = absurd (false≢true here)
-after_own f r c p less _ m here at = search (rules, eqb-true, and_parts, nat_tests, false≢true)
+after_own f r c p less l m here at = grind (arith, false≢true, eqb-true, and_parts, nat_tests)
 
 -- ---- the two steps
 
@@ -265,11 +200,7 @@ module _ (h : Header) (k : Known) (ts : List Lent) (command : Ring) (p : ℕ) (q
   -- what is known behind the row
   pub both_is : learned h (restored h k (Write a w)) (Write a w) ≡ both
   unfolding restored_on
-  both_is =
-      let m = moves in
-      ap (λ o. learned h (restored_on h k o) (Write a w)) x.moves
-      ∙ only_word h alone r a w (record { slot = m.slot; index = m.index; pointer = m.pointer; cycle = m.cycle; given = given_alone ∙ m.given })
-      ∙ word_commutes h k r a w
+  both_is = rw x.moves (only_word h alone r a w (search (rules, given_alone, moves)) ∙ word_commutes h k r a w)
 
   pub in_rings : IsAmong command h.rings
   in_rings = (find_some (λ s. s.id == command.id) h.rings command x.commands).0
@@ -300,17 +231,15 @@ module _ (h : Header) (k : Known) (ts : List Lent) (command : Ring) (p : ℕ) (q
     left_U = restored_open h own_step r other ∙ (λ j. filter (λ l. not (same_free j l)) U)
 
     same_freed : filter R L ≡ filter R U
-    same_freed =
-        freed_are h x.headed k q (among h q x.found x.transfer) (driver h q x.found x.transfer) freed_given
-        ∙ ap (map (Block r)) (sym same_left)
+    unfolding with_word unrestored due_positions
+    same_freed = freed_are h x.headed k q (among h q x.found x.transfer) (driver h q x.found x.transfer) freed_given
         ∙ sym (freed_are h x.headed own_step q (among h q x.found x.transfer) (driver h q x.found x.transfer) freed_later)
-        ∙ (λ j. filter (same_free j) U)
 
     stays : (l : Leased) → IsOpen K l → IsOpen S l
     stays = own_stays h x.headed k x.freed r a w moves
 
     own_block : (m : Leased) → IsIn m (newly_open K S) → m ≡ Block (command_id h) p
-    own_block m at = elim (subst (IsIn m) own_begins at) [ inl here ↦ here | inr nowhere ↦ absurd nowhere ]
+    own_block m at = search (rules, own_begins)
 
     one_turn : in_turn (Block (command_id h) p ∷ []) ≡ Block (command_id h) p ∷ []
     unfolding in_turn with_leased
@@ -322,27 +251,31 @@ module _ (h : Header) (k : Known) (ts : List Lent) (command : Ring) (p : ℕ) (q
     -- the ring is restored first where its ID is less
     pub first_restored : r < command_id h → with_begun row (passed_on K L row ts) (Block (command_id h) p ∷ []) ≡ passed_on K U row ts
     first_restored less =
-        ap (with_begun row (passed_on K L row ts)) (sym (ap in_turn (newly_own R K L S U left_L left_U same_freed stays ∙ own_begins) ∙ one_turn))
-        ∙ sym (only_begins L U row (passed_on K L row ts) (passed_open K L row ts early) L_in_U)
-        ∙ restored_first R K L S U left_L left_U same_freed stays row early ts x.opened (λ l m here at. before_own (k.ring r).free r (command_id h) p less l m here (own_block m at))
+        rw (← one_turn, ← own_begins, ← newly_own R K L S U left_L left_U same_freed stays)
+        (sym (only_begins L U row (passed_on K L row ts) (passed_open K L row ts early) L_in_U)
+        ∙ restored_first R K L S U left_L left_U same_freed stays row early ts x.opened (λ l m here at. before_own (k.ring r).free r (command_id h) p less l m here (own_block m at)))
 
     -- else the command's block comes under lease first
     pub own_first : with_begun row ts (Block (command_id h) p ∷ []) ≡ passed_on K S row ts
-    own_first = ap (with_begun row ts) (sym (ap in_turn own_begins ∙ one_turn)) ∙ sym (only_begins K S row ts x.opened stays)
+    own_first = search (rules, own_begins, one_turn, only_begins, stays)
 
     pub last_restored : command_id h < r → passed_on S U row (passed_on K S row ts) ≡ passed_on K U row ts
-    last_restored less =
-        restored_last R K L S U left_L left_U same_freed stays row early ts x.opened (λ l m here at. after_own (k.ring r).free r (command_id h) p less l m here (own_block m at))
+    last_restored less = restored_last R K L S U left_L left_U same_freed stays row early ts x.opened
+        (λ l m here at. after_own (k.ring r).free r (command_id h) p less l m here (own_block m at))
 
     -- the place of the command's block is free
     bounds : (floor_number (k.ring (command_id h)) ≤ p) × (p < floor_number (k.ring (command_id h)) + place_count (shape_of h (command_id h))) × ((k.ring (command_id h)).given p ≡ false)
     unfolding positions_given due_positions
-    bounds =
-        let v : RingView = k.ring (command_id h) in
-        let s : Shape = shape_of h (command_id h) in
-        let new : ℕ → Bool = λ y. not (v.given y) && gives s v.floor y a w in
-        let found = from_filter new (range_with_len (floor_number v) (place_count s)) p (subst (IsIn p) (sym x.gives) (inl refl)) in
-        search (rules, from_range, not-true, and_parts, gives)
+    bounds = search (
+      rules,
+      from_filter (λ y. not ((k.ring (command_id h)).given y) && gives (shape_of h (command_id h)) (k.ring (command_id h)).floor y a w)
+          (range_with_len (floor_number (k.ring (command_id h))) (place_count (shape_of h (command_id h)))) p,
+      x.gives,
+      from_range,
+      not-true,
+      and_parts,
+      gives,
+    )
 
     pub command_free : (m : Known) (us : List Lent) → AreOpen h m us → m.ring (command_id h) ≡ k.ring (command_id h) → is_place_free h us (Block command.id p) ≡ true
     command_free m us opened same = search (rules, command_id, shape_of, shape_there, in_rings, bounds, block_free, are_shaped, driver_in)

@@ -1,15 +1,12 @@
 -- What is open behind a ring that goes, and behind one that comes
-use Rattle.leases.proofs.BaseWords.{not, and_false, ◌≡◌, ◌==◌, ◌&&◌, ◌||◌, ◌++◌, ◌∷◌, ◌∙◌, ℕ, Bool, true, false, List, [], filter, refl, sym, ap, inl, inr, eqb-false, filter-append, cases_Bool, flat_map, Header, IsHeader, Ring, Known, DriverKeeps, IsIn, driver_rings, is_driver_kind, open_leases, open_on, open_ranges, new_ring, leased_is, Leased, Range, is_among, same_leased, IsComing, forgotten, is_bad_free, is_bad_ring, with_ring, without_ring, none_found, bad_same, f_keeps, fresh, no_ring, cleared, cleared_apart, is_of_ring}
-use Rattle.leases.proofs.LeaseBooks.RangesAlone.{IsRange, open_are_ranges}
+use Rattle.leases.proofs.LowerLaws.{arith, not, and_false, ◌≡◌, ◌==◌, ◌&&◌, ◌||◌, ◌++◌, ◌∷◌, ◌∙◌, ℕ, Bool, false, List, [], filter, refl, ap, inl, inr, eqb-false, filter-append, cases_Bool, flat_map, Header, IsHeader, Ring, Known, DriverKeeps, IsIn, driver_rings, is_driver_kind, open_leases, open_on, open_ranges, new_ring, Leased, is_among, same_leased, IsComing, forgotten, is_bad_free, is_bad_ring, with_ring, without_ring, none_found, bad_same, f_keeps, fresh, cleared, cleared_apart, is_of_ring, IsRange, open_are_ranges, ranges_stay, filter_all, keep, one_less, one_more, others}
+use Rattle.safety.proofs.RingChanges.RingRuns.{no_ring}
 use Rattle.safety.proofs.RingChanges.Forgotten as forgets
 use Rattle.safety.proofs.RingChanges.NewRings as new
 use Rattle.safety.proofs.RingChanges.GoneRings as gone
-use Rattle.leases.proofs.RingLeases.RangesStay.{ranges_stay}
-use Rattle.leases.proofs.RingLeases.RingsLeft.{filter_all, keep, one_less, one_more, others}
 
 of_no_ring : (id : ℕ) (l : Leased) → IsRange l → is_of_ring id l ≡ false
-of_no_ring id (Range n a e) is = refl
-of_no_ring id _ is = absurd is
+of_no_ring id l is = grind arith
 
 ranges_kept : (id : ℕ) (ms : List Leased) → ((l : Leased) → IsIn l ms → IsRange l) → filter (others id) ms ≡ ms
 ranges_kept id ms ranges = filter_all (others id) ms (λ l at. ap not (of_no_ring id l (ranges l at)))
@@ -23,8 +20,7 @@ module _ (h : Header) (is : IsHeader h) (k : Known) (d : DriverKeeps h k) where
       let l : Known = record k { ring = cleared id k.ring } in
       let blocks = one_less id h g k l h.rings (λ s apart. cleared_apart id k.ring s (eqb-false s id apart)) in
       let ranges = ranges_stay h (filter (keep id) h.rings) k (cleared id k.ring) (gone.others h is k d id good) in
-      (λ j. blocks j ++ (ranges ∙ sym (ranges_kept id (open_ranges h k) (open_are_ranges h k))) j)
-      ∙ sym (filter-append (others id) (flat_map (open_on h k) (driver_rings h)) (open_ranges h k))
+      grind (arith, ranges_kept, open_ranges, open_are_ranges, filter-append, others, flat_map, open_on, driver_rings)
 
   -- of a ring that comes none is open yet
   pub comes_open : (r : Ring) → IsComing r → is_bad_ring h k r ≡ false → open_leases (with_ring h r) (forgotten k r.id) ≡ open_leases h k
@@ -43,20 +39,12 @@ module _ (h : Header) (is : IsHeader h) (k : Known) (d : DriverKeeps h k) where
 
 -- ---- what is among those that pass a test
 
-either : (s a b : Bool) → (s ≡ true → b ≡ true) → (s || (a && b)) ≡ ((s || a) && b)
-either true a b f = sym (f refl)
-either false a b f = refl
-
-neither : (s a b : Bool) → (s ≡ true → b ≡ false) → (a && b) ≡ ((s || a) && b)
-neither true a b f = rw (f refl) (and_false a)
-neither false a b f = refl
-
 pub among_filtered : (p : Leased → Bool) (xs : List Leased) (l : Leased) → is_among (filter p xs) l ≡ (is_among xs l && p l)
 unfolding is_among
 among_filtered p [] l = refl
 among_filtered p (x ∷ xs) l =
     let rest = among_filtered p xs l in
     elim (cases_Bool (p x)) [
-      | inl kept ↦ rw kept (ap (λ b. same_leased l x || b) rest ∙ either (same_leased l x) (is_among xs l) (p l) (λ same. ap p (leased_is l x same) ∙ kept))
-      | inr out ↦ rw out (rest ∙ neither (same_leased l x) (is_among xs l) (p l) (λ same. ap p (leased_is l x same) ∙ out))
+      | inl kept ↦ rw kept (ap (λ b. same_leased l x || b) rest ∙ (grind arith))
+      | inr out ↦ rw out (rest ∙ (grind (arith, and_false)))
     ]

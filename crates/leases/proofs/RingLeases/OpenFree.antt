@@ -1,12 +1,7 @@
 -- What is open behind a descriptor that is withdrawn: what was, without the blocks of it. And behind a ring that is restored: the blocks of it too
 -- that were free
-use Rattle.leases.proofs.BaseWords.{◌≡◌, ◌≢◌, ◌&&◌, ◌||◌, ◌++◌, ◌∷◌, ◌∙◌, ℕ, Bool, true, false, not, List, [], filter, map, option_and_then, slice_get, refl, sym, ap, inl, inr, append-nil, eq-eqb, ne_eqb, false≢true, filter-append, flat_map, IsIn, Header, IsHeader, Ring, Known, RingView, RingChange, changed, on_ring, driver_rings, is_driver_kind, open_leases, open_on, open_ranges, shape_of, command_id, due_positions, command_of, context_ranges, range_of_command, unfinished_positions, command_at, device_ranges, length_from, unrestored, is_in, Restores, Withdraws, due_crossings, is_handed_over, leased_crossings, leased_positions, ring_elsewhere, Leased, Block, Link, Range, all_from_one, together, Apart, IsAmong, is_freed, is_withdrawn, rules}
+use Rattle.leases.proofs.MiddleLaws.{arith, ◌≡◌, ◌≢◌, ◌&&◌, ◌++◌, ◌∷◌, ◌∙◌, ℕ, Bool, true, false, not, List, [], filter, map, option_and_then, slice_get, refl, sym, ap, inl, append-nil, eq-eqb, ne_eqb, false≢true, filter-append, flat_map, IsIn, Header, IsHeader, Ring, Known, RingView, RingChange, changed, on_ring, driver_rings, is_driver_kind, open_leases, open_on, open_ranges, shape_of, command_id, due_positions, command_of, context_ranges, range_of_command, unfinished_positions, command_at, device_ranges, length_from, unrestored, is_in, Restores, Withdraws, due_crossings, is_handed_over, leased_crossings, leased_positions, ring_elsewhere, Leased, Block, Link, all_from_one, together, Apart, IsAmong, is_freed, is_withdrawn, rules, IsRange, open_are_ranges, entries_kept, flat_alike, filter_flat_map, filter_alike, filter_mapped, filter_twice, filter_all, filter_none}
 use Rattle.safety.proofs.DriverRows.{ring_here}
-use Rattle.leases.proofs.LeaseBooks.RangesAlone.{IsRange, open_are_ranges}
-use Rattle.leases.proofs.LeaseBooks.SameLeases.{entries_kept, flat_alike}
-use Rattle.leases.proofs.LeaseBooks.Writing.{filter_flat_map}
-use Rattle.leases.proofs.RingLeases.Filtered.{filter_alike, filter_mapped, filter_twice}
-use Rattle.leases.proofs.RingLeases.RingsLeft.{filter_all, filter_none}
 
 -- the leases of a ring of which this is known
 abbrev on_view : Ring → RingView → List Leased
@@ -15,18 +10,14 @@ on_view q v = map (Block q.id) (leased_positions q.shape v) ++ map (Link q.id) (
 -- fewer positions are handed over, and all else is the same: the leases of these positions are left out
 module _ (q : Ring) (v w : RingView) (T : Leased → Bool) (crossed : w.crossed ≡ v.crossed) (floor : w.floor ≡ v.floor)
     (handed : (p : ℕ) → is_handed_over w p ≡ (is_handed_over v p && T (Block q.id p))) (links : (c : ℕ) → T (Link q.id c) ≡ true) where
-  fewer_blocks : map (Block q.id) (leased_positions q.shape w) ≡ filter T (map (Block q.id) (leased_positions q.shape v))
-  unfolding leased_positions due_positions
-  fewer_blocks = search (rules, filter_alike, is_handed_over, due_positions, filter_twice, filter_mapped)
-
   same_links : map (Link q.id) (leased_crossings q.shape w) ≡ filter T (map (Link q.id) (leased_crossings q.shape v))
   unfolding leased_crossings due_crossings
-  same_links =
-      rw (crossed, floor)
-      (sym (filter_mapped T (Link q.id) (leased_crossings q.shape v) ∙ ap (map (Link q.id)) (filter_all (λ c. T (Link q.id c)) (leased_crossings q.shape v) (λ c at. links c))))
+  same_links = rw (crossed, floor) (sym (filter_mapped T (Link q.id) (leased_crossings q.shape v)
+      ∙ ap (map (Link q.id)) (filter_all (λ c. T (Link q.id c)) (leased_crossings q.shape v) (λ c at. links c))))
 
   fewer_on : on_view q w ≡ filter T (on_view q v)
-  fewer_on = (λ j. fewer_blocks j ++ same_links j) ∙ sym (filter-append T (map (Block q.id) (leased_positions q.shape v)) (map (Link q.id) (leased_crossings q.shape v)))
+  unfolding leased_positions due_positions
+  fewer_on = search (rules, filter_alike, is_handed_over, due_positions, filter_twice, filter_mapped, same_links, filter-append)
 
 -- ---- a change of one ring that isn't the command ring
 
@@ -64,20 +55,11 @@ module _ (h : Header) (k : Known) (r p : ℕ) (other : r ≢ command_id h) where
   left m = not (is_withdrawn r p n m)
 
   left_ranges : AllRanges left
-  left_ranges (Range m a e) is = refl
-  left_ranges _ is = absurd is
-
-  cut : (g f i : Bool) → (g && not (f || (i && g))) ≡ ((g && not f) && not i)
-  cut false f i = refl
-  cut _ _ _ = search rules
-
-  -- of the ring, and of others
-  view_here : (s : ℕ) → s ≡ r → (on_ring h k r (Withdraws p)).ring s ≡ changed (shape_of h r) (k.ring s) (Withdraws p)
-  view_here s same = ap (λ x. (on_ring h k r (Withdraws p)).ring x) same ∙ ring_here h k r (Withdraws p) ∙ ap (λ x. changed (shape_of h r) (k.ring x) (Withdraws p)) (sym same)
+  left_ranges h1 is = grind arith
 
   left_on : (q : Ring) → open_on h (on_ring h k r (Withdraws p)) q ≡ filter left (open_on h k q)
   unfolding open_on
-  left_on q = search (rules, on_ring, view_here, fewer_on, is_handed_over, cut, is_in, length_from, eq-eqb, ring_elsewhere, ne_eqb, false≢true)
+  left_on q = search (rules, on_ring, ring_here, fewer_on, is_handed_over, is_in, length_from, eq-eqb, ring_elsewhere, ne_eqb, false≢true)
 
   pub withdrawn_open : open_leases h (on_ring h k r (Withdraws p)) ≡ filter left (open_leases h k)
   withdrawn_open = fewer_open h k (on_ring h k r (Withdraws p)) left left_ranges (λ q at. left_on q) (ranges_same h k r (Withdraws p) other)
@@ -96,19 +78,15 @@ module _ (h : Header) (k : Known) (r : ℕ) (other : r ≢ command_id h) where
   unfreed x = not (freed x)
 
   unfreed_ranges : AllRanges unfreed
-  unfreed_ranges (Range x a e) is = refl
-  unfreed_ranges _ is = absurd is
+  unfreed_ranges h1 is = grind arith
 
   restored_here : (s : ℕ) → s ≡ r → m.ring s ≡ changed (shape_of h r) (k.ring s) Restores
-  restored_here s same = ap (λ x. m.ring x) same ∙ ring_here h k r Restores ∙ ap (λ x. changed (shape_of h r) (k.ring x) Restores) (sym same)
-
-  unfreed_on : (q : Ring) → open_on h k q ≡ filter unfreed (open_on h m q)
-  unfolding open_on
-  unfreed_on q = search (rules, restored_here, fewer_on, is_handed_over, eq-eqb, ring_elsewhere, ne_eqb, false≢true)
+  restored_here s same = rw same (ring_here h k r Restores)
 
   -- what is open before is what is open behind it without these
   pub restored_open : open_leases h k ≡ filter unfreed (open_leases h m)
-  restored_open = fewer_open h m k unfreed unfreed_ranges (λ q at. unfreed_on q) (sym (ranges_same h k r Restores other))
+  unfolding open_on
+  restored_open = fewer_open h m k unfreed unfreed_ranges (λ q at. search (rules, restored_here, fewer_on, is_handed_over, eq-eqb, ring_elsewhere, ne_eqb, false≢true)) (sym (ranges_same h k r Restores other))
 
 -- and these are the blocks of what wasn't restored
 module _ (h : Header) (headed : IsHeader h) (k : Known) (q : Ring) (among : IsAmong q h.rings) (driver : is_driver_kind q.shape.kind ≡ true)
@@ -122,41 +100,22 @@ module _ (h : Header) (headed : IsHeader h) (k : Known) (q : Ring) (among : IsAm
   abbrev test : Leased → Bool
   test = is_freed (k.ring r).free r
 
-  none_of : (s : ℕ) → s ≢ r → (v : RingView) (ps cs : List ℕ) → filter test (map (Block s) ps ++ map (Link s) cs) ≡ []
-  none_of s away v ps cs = search (rules, filter-append, filter_mapped, filter_none, ne_eqb)
-
   none_there : (s : Ring) → Apart q s → filter test (open_on h after s) ≡ []
   unfolding open_on
-  none_there s apart = none_of s.id (λ same. apart.ids (sym same)) (after.ring s.id) (leased_positions s.shape (after.ring s.id)) (leased_crossings s.shape (after.ring s.id))
+  none_there s apart = search (rules, filter-append, filter_mapped, filter_none, ne_eqb)
 
   both_tests : (g f : Bool) → (f ≡ true → g ≡ true) → ((g && true) && f) ≡ f
-  both_tests false true e = e refl
-  both_tests _ _ e = refl
-
-  here_are : filter test (open_on h after q) ≡ map (Block r) (unrestored q.shape (k.ring r))
-  unfolding open_on leased_positions due_positions unrestored
-  here_are = search (rules, RingView, changed, shape_of, Restores, ring_here, filter-append, map, Block, leased_positions, Link, leased_crossings, filter_mapped, filter, filter_twice, due_positions, filter_alike, eq-eqb, both_tests, filter_none, append-nil, unrestored)
+  both_tests g f e = grind arith
 
   ranges_none : filter test (open_ranges h after) ≡ []
-  ranges_none = filter_none_of (open_ranges h after) (λ x at. of_range x (open_are_ranges h after x at))
+  ranges_none = empty_filter (open_ranges h after) (λ x at. open_are_ranges h after x at)
     where
-      of_range : (x : Leased) → IsRange x → test x ≡ false
-      of_range (Block s p) is = absurd is
-      of_range (Link s p) is = absurd is
-      of_range (Range n a e) is = refl
-
-      filter_none_of : (xs : List Leased) → ((x : Leased) → IsIn x xs → test x ≡ false) → filter test xs ≡ []
-      filter_none_of [] none = refl
-      filter_none_of (x ∷ xs) none = rw (none x (inl refl)) (filter_none_of xs (λ y at. none y (inr at)))
+      empty_filter : (xs : List Leased) → ((x : Leased) → IsIn x xs → IsRange x) → filter test xs ≡ []
+      empty_filter [] all = refl
+      empty_filter (x ∷ xs) all = grind (arith, all x, empty_filter xs)
 
   pub freed_are : filter test (open_leases h after) ≡ map (Block r) (unrestored q.shape (k.ring r))
-  unfolding open_leases driver_rings
-  freed_are =
-      filter-append test (flat_map (open_on h after) (driver_rings h)) (open_ranges h after)
-      ∙ (λ j. (
-      filter_flat_map test (open_on h after) (driver_rings h)
-      ∙ all_from_one (λ s. filter test (open_on h after s)) h.rings (together h headed) q among driver (λ s at apart. none_there s apart)
-      ∙ append-nil (filter test (open_on h after q))
-      ∙ here_are
-      ) j ++ ranges_none j)
-      ∙ append-nil (map (Block r) (unrestored q.shape (k.ring r)))
+  unfolding open_leases driver_rings open_on leased_positions due_positions unrestored
+  freed_are = filter-append test (flat_map (open_on h after) (driver_rings h)) (open_ranges h after) ∙ rw (ranges_none, append-nil, filter_flat_map test (open_on h after) (driver_rings h))
+      (all_from_one (λ s. filter test (open_on h after s)) h.rings (together h headed) q among driver (λ s at apart. none_there s apart) ∙ append-nil (filter test (open_on h after q))
+      ∙ (search (rules, ring_here, filter-append, filter_mapped, filter_twice, eq-eqb, both_tests, filter_none, append-nil)))

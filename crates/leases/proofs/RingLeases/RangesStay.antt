@@ -1,5 +1,5 @@
 -- With other rings the same ranges are under lease, so long as the event ring and the command ring are the same
-use Rattle.leases.proofs.BaseWords.{rules, ◌≡◌, ◌*◌, ◌++◌, ◌∷◌, ℕ, List, [], map, filter, Option, Some, None, option_and_then, slice_get, refl, ap, fun_ext, flat_map, slots, segment_ranges, table_range, entry_ranges, device_ranges, context_ranges, range_of_command, range_of_context, range_of_device, range_of_entry, entry_of, open_ranges, unfinished_positions, command_at, due_positions, command_of, named_context, Command, Header, Ring, RingView, Known, Erstba, shape_of, command_id, table_bytes, Shape, base_address, EventSegment, Range, SegmentTable, OtherRings}
+use Rattle.leases.proofs.BaseWords.{arith, rules, ◌≡◌, ◌*◌, ◌++◌, ℕ, List, map, filter, Option, option_and_then, slice_get, ap, fun_ext, flat_map, slots, segment_ranges, table_range, entry_ranges, device_ranges, context_ranges, range_of_command, range_of_context, range_of_device, range_of_entry, entry_of, open_ranges, unfinished_positions, command_at, due_positions, command_of, named_context, Command, Header, Ring, RingView, Known, Erstba, shape_of, command_id, table_bytes, Shape, base_address, EventSegment, Range, SegmentTable, OtherRings}
 
 module _ (h : Header) (rings : List Ring) (k : Known) (views : ℕ → RingView) (o : OtherRings h rings k views) where
   abbrev g : Header
@@ -14,40 +14,23 @@ module _ (h : Header) (rings : List Ring) (k : Known) (views : ℕ → RingView)
 
   table_same : (v : Option ℕ) → table_range g v ≡ table_range h v
   unfolding table_range
-  table_same None = refl
-  table_same (Some v) = ap (λ (shape : Shape). Range (table_bytes shape) (base_address v) SegmentTable ∷ []) o.events
-
-  named_same : (p : ℕ) (c : Option ℕ) → range_of_context g p c ≡ range_of_context h p c
-  unfolding range_of_context
-  named_same p None = refl
-  named_same p (Some c) = refl
+  table_same v = grind (arith, Shape, Range, table_bytes, base_address, SegmentTable)
 
   command_same : (p : ℕ) (c : Option Command) → range_of_command g p c ≡ range_of_command h p c
-  unfolding range_of_command
-  command_same p None = refl
-  command_same p (Some c) = named_same p (named_context c)
+  unfolding range_of_command range_of_context
+  command_same p c = grind (arith, named_context)
 
   contexts_same : context_ranges g l ≡ context_ranges h k
   unfolding context_ranges unfinished_positions command_at
   contexts_same = search (rules, flat_map, filter, command_id, due_positions, shape_of, command_same, option_and_then, command_of, slice_get, range_of_command)
 
-  entry_same : (s : ℕ) (d : Option ℕ) → range_of_entry l s d ≡ range_of_entry k s d
-  unfolding range_of_entry entry_of
-  entry_same s None = refl
-  entry_same s (Some d) = refl
-
   entries_same : entry_ranges l ≡ entry_ranges k
-  unfolding entry_ranges
-  entries_same = ap (λ f. flat_map f slots) (fun_ext (λ s. entry_same s (k.device s)))
-
-  device_same : (s : ℕ) (d : Option ℕ) → range_of_device g s d ≡ range_of_device h s d
-  unfolding range_of_device
-  device_same s None = refl
-  device_same s (Some d) = refl
+  unfolding entry_ranges range_of_entry entry_of
+  entries_same = ap (λ f. flat_map f slots) (fun_ext (λ s. grind arith))
 
   devices_same : device_ranges g l ≡ device_ranges h k
-  unfolding device_ranges
-  devices_same = ap (λ f. flat_map f slots) (fun_ext (λ s. device_same s (k.device s)))
+  unfolding device_ranges range_of_device
+  devices_same = ap (λ f. flat_map f slots) (fun_ext (λ s. grind arith))
 
   pub ranges_stay : open_ranges g l ≡ open_ranges h k
   unfolding open_ranges

@@ -1,11 +1,6 @@
 -- What begins at a row that restores a ring and begins leases of its own, told in two steps: what is open before it (K), behind it (L), where the
 -- ring alone is restored (R), and where the row's own step alone is made (S)
-use Rattle.leases.proofs.BaseWords.{◌≡◌, ◌<◌, ◌&&◌, ◌++◌, ◌∷◌, ◌∙◌, ℕ, Bool, true, false, not, List, [], filter, refl, sym, ap, subst, inl, inr, cases_Bool, and_parts, and_from, false≢true, IsIn, from_filter, in_among, in_filter, Leased, is_among, without_end, AllUnended, Lent, in_turn, newly_open, passed_on, precedes, with_begun, with_leased, rules}
-use Rattle.leases.proofs.LeaseBooks.Passing.{none_over}
-use Rattle.leases.proofs.LeaseBooks.Rows.{IsOpen, from_turn, passed_by, passed_open}
-use Rattle.leases.proofs.RingLeases.Filtered.{filter_alike, filter_twice}
-use Rattle.leases.proofs.LeaseRows.TakenRanges.{begun_twice}
-use Rattle.leases.proofs.RingLeases.OpenBehind.{among_filtered}
+use Rattle.leases.proofs.MiddleLaws.{◌≡◌, ◌<◌, ◌&&◌, ◌++◌, ◌∷◌, ◌∙◌, ℕ, Bool, true, false, not, List, [], filter, refl, sym, ap, inl, inr, and_parts, and_from, false≢true, IsIn, from_filter, in_among, in_filter, Leased, is_among, without_end, AllUnended, Lent, in_turn, newly_open, passed_on, precedes, with_begun, with_leased, rules, none_over, IsOpen, from_turn, passed_by, passed_open, filter_alike, filter_twice, begun_twice, among_filtered, arith}
 
 -- ---- lists in turn
 
@@ -36,16 +31,10 @@ turn_parted P (l ∷ ls) before = search (rules, in_turn, filter, not, with_leas
 -- where nothing ends
 pub only_begins : (before after : List Leased) (n : ℕ) (ts : List Lent) → AllUnended (λ i l. IsOpen before l) 0 ts → ((l : Leased) → IsOpen before l → IsOpen after l) →
     passed_on before after n ts ≡ with_begun n ts (in_turn (newly_open before after))
-only_begins before after n ts opened stays =
-    passed_by before after n ts opened (λ l. false) (in_turn (newly_open before after)) stays refl
-    ∙ ap (λ us. with_begun n us (in_turn (newly_open before after))) (none_over (λ l. false) n ts (λ l. refl))
+only_begins before after n ts opened stays = search (rules, passed_by before after n ts opened (λ l. false), none_over)
 
 pub either_way : (a b c : Bool) → a ≡ (b && not c) → b ≡ true → not a ≡ c
-either_way true true false e f = refl
-either_way _ _ _ e f = search (rules, false≢true)
-
-kept_by : (a b : Bool) → b ≡ true → (a && b) ≡ a
-kept_by a b e = search rules
+either_way a b c e f = grind (arith, false≢true)
 
 gone_by : (a b : Bool) → b ≡ true → (a && not b) ≡ false
 gone_by a b e = search rules
@@ -77,8 +66,7 @@ module _ (R : Leased → Bool) (K L S U : List Leased)
 
   -- what is restored is there either way
   restored_there : (l : Leased) → R l ≡ true → is_among L l ≡ is_among U l
-  restored_there l holds =
-      sym (kept_by (is_among L l) (R l) holds) ∙ sym (among_filtered R L l) ∙ ap (λ xs. is_among xs l) same ∙ among_filtered R U l ∙ kept_by (is_among U l) (R l) holds
+  restored_there l holds = grind (arith, among_filtered R L l, among_filtered R U l, same)
 
   K_in_L : (l : Leased) → IsOpen K l → IsOpen L l
   K_in_L l at = (and_parts (is_among L l) (not (R l)) (sym (in_K l) ∙ at)).0
@@ -96,27 +84,16 @@ module _ (R : Leased → Bool) (K L S U : List Leased)
   newly_restored = search (rules, filter_alike, not, is_among, either_way, in_K, in_among, in_S)
 
   restored_part : filter R N ≡ newly_open S U
-  restored_part =
-      filter_twice R (λ l. not (is_among K l)) U
-      ∙ filter_alike (λ l. not (is_among K l) && R l) (λ l. not (is_among S l)) U (λ l at.
-      other_way (is_among K l) (is_among L l) (R l) (in_K l) ∙ sym (either_way (is_among S l) (is_among U l) (R l) (in_S l) (in_among U l at)))
+  restored_part = filter_twice R (λ l. not (is_among K l)) U ∙ filter_alike (λ l. not (is_among K l) && R l) (λ l. not (is_among S l)) U
+      (search (rules, other_way, in_K, either_way, in_S, in_among))
 
   own_part : filter other N ≡ newly_open K S
-  own_part =
-      filter_twice other (λ l. not (is_among K l)) U
-      ∙ filter_alike (λ l. not (is_among K l) && other l) (λ l. other l && not (is_among K l)) U (λ l at. swap (not (is_among K l)) (other l))
-      ∙ sym (filter_twice (λ l. not (is_among K l)) other U)
-      ∙ ap (filter (λ l. not (is_among K l))) (sym with_step)
+  own_part = search (rules, filter_twice, swap, with_step)
 
   -- what the row's own step begins is the same behind the restoring
   pub newly_own : newly_open L U ≡ newly_open K S
-  newly_own =
-      filter_alike (λ l. not (is_among L l)) (λ l. not (is_among K l) && other l) U (λ l at. elim (cases_Bool (R l)) [
-        | inl holds ↦ ap not (restored_there l holds ∙ in_among U l at) ∙ sym (gone_by (not (is_among K l)) (R l) holds)
-        | inr fails ↦ sym (ap (λ b. not b && other l) (in_K l) ∙ mid (is_among L l) (R l) fails)
-      ])
-      ∙ sym (filter_twice other (λ l. not (is_among K l)) U)
-      ∙ own_part
+  newly_own = filter_alike (λ l. not (is_among L l)) (λ l. not (is_among K l) && other l) U (search (rules, restored_there, in_K, in_among, gone_by, mid))
+      ∙ sym (filter_twice other (λ l. not (is_among K l)) U) ∙ own_part
 
   module _ (n : ℕ) (early : n < without_end) (ts : List Lent) (opened : AllUnended (λ i l. IsOpen K l) 0 ts) where
     K_in_U : (l : Leased) → IsOpen K l → IsOpen U l
@@ -128,14 +105,4 @@ module _ (R : Leased → Bool) (K L S U : List Leased)
 
     -- the row's own step is made first, where what it begins stands before what is restored
     pub restored_last : ((l m : Leased) → R l ≡ true → IsIn m (newly_open K S) → IsBefore m l) → passed_on S U n (passed_on K S n ts) ≡ passed_on K U n ts
-    restored_last after =
-        only_begins S U n (passed_on K S n ts) (passed_open K S n ts early) S_in_U
-        ∙ ap (λ us. with_begun n us (in_turn (newly_open S U))) (only_begins K S n ts opened stays)
-        ∙ begun_twice n ts (in_turn (newly_open K S)) (in_turn (newly_open S U))
-        ∙ ap (with_begun n ts) (sym turned)
-        ∙ sym (only_begins K U n ts opened K_in_U)
-      where
-        turned : in_turn N ≡ in_turn (newly_open K S) ++ in_turn (newly_open S U)
-        turned =
-            turn_parted other N (λ m l at fails bt holds. after l m (twice (R l) holds) (subst (IsIn m) own_part (in_filter other N m at fails)))
-            ∙ (λ j. in_turn (own_part j) ++ in_turn ((filter_alike (λ l. not (other l)) R N (λ l at. either_way (not (R l)) true (R l) refl refl) ∙ restored_part) j))
+    restored_last after = search (rules, only_begins, passed_on, passed_open, S_in_U, with_begun, in_turn, newly_open, stays, begun_twice, K_in_U, turn_parted other N, own_part, in_filter, restored_part, twice, either_way, filter_alike (λ l. not (other l)) R N)

@@ -10,13 +10,10 @@ earlier_clean h (x ∷ xs) ys clean = earlier_clean h xs ys clean.0
 left : (rows : List Row) (i : ℕ) (d : Row) → i < length rows → drop i rows ≡ get_or rows i d ∷ drop (i + 1) rows
 left rows i d h = grind (arith, common_steps, h)
 
-turned : (x : Row) (xs ys : List Row) → reverse (x ∷ xs) ++ ys ≡ reverse xs ++ x ∷ ys
-turned x xs ys = grind (arith, common_steps)
-
 split : (rows : List Row) (i : ℕ) (d : Row) → i < length rows → reverse rows ≡ reverse (drop (i + 1) rows) ++ get_or rows i d ∷ reverse (take i rows)
 split rows i d below =
     ap reverse (sym (take-append-drop i rows)) ∙ reverse-append (take i rows) (drop i rows)
-    ∙ ap (λ l. reverse l ++ reverse (take i rows)) (left rows i d below) ∙ turned (get_or rows i d) (drop (i + 1) rows) (reverse (take i rows))
+    ∙ ap (λ l. reverse l ++ reverse (take i rows)) (left rows i d below) ∙ (grind (arith, common_steps))
 
 -- of the rows of a clean trace each breaks no rule
 pub clean_row : (h : Header) (rows : List Row) (i : ℕ) (row d : Row) → IsClean h (reverse rows) → i < length rows → get_or rows i d ≡ row → broken h (known h (reverse (take i rows))) row ≡ []

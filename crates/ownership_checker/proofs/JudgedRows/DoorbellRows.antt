@@ -1,7 +1,5 @@
 -- Which rule a doorbell breaks
-use Rattle.ownership_checker.proofs.Words.{◌≡◌, ℕ, [], ◌∷◌, Bool, true, false, refl, ap, sym, ◌∙◌, if◌then◌else◌, Header, Bell, Known, AfterStop, BadDoorbell, first_of, first_broken, broken_of, older, stricter, broken, lenient_tests, tests, learned, TraceRecord, FollowsTrace, ContextsFit, IsLeast, IsLeastFrom, IsStepFrom, first_broken-is, nothing_broken}
-use Rattle.ownership_rules.specs.Doorbells.{doorbell_tests, is_bad_doorbell}
-use Rattle.ownership_checker.proofs.JudgedRows.Keeping.{contexts_fit}
+use Rattle.ownership_checker.proofs.LowerLaws.{◌≡◌, ℕ, [], ◌∷◌, Bool, true, false, refl, ap, sym, ◌∙◌, if◌then◌else◌, Header, Bell, Known, AfterStop, BadDoorbell, first_of, first_broken, broken_of, older, stricter, broken, lenient_tests, tests, learned, TraceRecord, FollowsTrace, ContextsFit, IsLeast, IsLeastFrom, IsStepFrom, first_broken-is, nothing_broken, doorbell_tests, is_bad_doorbell, contexts_fit}
 
 module _ (h : Header) (k : Known) (on : k.stopped ≡ false) (s t : ℕ) where
   tested : first_of (broken h k (Bell s t)) ≡ first_broken (doorbell_tests h k s t)

@@ -1,28 +1,15 @@
 -- Which rule an event breaks, and what is known behind one that breaks none
-use Rattle.ownership_checker.proofs.Words.{◌≡◌, ℕ, [], ◌∷◌, true, false, refl, ap, sym, ◌∙◌, ◌+◌, subst, ◌||◌, ◌&&◌, ◌==◌, not, if◌then◌else◌, Bool, and_parts, false≢true, or_parts, not-false, Block, cycle, kind, BlockKind, IsHeader, event_shape, Header, Read, Known, learned, event_read, AfterStop, ImpossibleEvent, NotInProfile, first_of, first_broken, broken_of, older, stricter, broken, lenient_tests, tests, DriverKeeps, lenient_row, AllFail, tests_fail, TraceRecord, FollowsTrace, IsLeast, IsRowStep, IsSetUp, first_broken-is, nothing_broken}
-use Rattle.std.specs.Bool.{OnTrue}
-use Rattle.trb.specs.declared.kind.BlockKind.TheVariants.{TransferEvent, CommandCompletion}
-use Rattle.segments.specs.Places.{cycle_of}
-use Rattle.trb.specs.Kind.{is_event, is_transfer_event}
-use Rattle.ring_knowledge.specs.Transfers.{transfer_read}
-use Rattle.ring_knowledge.specs.Completions.{completed}
-use Rattle.ownership_rules.specs.Events.{event_tests, is_impossible, is_impossible_by_kind, is_impossible_completion, is_impossible_transfer, is_in_profile, is_past_room}
-use Rattle.safety.proofs.SameDriver.{event_same}
-use Rattle.event_rows.proofs.TransferEvents.Reports.{left_out as left_out_transfer}
-use Rattle.ownership_checker.proofs.JudgedRows.Keeping.{set_up}
+use Rattle.ownership_checker.proofs.LowerLaws.{◌≡◌, ℕ, [], ◌∷◌, true, false, refl, ap, sym, ◌∙◌, ◌+◌, subst, ◌||◌, ◌&&◌, ◌==◌, not, if◌then◌else◌, Bool, and_parts, false≢true, or_parts, not-false, Block, cycle, kind, IsHeader, event_shape, Header, Read, Known, learned, event_read, AfterStop, ImpossibleEvent, NotInProfile, first_of, first_broken, broken_of, older, stricter, broken, lenient_tests, tests, DriverKeeps, lenient_row, AllFail, tests_fail, TraceRecord, FollowsTrace, IsLeast, IsRowStep, IsSetUp, first_broken-is, nothing_broken, OnTrue, TransferEvent, CommandCompletion, cycle_of, is_event, is_transfer_event, transfer_read, completed, event_tests, is_impossible, is_impossible_by_kind, is_impossible_completion, is_impossible_transfer, is_in_profile, is_past_room, event_same, left_out_transfer, set_up, rules, arith}
 
 not_true : (b : Bool) → not b ≡ true → b ≡ false
-not_true true e = absurd (false≢true e)
-not_true false e = refl
+not_true b e = grind arith
 
 pub not_negated : (b c : Bool) → not b ≡ c → b ≡ not c
-not_negated true c e = ap not e
-not_negated false c e = ap not e
+not_negated b c e = grind arith
 
 -- what is so where a test is passed
 pub on_true : (b : Bool) (P Q : Type 0) → (P → Q) → OnTrue b P → OnTrue b Q
-on_true true P Q leads p = leads p
-on_true false P Q leads p = p
+on_true b P Q leads p = grind arith
 
 pub when_true : (b : Bool) (P : Type 0) → b ≡ true → OnTrue b P → P
 when_true true P is p = p
@@ -63,10 +50,7 @@ module _ (h : Header) (k : Known) (b : Block) where
 
   module _ (placed : is_no_event h k b ≡ false) where
     pub is_started : k.started ≡ true
-    is_started =
-        let first = or_parts (not k.started || is_past_room h k || not (cycle b == cycle_of (event_shape h) k.reads)) (not (is_event (kind b))) placed in
-        let second = or_parts (not k.started || is_past_room h k) (not (cycle b == cycle_of (event_shape h) k.reads)) first.0 in
-        not-false k.started (or_parts (not k.started) (is_past_room h k) second.0).0
+    is_started = grind (arith, placed)
 
     pub by_kind : is_impossible h k b ≡ is_impossible_by_kind h k (kind b) b
     unfolding is_impossible
@@ -82,23 +66,12 @@ module _ (h : Header) (k : Known) (b : Block) where
 
   pub other_possible : (kind b ≡ TransferEvent → ⊥) → (kind b ≡ CommandCompletion → ⊥) → is_impossible_by_kind h k (kind b) b ≡ false
   unfolding is_impossible_by_kind
-  other_possible no_transfer no_completion = neither (kind b) no_transfer no_completion
-    where
-      neither : (n : BlockKind) → (n ≡ TransferEvent → ⊥) → (n ≡ CommandCompletion → ⊥) → is_impossible_by_kind h k n b ≡ false
-      neither TransferEvent no_transfer no_completion = absurd (no_transfer refl)
-      neither CommandCompletion no_transfer no_completion = absurd (no_completion refl)
-      neither _ no_transfer no_completion = refl
+  other_possible no_transfer no_completion = grind arith
 
   -- an event that the profile leaves out is possible by its type
   pub left_out_possible : IsHeader h → DriverKeeps h k → (is_transfer_event (kind b) && not (is_in_profile b)) ≡ true → is_impossible_by_kind h k (kind b) b ≡ false
   unfolding is_impossible_by_kind
-  left_out_possible headed keeps left =
-      let parts = and_parts (is_transfer_event (kind b)) (not (is_in_profile b)) left in
-      transfer (kind b) parts.0 (left_out_transfer h headed k keeps b (not_true (is_in_profile b) parts.1))
-    where
-      transfer : (n : BlockKind) → is_transfer_event n ≡ true → is_impossible_transfer h k b ≡ false → is_impossible_by_kind h k n b ≡ false
-      transfer TransferEvent is may = may
-      transfer _ is may = absurd (false≢true is)
+  left_out_possible headed keeps left = search (rules, and_parts, left_out_transfer, not_true)
 
   pub within_profile : kind b ≡ TransferEvent → (is_transfer_event (kind b) && not (is_in_profile b)) ≡ false → is_in_profile b ≡ true
   within_profile is within = not-false (is_in_profile b) (ap (λ n. is_transfer_event n && not (is_in_profile b)) (sym is) ∙ within)
@@ -110,10 +83,7 @@ module _ (h : Header) (k : Known) (b : Block) where
     parts = or_parts (is_no_event h k b) (is_impossible_by_kind h k (kind b) b) possible
 
     pub in_turn : (cycle b == cycle_of (event_shape h) (event_read h k (kind b) b).reads) ≡ true
-    in_turn =
-        let first = or_parts (not k.started || is_past_room h k || not (cycle b == cycle_of (event_shape h) k.reads)) (not (is_event (kind b))) parts.0 in
-        let second = or_parts (not k.started || is_past_room h k) (not (cycle b == cycle_of (event_shape h) k.reads)) first.0 in
-        ap (λ n. cycle b == cycle_of (event_shape h) n) (event_same h k (kind b) b).reads ∙ not-false (cycle b == cycle_of (event_shape h) k.reads) second.1
+    in_turn = search (rules, or_parts, parts, event_same, not-false)
 
     pub transfer_possible : kind b ≡ TransferEvent → is_impossible_transfer h k b ≡ false
     unfolding is_impossible_by_kind
@@ -135,12 +105,7 @@ module _ (h : Header) (k : Known) (b : Block) where
 
   pub read_other : (kind b ≡ TransferEvent → ⊥) → (kind b ≡ CommandCompletion → ⊥) → k ≡ event_read h k (kind b) b
   unfolding event_read
-  read_other no_transfer no_completion = sym (neither (kind b) no_transfer no_completion)
-    where
-      neither : (n : BlockKind) → (n ≡ TransferEvent → ⊥) → (n ≡ CommandCompletion → ⊥) → event_read h k n b ≡ k
-      neither TransferEvent no_transfer no_completion = absurd (no_transfer refl)
-      neither CommandCompletion no_transfer no_completion = absurd (no_completion refl)
-      neither _ no_transfer no_completion = refl
+  read_other no_transfer no_completion = grind arith
 
 -- an event that breaks no rule is possible and, where it is a Transfer Event, in the profile
 module _ (h : Header) (k : Known) (b : Block) (clean : broken h k (Read b) ≡ []) where
@@ -161,13 +126,11 @@ module _ (h : Header) (headed : IsHeader h) (k : Known) (b : Block) (keeps : Dri
 
   pub noted_transfer : kind b ≡ TransferEvent → (is_in_profile b ≡ true → is_impossible_transfer h k b ≡ false → FollowsTrace h (transfer_read h k b) after m) →
       FollowsTrace h (event_read h k (kind b) b) after m
-  noted_transfer is noted =
-      subst (λ (l : Known). FollowsTrace h l after m) (read_transfer h k b is) (noted (in_profile h k b clean is) (transfer_possible h k b (possible h k b clean) is))
+  noted_transfer is noted = search (rules, read_transfer, in_profile, transfer_possible, possible)
 
   pub noted_completion : kind b ≡ CommandCompletion → (IsSetUp h k → is_impossible_completion h k b ≡ false → FollowsTrace h (completed h k b) after m) →
       FollowsTrace h (event_read h k (kind b) b) after m
-  noted_completion is noted =
-      subst (λ (l : Known). FollowsTrace h l after m) (read_completion h k b is) (noted (set_up h headed k keeps) (completion_possible h k b (possible h k b clean) is))
+  noted_completion is noted = rw (← read_completion h k b is) (noted (set_up h headed k keeps) (completion_possible h k b (possible h k b clean) is))
 
   pub noted_other : (kind b ≡ TransferEvent → ⊥) → (kind b ≡ CommandCompletion → ⊥) → FollowsTrace h k after m → FollowsTrace h (event_read h k (kind b) b) after m
   noted_other no_transfer no_completion noted = subst (λ (l : Known). FollowsTrace h l after m) (read_other h k b no_transfer no_completion) noted

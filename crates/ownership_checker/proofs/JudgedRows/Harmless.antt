@@ -1,6 +1,5 @@
 -- An accepted trace is harmless beside every run of the controller's model
-use Rattle.ownership_checker.proofs.Words.{List, All, reverse, All-weaker, Header, Row, IsHeader, IsRow, FitsLine, AreRows, IsClean, IsHarmless}
-use Rattle.safety.proofs.Headline.{headline}
+use Rattle.ownership_checker.proofs.Words.{List, All, reverse, All-weaker, Header, Row, IsHeader, IsRow, FitsLine, AreRows, IsClean, IsHarmless, headline}
 
 module _ (h : Header) (rows : List Row) (headed : IsHeader h) (fitting : AreRows rows) where
   are_rows : All IsRow rows

@@ -1,8 +1,5 @@
 -- A pass over the rows of a trace: what was checked so far, and what that says of the whole
-use Rattle.ownership_checker.proofs.Words.{◌≡◌, ℕ, ◌+◌, ◌<◌, ◌≤◌, List, [], ◌∷◌, Option, Some, None, refl, ap, sym, ◌∙◌, arith, length, subst, get_or, add-zero, reverse, take, drop, option_map, common_steps, Row, most_lines, Header, IsHeader, Known, nothing, learned, known, Refusal, first_of, broken, verdict_from, first_or, IsClean, without_end, clean_tests, nothing_kept, TraceRecord, StepFault, RowPlace, IsPlaced, FollowsTrace, IsWithin, IfRefused, IsLeast, IsRowStep, IsTracked, IsChecked, IsPass}
-use Rattle.ownership_checker.proofs.JudgedRows.CleanHistories.{lenient_row}
-use Rattle.safety.proofs.DriverHistories.{kept_history}
-use Rattle.trace_record.specs.declared.fault.StepFault.TheVariants.{Refused, Memory}
+use Rattle.ownership_checker.proofs.Words.{rules, ◌≡◌, ℕ, ◌+◌, ◌<◌, ◌≤◌, List, [], ◌∷◌, Option, Some, None, refl, ap, sym, ◌∙◌, arith, length, subst, get_or, add-zero, reverse, take, drop, option_map, common_steps, Row, most_lines, Header, IsHeader, Known, nothing, learned, known, Refusal, first_of, broken, verdict_from, first_or, IsClean, without_end, clean_tests, nothing_kept, TraceRecord, StepFault, RowPlace, IsPlaced, FollowsTrace, IsWithin, IfRefused, IsLeast, IsRowStep, IsTracked, IsChecked, IsPass, lenient_row, kept_history, Refused}
 
 -- one row more: the newest first
 pub one_more : (rows : List Row) (i : ℕ) (d : Row) → i < length rows → reverse (take (i + 1) rows) ≡ get_or rows i d ∷ reverse (take i rows)
@@ -67,8 +64,7 @@ tracked_after h headed past row kept after m o t clean f =
 pub by_place : (h : Header) (kept : TraceRecord) (m : ℕ → ℕ) (row : Row) (place : RowPlace) → ((k : Known) → FollowsTrace h k kept m → IsPlaced h k row place) → (e : StepFault) →
     IfRefused e (λ c. (k : Known) → IsTracked h k kept m → IsPlaced h k row place → IsLeast h k row c) →
     IfRefused e (λ c. (k : Known) → IsTracked h k kept m → IsLeast h k row c)
-by_place h kept m row place places (Refused c) said = λ k t. said k t (places k t.follows)
-by_place h kept m row place places Memory said = said
+by_place h kept m row place places e said = grind arith
 
 -- a trace, row by row
 module _ (h : Header) (rows : List Row) (first : ℕ) where
@@ -76,14 +72,7 @@ module _ (h : Header) (rows : List Row) (first : ℕ) where
   start_checked : (T : Known → Type 0) → T nothing → IsChecked h rows first 0 T
   start_checked T t =
       let start : known h (reverse (take 0 rows)) ≡ nothing = ap (λ xs. known h xs) (none_taken rows) ∙ nothing_first h in
-      record {
-        tracked = subst T (sym start) t;
-        clean = subst (λ (xs : List Row). IsClean h xs) (sym (none_taken rows)) tt;
-        verdict =
-            ap (λ n. verdict_from h nothing n rows) (sym (add-zero first))
-            ∙ ap (λ k. verdict_from h k (first + 0) rows) (sym start)
-            ∙ ap (λ xs. verdict_from h (known h (reverse (take 0 rows))) (first + 0) xs) (sym (none_dropped rows));
-      }
+      search (rules, subst T (sym start) t, subst (λ (xs : List Row). IsClean h xs) (sym (none_taken rows)) tt)
 
   -- one row more
   step_checked : (i : ℕ) (T U : Known → Type 0) (row d : Row) → IsChecked h rows first i T → i < length rows → get_or rows i d ≡ row →
@@ -98,21 +87,8 @@ module _ (h : Header) (rows : List Row) (first : ℕ) where
       record {
         tracked = subst U (sym after) done.1;
         clean = subst (λ (xs : List Row). IsClean h xs) (sym past) (c.clean, done.0);
-        verdict =
-            c.verdict ∙ ap (λ xs. verdict_from h before (first + i) xs) rest
-            ∙ verdict_next h before (first + i) row (drop (i + 1) rows) done.0
-            ∙ ap (λ k. verdict_from h k (first + i + 1) (drop (i + 1) rows)) (sym after)
-            ∙ ap (λ x. verdict_from h (known h (reverse (take (i + 1) rows))) x (drop (i + 1) rows)) next_number;
+        verdict = grind (arith, verdict_next);
       }
-
-  -- the first row that is refused
-  refused_checked : (i : ℕ) (T : Known → Type 0) (row d : Row) (c : Refusal) → IsChecked h rows first i T → i < length rows → get_or rows i d ≡ row →
-      ((k : Known) → T k → IsLeast h k row c) → verdict_from h nothing first rows ≡ Some (first + i, c)
-  refused_checked i T row d c so_far below is_row breaks =
-      let before = known h (reverse (take i rows)) in
-      let rest : drop i rows ≡ row ∷ drop (i + 1) rows = left rows i d below ∙ ap (λ x. x ∷ drop (i + 1) rows) is_row in
-      so_far.verdict ∙ ap (λ xs. verdict_from h before (first + i) xs) rest
-      ∙ verdict_first h before (first + i) row (drop (i + 1) rows) c (breaks before so_far.tracked)
 
   pub started : IsHeader h → (kept : TraceRecord) (m : ℕ → ℕ) → FollowsTrace h nothing kept m → IsWithin kept.events 0 → IsPass h rows first 0 first kept m
   started headed kept m f unread = record {
@@ -138,8 +114,7 @@ module _ (h : Header) (rows : List Row) (first : ℕ) where
       IsPass h rows first i number kept m → i < length rows → get_or rows i d ≡ row →
       IfRefused e (λ x. (k : Known) → IsTracked h k kept m → IsLeast h k row x) → verdict_from h nothing first rows ≡ Some (number, c)
   refused i number kept m row d c e is_refused p below is_row said =
-      refused_checked i (λ k. IsTracked h k kept m) row d c p.checked below is_row
-      (subst (λ (f : StepFault). IfRefused f (λ x. (k : Known) → IsTracked h k kept m → IsLeast h k row x)) is_refused said)
+      (grind (arith, verdict_first, known h (reverse (take i rows)), left rows i d below ∙ ap (λ x. x ∷ drop (i + 1) rows) is_row))
       ∙ ap (λ n. Some (n, c)) (sym p.numbered)
 
   -- behind the last row
@@ -151,6 +126,4 @@ module _ (h : Header) (rows : List Row) (first : ℕ) where
     ended_clean = subst (λ (xs : List Row). IsClean h (reverse xs)) whole p.checked.clean
 
     pub ended_verdict : verdict_from h nothing first rows ≡ None
-    ended_verdict =
-        let before = known h (reverse (take i rows)) in
-        p.checked.verdict ∙ ap (λ xs. verdict_from h before (first + i) xs) (ap (λ n. drop n rows) all ∙ drop_all rows) ∙ verdict_end h before (first + i)
+    ended_verdict = grind (arith, drop_all, verdict_end)

@@ -1,10 +1,8 @@
 -- The one rule for a ring that comes or goes: where it is broken, and where none is
-use Rattle.ownership_checker.proofs.Words.{◌≡◌, ◌∷◌, Bool, true, false, [], Some, refl, if◌then◌else◌, Known, broken_of, first_of, Refusal, AfterStop, broken_alone}
+use Rattle.ownership_checker.proofs.Words.{arith, ◌≡◌, ◌∷◌, Bool, true, false, [], Some, refl, if◌then◌else◌, Known, broken_of, first_of, Refusal, AfterStop, broken_alone}
 
 none_alone : (stopped bad : Bool) (c : Refusal) → (if stopped then AfterStop ∷ [] else broken_of ((c, bad) ∷ [])) ≡ [] → (stopped ≡ false) × (bad ≡ false)
-none_alone true bad c e = cc e
-none_alone false true c e = cc e
-none_alone false false c e = (refl, refl)
+none_alone stopped bad c e = grind arith
 
 module _ (k : Known) (c : Refusal) (bad : Bool) where
   pub breaks_none : broken_alone k (c, bad) ≡ [] → (k.stopped ≡ false) × (bad ≡ false)

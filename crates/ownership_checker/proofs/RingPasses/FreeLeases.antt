@@ -1,19 +1,6 @@
 -- The leases that end where a descriptor is withdrawn, and those that begin where a ring is started or moved, as the log is told of them
-use Rattle.ownership_checker.proofs.Words.{◌≤◌, ◌-◌, ◌≡◌, ◌+◌, ◌<◌, ◌^◌, ◌∷◌, ◌∙◌, ℕ, zero, suc, Bool, true, false, not, List, [], Option, None, Some, slice_get, slice_index, length, arith, refl, ap, sym, subst, or_parts, is_some, Header, IsHeader, Known, Ring, RingView, DriverKeeps, Row, Bell, Write, Command, command_id, none-some, on_ring, open_leases, positions_given, ring_with, same_Some, shape_of, length_from, descriptor_length, unrestored, command_ring, id_or_none, Restores, ring_found, shape_there, among_at, lenient, clean_tests, is_transfer_ring, IsTransferRing, AreOpen, Lent, passed_on, FindsRanges, RangeIndexes, HoldsAll, has_stopped, is_bad_withdraw, restored, restored_on, ring_moved, ring_restored, stopped_still, NamesTransfer, MovesRing}
-use Rattle.std.specs.Option.{SomeIff}
-use Rattle.safety.proofs.Words.{SetTrDequeue, command_given}
+use Rattle.ownership_checker.proofs.Words.{◌≤◌, ◌-◌, ◌≡◌, ◌+◌, ◌<◌, ◌^◌, ◌∷◌, ◌∙◌, ℕ, zero, suc, true, false, List, [], Option, None, Some, slice_get, slice_index, length, arith, refl, ap, sym, subst, is_some, Header, IsHeader, Known, Ring, RingView, DriverKeeps, Row, Bell, Write, command_id, none-some, on_ring, open_leases, positions_given, ring_with, same_Some, shape_of, length_from, descriptor_length, unrestored, command_ring, id_or_none, Restores, ring_found, shape_there, among_at, lenient, clean_tests, is_transfer_ring, IsTransferRing, AreOpen, Lent, passed_on, FindsRanges, RangeIndexes, HoldsAll, is_bad_withdraw, restored, restored_on, ring_moved, ring_restored, stopped_still, NamesTransfer, MovesRing, SomeIff, Shape, FollowsRing, RingRecord, command_found, stopped_with, GivesCommandAt, IsTransferAt, command_drives, found_restored, found_withdrawn, was_given, rules}
 use Rattle.segments.specs.RingView.{Withdraws}
-use Rattle.segments.specs.ShapeValue.{Shape}
-use Rattle.ring_knowledge.specs.RingRecords.{FollowsRing}
-use Rattle.ring_knowledge.specs.declared.ring_record.RingRecord.{RingRecord}
-use Rattle.trace_record.proofs.RingFinder.FoundRings.{command_found}
-use Rattle.safety.proofs.RingChanges.Withdrawn.{stopped_with}
-use Rattle.driver_rows.specs.RingRows.GivenCommands.{GivesCommandAt}
-use Rattle.driver_rows.specs.RingRows.RingSteps.{IsTransferAt}
-use Rattle.driver_rows.proofs.RingRows.GivenAt.{command_drives}
-use Rattle.leases.proofs.RingLeases.FoundFree.{found_restored, found_withdrawn}
-use Rattle.leases.proofs.RingLeases.LentFree.{Restoring}
-use Rattle.leases.proofs.RingLeases.MovingRings.{was_given}
 
 command_id_of : (h : Header) (c : Ring) → command_ring h ≡ Some c → command_id h ≡ c.id
 unfolding command_id
@@ -25,19 +12,15 @@ count_is v p = refl
 
 -- a descriptor ends within the numbers of positions
 within : (xs : List ℕ) (p : ℕ) → 0 < slice_index xs p → p < length xs
-within [] p some = absurd (omega (arith, some))
-within (x ∷ xs) zero some = omega arith
 within (x ∷ xs) (suc p) some = omega (arith, within xs p some)
+within _ p some = grind arith
 
 pub none_high : (o : Option ℕ) (P : Type 0) (v : ℕ) → SomeIff o P v → is_some o ≡ false → P → ⊥
-none_high None P v high none = high
-none_high (Some x) P v some none = absurd (cc)
+none_high o P v high none = grind arith
 
 pub no_room : (shape : Shape) (v : RingView) (r : RingRecord) (p count : ℕ) → FollowsRing shape v r → r.forgotten ≤ p → count ≡ length_from v.lengths 0 p → count < 2 ^ 32 → p < 2 ^ 64 → (p + count < 2 ^ 64 → ⊥) → ⊥
 no_room shape v r p zero follows kept is few low high = high (omega (arith, low))
-no_room shape v r p (suc n) follows kept is few low high =
-    let some : 0 < slice_index r.lengths.items (p - r.forgotten) = omega (arith, is, follows.marks.begins p kept) in
-    high (omega (arith, within r.lengths.items (p - r.forgotten) some, r.forgotten_fits, r.lengths.ok.0, r.lengths.ok.1, r.lengths.small, few))
+no_room shape v r p (suc n) follows kept is few low high = high (omega (arith, within r.lengths.items (p - r.forgotten) (omega (arith, is, follows.marks.begins p kept)), r.forgotten_fits, r.lengths.ok.0, r.lengths.ok.1, r.lengths.small, few))
 
 module _ {B : Type 0} (Holds : Header → List Lent → B → Type 0) (h : Header) (headed : IsHeader h) (k : Known) (ts : List Lent) (opened : AreOpen h k ts) (id n : ℕ) (there : IsTransferAt h id n) (row : ℕ) where
   abbrev q : Ring
@@ -48,18 +31,16 @@ module _ {B : Type 0} (Holds : Header → List Lent → B → Type 0) (h : Heade
 
   pub withdrawn_held : (p : ℕ) (log : B) (x : RangeIndexes) → Holds h (passed_on (open_leases h k) (open_leases h (on_ring h k q.id (Withdraws p))) row ts) log → FindsRanges h ts x →
       HoldsAll Holds h (passed_on (open_leases h k) (open_leases h (on_ring h k id (Withdraws p))) row ts) log x
-  withdrawn_held p log x held finds =
-      subst (λ i. HoldsAll Holds h (passed_on (open_leases h k) (open_leases h (on_ring h k i (Withdraws p))) row ts) log x) there.named
-      (record { held = held; found = found_withdrawn h headed k q found there.kind ts opened row p x finds })
+  withdrawn_held p log x held finds = rw (← there.named) (record { held = held; found = found_withdrawn h headed k q found there.kind ts opened row p x finds })
 
   module _ (ps : List ℕ) (positions : ps ≡ unrestored q.shape (k.ring q.id)) where
     pub restored_held : ((p : ℕ) → (k.ring q.id).free p ≡ true → (k.ring q.id).given p ≡ true) → (log : B) (x : RangeIndexes) →
         Holds h (passed_on (open_leases h k) (open_leases h (on_ring h k q.id Restores)) row ts) log → FindsRanges h ts x →
         HoldsAll Holds h (passed_on (open_leases h k) (open_leases h (on_ring h k id Restores)) row ts) log x
-    restored_held given log x held finds =
-        let restoring : Restoring h k ts q ps = record { headed = headed; found = found; transfer = there.kind; freed_given = given; positions = positions; opened = opened } in
-        subst (λ i. HoldsAll Holds h (passed_on (open_leases h k) (open_leases h (on_ring h k i Restores)) row ts) log x) there.named
-        (record { held = held; found = found_restored h k ts q ps restoring row x finds })
+    restored_held given log x held finds = rw (← there.named) (record {
+      held = held;
+      found = found_restored h k ts q ps (record { headed = headed; found = found; transfer = there.kind; freed_given = given; positions = positions; opened = opened }) row x finds;
+    })
 
     -- a Set TR Dequeue Pointer that is given moves it
     pub moving : DriverKeeps h k → (a w m p : ℕ) → GivesCommandAt h k a w m p → (commands : Ring) → slice_get h.rings m ≡ Some commands → ring_restored h k (Write a w) ≡ Some id → MovesRing h k ts commands p q ps a w
@@ -88,34 +69,19 @@ as_transfer : (h : Header) (r : ℕ) → IsTransferRing h r → is_transfer_ring
 as_transfer h r x = ap is_transfer_ring x.found ∙ x.kind
 
 module _ (h : Header) (k : Known) (d : DriverKeeps h k) where
-  moved_transfer : (o : Option Command) (r : ℕ) → ring_moved k o ≡ Some r → is_transfer_ring (ring_with h r) ≡ true
-  unfolding ring_moved
-  moved_transfer (Some (SetTrDequeue s i p cycle)) r at = as_transfer h r (d.states.transfer s i r at)
-  moved_transfer None r at = absurd (none-some r at)
-  moved_transfer (Some _) r at = absurd (none-some r at)
-
   pub restored_transfer : (row : Row) (r : ℕ) → ring_restored h k row ≡ Some r → is_transfer_ring (ring_with h r) ≡ true
-  unfolding ring_restored
+  unfolding ring_restored ring_moved
   restored_transfer (Bell s t) r at = as_transfer h r (d.states.transfer s t r at)
-  restored_transfer (Write a w) r at = moved_transfer (command_given h k a w) r at
+  restored_transfer (Write a w) r at = (search (rules, as_transfer, d.states.transfer, none-some))
   restored_transfer _ r at = absurd (none-some r at)
 
   pub names_transfer : (row : Row) → NamesTransfer h (ring_restored h k row)
-  names_transfer row = by (ring_restored h k row) refl
-    where
-      by : (o : Option ℕ) → ring_restored h k row ≡ o → NamesTransfer h o
-      by None at = tt
-      by (Some r) at = restored_transfer row r at
+  names_transfer row = grind (arith, restored_transfer row)
 
   pub withdrawn_transfer : (r p : ℕ) → is_bad_withdraw h k r p ≡ false → is_transfer_ring (ring_with h r) ≡ true
   unfolding is_bad_withdraw
   withdrawn_transfer r p good =
-      let has = stopped_with h r p k (not_false (has_stopped h k r) (or_parts (not (has_stopped h k r)) _ good).0) in
-      as_transfer h r (d.states.transfer has.slot has.index r has.has)
-    where
-      not_false : (b : Bool) → not b ≡ false → b ≡ true
-      not_false true e = refl
-      not_false false e = absurd (cc)
+      let has = stopped_with h r p k (grind (arith, good)) in as_transfer h r (d.states.transfer has.slot has.index r has.has)
 
 -- a row restores nothing
 pub none_restored : (h : Header) (k : Known) (row : Row) → ring_restored h k row ≡ None → restored h k row ≡ k

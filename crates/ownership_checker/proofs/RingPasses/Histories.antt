@@ -1,11 +1,6 @@
 -- What a row of the driver says that breaks no rule; where no descriptor was withdrawn nothing is free; and what breaks no rule of the trace's version
 -- breaks no lenient one
-use Rattle.ownership_checker.proofs.Words.{◌≡◌, ◌∷◌, ◌++◌, ◌∙◌, ◌==◌, ℕ, Bool, true, false, if◌then◌else◌, List, [], Option, Some, None, filter, refl, sym, ap, subst, inl, inr, or_parts, cases_Bool, cond-true, Header, Known, Ring, Write, Sub, Reg, Bell, Read, learned, nothing, shape_of, flips_passed, is_not_restored, unrestored, due_positions, Row, TraceRow, Plain, Comes, Goes, driver_rings, broken_of, first_of, broken, tests, Refusal, AfterStop, BadFree, BadRing, BadWithdraw, NotRestored, WriteToOwned, lenient_row, forgotten, is_bad_free, is_bad_ring, AreKept, IsKept, header_now, known_now, is_bad_withdraw, is_left, restored, ring_restored, some_flips, is_passed, withdraws_badly, restored_same, AreClean, NothingFree, broken_restored, driver_broken}
-use Rattle.std.specs.List.{list_any}
-use Rattle.safety.proofs.Words.{no_flips}
-use Rattle.traces.specs.declared.trace_row.TraceRow.TheVariants.{Withdraws}
-use Rattle.safety.proofs.NothingFree.{free_same}
-use Rattle.ownership_checker.proofs.RingPasses.Broken.{breaks_none}
+use Rattle.ownership_checker.proofs.LowerLaws.{◌≡◌, ◌∷◌, ◌++◌, ◌∙◌, ◌==◌, ℕ, Bool, true, false, if◌then◌else◌, List, [], Some, filter, refl, sym, ap, subst, inl, inr, or_parts, cases_Bool, Header, Known, Ring, learned, nothing, shape_of, flips_passed, is_not_restored, unrestored, due_positions, Row, TraceRow, Plain, Comes, Goes, broken_of, first_of, broken, Refusal, AfterStop, BadFree, BadRing, BadWithdraw, NotRestored, WriteToOwned, lenient_row, forgotten, is_bad_free, is_bad_ring, AreKept, IsKept, header_now, known_now, is_bad_withdraw, is_left, restored, ring_restored, some_flips, is_passed, withdraws_badly, restored_same, AreClean, NothingFree, broken_restored, driver_broken, list_any, no_flips, Withdraws, free_same, breaks_none, rules, arith}
 
 -- ---- a row of the driver
 
@@ -18,42 +13,11 @@ not_none (d ∷ ds) c e = cc e
 
 none_chosen : (stopped left flips : Bool) (cs ds : List Refusal) → chosen stopped left cs (broken_of ((WriteToOwned, flips) ∷ []) ++ ds) ≡ [] →
     (stopped ≡ false) × (left ≡ false) × (flips ≡ false) × (ds ≡ [])
-none_chosen true left flips cs ds e = cc e
-none_chosen false true flips cs ds e = absurd (not_none cs NotRestored e)
-none_chosen false false true cs ds e = cc e
-none_chosen false false false cs ds e = (refl, refl, refl, e)
-
-none_of : (stopped left flips : Bool) (cs ds : List Refusal) → stopped ≡ false → left ≡ false → flips ≡ false → ds ≡ [] → chosen stopped left cs (broken_of ((WriteToOwned, flips) ∷ []) ++ ds) ≡ []
-none_of true left flips cs ds on stands none clean = absurd (cc)
-none_of false true flips cs ds on stands none clean = absurd (cc)
-none_of false false true cs ds on stands none clean = absurd (cc)
-none_of false false false cs ds on stands none clean = clean
-
-at_stop : (stopped left : Bool) (cs ds : List Refusal) → stopped ≡ true → chosen stopped left cs ds ≡ AfterStop ∷ []
-at_stop true left cs ds off = refl
-at_stop false left cs ds off = absurd (cc)
-
-where_left : (stopped left : Bool) (cs ds : List Refusal) → stopped ≡ false → left ≡ true → chosen stopped left cs ds ≡ cs ++ NotRestored ∷ []
-where_left true left cs ds on is = absurd (cc)
-where_left false true cs ds on is = refl
-where_left false false cs ds on is = absurd (cc)
-
-where_restored : (stopped left : Bool) (cs ds : List Refusal) → stopped ≡ false → left ≡ false → chosen stopped left cs ds ≡ ds
-where_restored true left cs ds on is = absurd (cc)
-where_restored false true cs ds on is = absurd (cc)
-where_restored false false cs ds on is = refl
+none_chosen stopped left flips cs ds e = grind (arith, not_none cs NotRestored)
 
 least_of_both : (cs : List Refusal) (c d : Refusal) → first_of cs ≡ Some c → first_of (cs ++ d ∷ []) ≡ Some c
 least_of_both [] c d e = absurd (cc)
 least_of_both (x ∷ xs) c d e = e
-
-flips_first : (flips : Bool) (cs : List Refusal) → flips ≡ true → first_of (broken_of ((WriteToOwned, flips) ∷ []) ++ cs) ≡ Some WriteToOwned
-flips_first true cs is = refl
-flips_first false cs is = absurd (cc)
-
-no_flips_first : (flips : Bool) (cs : List Refusal) → flips ≡ false → broken_of ((WriteToOwned, flips) ∷ []) ++ cs ≡ cs
-no_flips_first true cs is = absurd (cc)
-no_flips_first false cs is = refl
 
 module _ (h : Header) (k : Known) (row : Row) where
   -- it comes before the stop, what it starts or moves stands as declared, and behind that it breaks no rule
@@ -64,13 +28,10 @@ module _ (h : Header) (k : Known) (row : Row) where
     pub clean : broken h (restored h k row) row ≡ []
 
   pub breaks_no_rule : driver_broken h k row ≡ [] → BreaksNoRule
-  breaks_no_rule clean =
-      let parts = none_chosen k.stopped (is_left h k (ring_restored h k row)) (some_flips h (restored h k row) row) (broken h k row) (broken h (restored h k row) row) clean in
-      record { on = parts.0; stands = parts.1; flips = parts.2; clean = parts.3 }
+  breaks_no_rule clean = search (rules, none_chosen k.stopped (is_left h k (ring_restored h k row)) (some_flips h (restored h k row) row) (broken h k row) (broken h (restored h k row) row) clean)
 
   pub no_rule_broken : BreaksNoRule → driver_broken h k row ≡ []
-  no_rule_broken c =
-      none_of k.stopped (is_left h k (ring_restored h k row)) (some_flips h (restored h k row) row) (broken h k row) (broken h (restored h k row) row) c.on c.stands c.flips c.clean
+  no_rule_broken c = search rules
 
   pub plain_kept : driver_broken h k row ≡ [] → IsKept h k (Plain row)
   plain_kept clean = let c = breaks_no_rule clean in (lenient_row h (restored h k row) row c.clean, c.stands, c.flips)
@@ -78,14 +39,14 @@ module _ (h : Header) (k : Known) (row : Row) where
   -- ---- the least rule that it breaks
 
   pub least_off : k.stopped ≡ true → first_of (driver_broken h k row) ≡ Some AfterStop
-  least_off off = ap first_of (at_stop k.stopped (is_left h k (ring_restored h k row)) (broken h k row) (broken_restored h (restored h k row) row) off)
+  least_off off = rw off refl
 
   module _ (on : k.stopped ≡ false) where
     pub left_broken : is_left h k (ring_restored h k row) ≡ true → driver_broken h k row ≡ broken h k row ++ NotRestored ∷ []
-    left_broken left = where_left k.stopped (is_left h k (ring_restored h k row)) (broken h k row) (broken_restored h (restored h k row) row) on left
+    left_broken left = grind arith
 
     pub restored_broken : is_left h k (ring_restored h k row) ≡ false → driver_broken h k row ≡ broken_restored h (restored h k row) row
-    restored_broken stands = where_restored k.stopped (is_left h k (ring_restored h k row)) (broken h k row) (broken_restored h (restored h k row) row) on stands
+    restored_broken stands = grind arith
 
     pub least_left : (c : Refusal) → is_left h k (ring_restored h k row) ≡ true → first_of (broken h k row) ≡ Some c → first_of (driver_broken h k row) ≡ Some c
     least_left c left least = ap first_of (left_broken left) ∙ least_of_both (broken h k row) c NotRestored least
@@ -98,10 +59,10 @@ module _ (h : Header) (k : Known) (row : Row) where
 
 module _ (h : Header) (k : Known) (row : Row) where
   pub least_flips : some_flips h k row ≡ true → first_of (broken_restored h k row) ≡ Some WriteToOwned
-  least_flips flips = flips_first (some_flips h k row) (broken h k row) flips
+  least_flips flips = rw flips refl
 
   pub unflipped : some_flips h k row ≡ false → broken_restored h k row ≡ broken h k row
-  unflipped none = no_flips_first (some_flips h k row) (broken h k row) none
+  unflipped none = rw none refl
 
   pub least_unflipped : some_flips h k row ≡ false → (c : Refusal) → first_of (broken h k row) ≡ Some c → first_of (broken_restored h k row) ≡ Some c
   least_unflipped none c least = ap first_of (unflipped none) ∙ least
@@ -110,10 +71,7 @@ module _ (h : Header) (k : Known) (row : Row) where
 
 forgotten_free : (k : Known) (id : ℕ) → NothingFree k → NothingFree (forgotten k id)
 unfolding forgotten
-forgotten_free k id none r = elim (cases_Bool (r == id)) [
-  | inl same ↦ rw same (λ p. refl)
-  | inr other ↦ rw other (none r)
-]
+forgotten_free k id none r = grind (arith, cases_Bool (r == id))
 
 none_in : (f P : ℕ → Bool) (xs : List ℕ) → ((p : ℕ) → f p ≡ false) → list_any P (filter f xs) ≡ false
 none_in f P [] none = refl
@@ -128,35 +86,21 @@ module _ (h : Header) (k : Known) (none : NothingFree k) where
   flips_none a w [] = refl
   flips_none a w (r ∷ rs) = rw (no_flips r.shape (k.ring r.id) a w (none r.id)) (flips_none a w rs)
 
-  none_left : (o : Option ℕ) → is_left h k o ≡ false
-  unfolding is_left
-  none_left None = refl
-  none_left (Some r) = stands r
-
-  no_flip : (row : Row) → some_flips h k row ≡ false
-  unfolding some_flips
-  no_flip (Write a w) = flips_none a w (driver_rings h)
-  no_flip (Sub r blocks) = refl
-  no_flip (Reg r v) = refl
-  no_flip (Bell s t) = refl
-  no_flip (Read b) = refl
-
   -- what a row starts or moves stands as declared, and it flips nothing
   pub stands_where_restored : (row : Row) → is_left h k (ring_restored h k row) ≡ false
-  stands_where_restored row = none_left (ring_restored h k row)
+  unfolding is_left
+  stands_where_restored row = grind (arith, stands)
 
   pub flips_none_restored : (row : Row) → some_flips h (restored h k row) row ≡ false
-  flips_none_restored row = subst (λ x. some_flips h x row ≡ false) (sym (restored_same h k row none)) (no_flip row)
+  unfolding some_flips
+  flips_none_restored row = subst (λ x. some_flips h x row ≡ false) (sym (restored_same h k row none)) (search (rules, flips_none))
 
   -- what it breaks is what it breaks where nothing was withdrawn
   pub driver_same : (row : Row) → driver_broken h k row ≡ broken h k row
   unfolding broken
   driver_same row = elim (cases_Bool k.stopped) [
-    | inl off ↦
-        at_stop k.stopped (is_left h k (ring_restored h k row)) (broken h k row) (broken_restored h (restored h k row) row) off
-        ∙ sym (cond-true k.stopped (AfterStop ∷ []) (broken_of (tests h k row)) off)
-    | inr on ↦
-        restored_broken h k row on (stands_where_restored row) ∙ unflipped h (restored h k row) row (flips_none_restored row)
+    | inl off ↦ rw off refl
+    | inr on ↦ restored_broken h k row on (stands_where_restored row) ∙ unflipped h (restored h k row) row (flips_none_restored row)
         ∙ ap (λ x. broken h x row) (restored_same h k row none)
   ]
 
@@ -167,10 +111,7 @@ module _ (h : Header) (past : List TraceRow) (none : NothingFree (known_now h pa
   known_plain row = ap (λ k. learned (header_now h past) k row) (restored_same (header_now h past) (known_now h past) row none)
 
   pub plain_free : (row : Row) → NothingFree (known_now h (Plain row ∷ past))
-  plain_free row r p =
-      let k = known_now h past in
-      let g = header_now h past in
-      ap (λ f. f p) (free_same g (restored g k row) row r) ∙ ap (λ (x : Known). (x.ring r).free p) (restored_same g k row none) ∙ none r p
+  plain_free row r p = search (rules, free_same, restored_same, none)
 
   pub comes_free : (ring : Ring) → NothingFree (known_now h (Comes ring ∷ past))
   comes_free ring = forgotten_free (known_now h past) ring.id none

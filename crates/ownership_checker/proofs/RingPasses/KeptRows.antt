@@ -1,11 +1,5 @@
 -- How far a pass has come over rows that are kept in memory, and what that says of all of them
-use Rattle.ownership_checker.proofs.Words.{◌≡◌, ℕ, ◌+◌, ◌<◌, ◌≤◌, List, [], ◌∷◌, ◌++◌, ◌∙◌, All, Some, ap, sym, subst, arith, length, get_or, add-zero, drop, reverse, take, common_steps, All-weaker, most_streamed_lines, IsTraceRow, Header, TraceRow, Lease, Refusal, without_end, Lent, lents, StepFault, IfRefused, FitsFields, header_now, known_now, IsLeastOfRow, IsRingLogged, IsRingPassed, ring_verdict, RingPass}
-use Rattle.trace_record.specs.declared.fault.StepFault.TheVariants.{Refused}
-use Rattle.ownership_checker.specs.RingPasses.KeptRows.{IsBehindAll}
-use Rattle.ownership_checker.proofs.RingPasses.RowsFit.{fits}
-use Rattle.ownership_checker.proofs.RingPasses.Steps.{all_reversed, no_harm}
-use Rattle.ownership_checker.proofs.RingPasses.Verdicts.{none_refused, reversed_twice, row_refused}
-use Rattle.ownership_checker.proofs.RingPasses.Walks.{walks}
+use Rattle.ownership_checker.proofs.MiddleLaws.{◌≡◌, ℕ, ◌+◌, ◌<◌, ◌≤◌, List, [], ◌∷◌, ◌++◌, ◌∙◌, All, Some, ap, sym, subst, arith, length, get_or, add-zero, drop, reverse, take, common_steps, All-weaker, most_streamed_lines, IsTraceRow, Header, TraceRow, Lease, Refusal, without_end, Lent, lents, StepFault, IfRefused, FitsFields, header_now, known_now, IsLeastOfRow, IsRingLogged, IsRingPassed, ring_verdict, RingPass, Refused, IsBehindAll, fits, all_reversed, no_harm, none_refused, reversed_twice, row_refused, walks}
 
 -- one row more: the newest first
 one_more : (rows : List TraceRow) (i : ℕ) (d : TraceRow) → i < length rows → reverse (take (i + 1) rows) ≡ get_or rows i d ∷ reverse (take i rows)
@@ -33,11 +27,7 @@ pub record IsPassedTo {B M : Type 0} (words : M → ℕ → ℕ) (holds : List L
 module _ {B M : Type 0} (words : M → ℕ → ℕ) (holds : List Lease → Header → List Lent → B → Type 0) (h : Header) (first : ℕ) (rows : List TraceRow) (log : B) where
   pub begun : (pass : RingPass B M) → IsRingPassed words h [] pass →
       ((list : List Lease) (first : ℕ) → holds list h (lents h first []) log → IsRingLogged (holds list) h first [] pass) → IsPassedTo words holds h first rows log 0 first pass
-  begun pass passed logged = record {
-    numbered = sym (add-zero first);
-    passed = subst (λ (past : List TraceRow). IsRingPassed words h past pass) (sym (none_taken rows)) passed;
-    logged = λ list kept. subst (λ (past : List TraceRow). IsRingLogged (holds list) h first past pass) (sym (none_taken rows)) (logged list first kept);
-  }
+  begun pass passed logged = record { numbered = sym (add-zero first); passed = rw none_taken passed; logged = λ list kept. rw none_taken (logged list first kept) }
 
   module _ (i number : ℕ) (pass : RingPass B M) (p : IsPassedTo words holds h first rows log i number pass) where
     module _ (row d : TraceRow) (below : i < length rows) (is : get_or rows i d ≡ row) where
@@ -58,33 +48,29 @@ module _ {B M : Type 0} (words : M → ℕ → ℕ) (holds : List Lease → Head
           ((list : List Lease) (g : Header) (first : ℕ) (past : List TraceRow) → IsRingPassed words g past pass → number ≡ first + length past → first + length past < without_end →
           IsRingLogged (holds list) g first past pass → IsRingLogged (holds list) g first (row ∷ past) later) → IsPassedTo words holds h first rows log (i + 1) (number + 1) later
       row_more within later passes logs = record {
-        numbered = let n = p.numbered in omega (arith, n);
-        passed = subst (λ (past : List TraceRow). IsRingPassed words h past later) next (passes h (reverse (take i rows)) p.passed);
-        logged = λ list kept.
-            subst (λ (past : List TraceRow). IsRingLogged (holds list) h first past later) next
-            (logs list h first (reverse (take i rows)) p.passed number_so (room within) (p.logged list kept));
+        numbered = omega (arith, p.numbered);
+        passed = rw (← next) (passes h (reverse (take i rows)) p.passed);
+        logged = λ list kept. rw (← next) (logs list h first (reverse (take i rows)) p.passed number_so (room within) (p.logged list kept));
       }
 
       pub refused : (c : Refusal) (e : StepFault) → e ≡ Refused c →
           IfRefused e (λ x. (g : Header) (past : List TraceRow) → IsRingPassed words g past pass → IsLeastOfRow (header_now g past) (known_now g past) row x) →
           ring_verdict h first rows ≡ Some (number, c)
       refused c e told least =
-          let past : List TraceRow = reverse (take i rows) in
-          let so = subst (λ (f : StepFault). IfRefused f (λ x. (g : Header) (past : List TraceRow) → IsRingPassed words g past pass → IsLeastOfRow (header_now g past) (known_now g past) row x)) told least in
-          let whole : reverse past ++ row ∷ drop (i + 1) rows ≡ rows = ap (λ (r : TraceRow). reverse past ++ r ∷ drop (i + 1) rows) (sym is) ∙ parts rows i d below in
-          ap (ring_verdict h first) (sym whole) ∙ row_refused h first past (drop (i + 1) rows) row c p.passed.clean (so h past p.passed) ∙ ap (λ n. Some (n, c)) (sym number_so)
+          let so = rw told at least in
+          let whole : reverse (reverse (take i rows)) ++ row ∷ drop (i + 1) rows ≡ rows = rw (← is) (parts rows i d below) in
+          ap (ring_verdict h first) (sym whole) ∙ row_refused h first (reverse (take i rows)) (drop (i + 1) rows) row c p.passed.clean (so h (reverse (take i rows)) p.passed)
+          ∙ ap (λ n. Some (n, c)) (sym number_so)
 
     pub ended : i ≡ length rows → All IsTraceRow rows → IsBehindAll words holds h first rows log pass
     ended all are =
         let whole : take i rows ≡ rows = ap (λ n. take n rows) all ∙ all_taken rows in
         let passed = subst (λ (xs : List TraceRow). IsRingPassed words h (reverse xs) pass) whole p.passed in
         let fit = all_reversed rows (All-weaker IsTraceRow FitsFields fits rows are) in
-        let clean = passed.clean in
-        let twice = reversed_twice rows in
         record {
-          verdict = ap (ring_verdict h first) (sym twice) ∙ none_refused h first (reverse rows) clean;
-          walk = rw twice at (walks h passed.opening (reverse rows) fit clean);
-          harmless = rw twice at (no_harm words h (reverse rows) pass passed fit);
+          verdict = ap (ring_verdict h first) (sym (reversed_twice rows)) ∙ none_refused h first (reverse rows) passed.clean;
+          walk = rw (reversed_twice rows) at (walks h passed.opening (reverse rows) fit passed.clean);
+          harmless = rw (reversed_twice rows) at (no_harm words h (reverse rows) pass passed fit);
           passed = passed;
           logged = λ list kept. subst (λ (xs : List TraceRow). IsRingLogged (holds list) h first (reverse xs) pass) whole (p.logged list kept);
         }

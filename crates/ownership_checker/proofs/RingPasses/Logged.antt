@@ -1,13 +1,5 @@
 -- What the log of a pass keeps behind one row more
-use Rattle.ownership_checker.proofs.Words.{◌≡◌, ◌+◌, ◌<◌, ◌≤◌, ◌∷◌, ◌∙◌, ℕ, Bool, true, false, not, ◌||◌, ◌==◌, None, Some, List, [], length, map, arith, refl, sym, ap, subst, or_parts, Header, Known, Ring, IsHeader, Bell, Write, learned, none-some, on_ring, open_leases, false≢true, RingKind, Cmd, Evt, Xfer, not_found, ring_found, IsAmong, lenient, clean_tests, is_transfer_ring, Row, TraceRow, Plain, Comes, Goes, is_driver_kind, is_transfer_kind, ring_with, without_end, AreOpen, IsInStep, Lent, ended_where, grown, lents, passed_on, FindsRanges, RangeIndexes, HoldsAll, IsNextRow, IsComing, is_bad_free, is_bad_ring, is_had, with_ring, without_ring, header_now, known_now, is_of_ring, ring_lents, comes_lent, goes_lent, in_step_now, lent_open, IsRingPassed, RingPass, ring_restored, Restores}
-use Rattle.std.specs.List.{position}
-use Rattle.trace_record.proofs.RingFinder.FoundRings.{none_here}
-use Rattle.ownership_rules.specs.Moves.{is_being_bound}
-use Rattle.leases.specs.LeaseBooks.OtherShapes.{AreShapedAlike}
-use Rattle.leases.proofs.LeaseBooks.RangePlaces.{some_end}
-use Rattle.leases.proofs.RingLeases.HeldBehind.{comes_alike, comes_commands, goes_alike, goes_commands, ranges_found}
-use Rattle.leases.proofs.RingLeases.FreeRows.{rung_now}
-use Rattle.ownership_checker.proofs.RingPasses.Steps.{headed_now, tracked_now}
+use Rattle.ownership_checker.proofs.MiddleLaws.{◌≡◌, ◌+◌, ◌<◌, ◌≤◌, ◌∷◌, ◌∙◌, ℕ, Bool, true, false, ◌==◌, None, Some, List, [], length, map, arith, refl, sym, ap, subst, or_parts, Header, Known, Ring, IsHeader, Write, learned, none-some, on_ring, open_leases, false≢true, RingKind, not_found, ring_found, IsAmong, lenient, clean_tests, is_transfer_ring, Row, TraceRow, Plain, Comes, Goes, is_driver_kind, is_transfer_kind, ring_with, without_end, AreOpen, IsInStep, Lent, ended_where, grown, lents, passed_on, FindsRanges, RangeIndexes, HoldsAll, IsNextRow, IsComing, is_bad_free, is_bad_ring, with_ring, without_ring, header_now, known_now, is_of_ring, ring_lents, comes_lent, goes_lent, in_step_now, lent_open, IsRingPassed, RingPass, ring_restored, Restores, position, none_here, AreShapedAlike, some_end, comes_alike, comes_commands, goes_alike, goes_commands, ranges_found, rung_now, headed_now, tracked_now}
 
 -- before the first row the leases of a history are those of a trace
 pub lents_first : (h : Header) (first : ℕ) → lents h first [] ≡ ring_lents h first []
@@ -17,30 +9,18 @@ lents_first h first = refl
 -- a ring that goes is a transfer ring
 pub goes_transfer : (h : Header) (k : Known) (id : ℕ) → is_bad_free h k id ≡ false → is_transfer_ring (ring_with h id) ≡ true
 unfolding is_bad_free
-goes_transfer h k id good =
-    let two = or_parts (not (is_transfer_ring (ring_with h id)) || is_had k id) (is_being_bound h k id) good in
-    let one = or_parts (not (is_transfer_ring (ring_with h id))) (is_had k id) two.0 in
-    not_false (is_transfer_ring (ring_with h id)) one.0
-  where
-    not_false : (b : Bool) → not b ≡ false → b ≡ true
-    not_false true e = refl
-    not_false false e = absurd cc
+goes_transfer h k id good = grind (arith, or_parts, Bool)
 
 pub transfer_drives : (n : RingKind) → is_transfer_kind n ≡ true → is_driver_kind n ≡ true
-transfer_drives Xfer e = refl
-transfer_drives Cmd e = refl
-transfer_drives Evt e = absurd cc
+transfer_drives n e = grind arith
 
 -- the ring with this ID is there, and drives
 pub drives : (h : Header) → IsHeader h → (q : Ring) (id : ℕ) → IsAmong q h.rings → q.id ≡ id → is_transfer_ring (ring_with h id) ≡ true → is_driver_kind q.shape.kind ≡ true
-drives h is q id among same transfer =
-    transfer_drives q.shape.kind (subst (λ o. is_transfer_ring o ≡ true) (ap (ring_with h) (sym same) ∙ ring_found h is q among) transfer)
+drives h is q id among same transfer = grind (arith, transfer_drives, ring_found)
 
 -- no ring has it
 pub none_drives : (h : Header) (id : ℕ) → position (λ (q : Ring). q.id == id) h.rings ≡ None → is_transfer_ring (ring_with h id) ≡ true → ⊥
-none_drives h id none transfer =
-    let nowhere : ring_with h id ≡ None = not_found (λ q. q.id == id) h.rings (none_here h (λ q. q.id == id) h.rings none refl) in
-    false≢true (ap is_transfer_ring (sym nowhere) ∙ transfer)
+none_drives h id none transfer = grind (arith, not_found, none_here, false≢true, not_found (λ q. q.id == id) h.rings (none_here h (λ q. q.id == id) h.rings none refl))
 
 module _ {B M : Type 0} (words : M → ℕ → ℕ) (Holds : Header → List Lent → B → Type 0)
     (other_rings : (h g : Header) (ts : List Lent) (log : B) → AreShapedAlike h g ts → Holds h ts log → Holds g ts log)
@@ -59,13 +39,7 @@ module _ {B M : Type 0} (words : M → ℕ → ℕ) (Holds : Header → List Len
 
   -- the row of the driver is the next of what is known and lent
   pub next_row : (row : Row) → lenient before.header k row ≡ [] → IsNextRow before.header k ts row before.record (words before.memory)
-  next_row row clean = record {
-    followed = p.tracked.follows;
-    keeps = p.tracked.keeps (clean_tests before.header k row clean).0;
-    entries = p.entries;
-    step = subst (λ (x : Header). IsInStep x k ts) (sym p.header) (in_step_now h first past low);
-    clean = clean;
-  }
+  next_row row clean = assumption (p.tracked.keeps (clean_tests before.header k row clean).0, subst (λ (x : Header). IsInStep x k ts) (sym p.header) (in_step_now h first past low))
 
   -- by the rings of the pass
   pub held_before : (log : B) (x : RangeIndexes) → HoldsAll Holds g ts log x → HoldsAll Holds before.header ts log x
@@ -77,17 +51,13 @@ module _ {B M : Type 0} (words : M → ℕ → ℕ) (Holds : Header → List Len
   -- what is lent behind a row, as the log is told of it by the rings of the pass
   pub behind_logged : (later : Header → Known) (us : List Lent) → us ≡ passed_on (open_leases g k) (open_leases g (later g)) (first + length past) ts → (number : ℕ) → number ≡ first + length past → (log : B) (x : RangeIndexes) →
       HoldsAll Holds before.header (passed_on (open_leases before.header k) (open_leases before.header (later before.header)) number ts) log x → HoldsAll Holds g us log x
-  behind_logged later us is number numbered log x held =
-      subst (λ vs. HoldsAll Holds g vs log x) (sym is)
-      (subst (λ n. HoldsAll Holds g (passed_on (open_leases g k) (open_leases g (later g)) n ts) log x) numbered
-      (subst (λ (y : Header). HoldsAll Holds y (passed_on (open_leases y k) (open_leases y (later y)) number ts) log x) p.header held))
+  behind_logged later us is number numbered log x held = grind arith
 
   -- a row of the driver that restores no ring
   pub plain_logged : (row : Row) → known_now h (Plain row ∷ past) ≡ learned g k row → (number : ℕ) → number ≡ first + length past → (log : B) (x : RangeIndexes) →
       HoldsAll Holds before.header (grown before.header k row number ts) log x → HoldsAll Holds g (ring_lents h first (Plain row ∷ past)) log x
   unfolding ring_lents grown
-  plain_logged row is number numbered log x held =
-      behind_logged (λ y. learned y k row) (ring_lents h first (Plain row ∷ past)) (ap (λ m. passed_on (open_leases g k) (open_leases g m) (first + length past) ts) is) number numbered log x held
+  plain_logged row is number numbered log x held = grind (arith, behind_logged)
 
   pub comes_logged : (ring : Ring) → IsComing ring → k.stopped ≡ false → is_bad_ring g k ring ≡ false → HoldsAll Holds g ts before.log before.ranges →
       HoldsAll Holds (with_ring g ring) (ring_lents h first (Comes ring ∷ past)) before.log before.ranges
@@ -121,6 +91,4 @@ module _ {B M : Type 0} (words : M → ℕ → ℕ) (Holds : Header → List Len
   pub rung_lents : (row : Row) (id : ℕ) → ((a w : ℕ) → row ≡ Write a w → ⊥) → ring_restored g k row ≡ Some id →
       ring_lents h first (Plain row ∷ past) ≡ passed_on (open_leases g k) (open_leases g (on_ring g k id Restores)) (first + length past) ts
   unfolding ring_restored
-  rung_lents (Bell s t) id other has = rung_now h first past s t id has
-  rung_lents (Write a w) id other has = absurd (other a w refl)
-  rung_lents _ id other has = absurd (none-some id has)
+  rung_lents row id other has = grind (arith, rung_now, none-some)

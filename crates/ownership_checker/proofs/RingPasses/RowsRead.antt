@@ -1,15 +1,5 @@
 -- How far the rows of a trace were read and passed, between which rings come and go, and what that says of the whole text
-use Rattle.ownership_checker.proofs.Words.{◌≡◌, ℕ, Bool, ◌+◌, ◌-◌, ◌<◌, List, [], ◌∷◌, ◌++◌, ◌∙◌, true, false, Option, Some, None, Result, Ok, Err, All, refl, ap, sym, subst, arith, length, append-nil, append_assoc, add-zero, IfErr, IfOk, reverse, All-cons, All-nil, most_streamed_lines, Header, TraceRow, LineFault, text_taken, RowReader, StreamFault, Line, Device, ahead_of, IsCall, has_ended, IsOpened, IsSameTrace, progress_of, HasRead, IfBadLine, IsBadTaken, OfStream, Lease, Refusal, without_end, Lent, lents, FitsFields, header_now, known_now, ring_lents, IsLeastOfRow, DoNoHarm, IsRingLogged, IsRingPassed, Begins, IfRefusedRow, IsWholeLog, OfTrace, with_rows, ring_row, ring_verdict, RingPass}
-use Rattle.trace_reader.specs.declared.row_reader.fault.StreamFault.TheVariants.{Memory}
-use Rattle.trace_reader.proofs.Streaming.Streams.{end_read, line_read_bad, opened_read, row_numbered, row_read}
-use Rattle.trace_record.specs.declared.fault.StepFault.{StepFault}
-use Rattle.trace_record.specs.declared.fault.StepFault.TheVariants.{Refused as RefusedBy}
-use Rattle.trace_record.specs.Steps.{IfRefused}
-use Rattle.ownership_checker.specs.declared.pass.reading.Passed.{Passed}
-use Rattle.ownership_checker.specs.declared.pass.reading.Passed.TheVariants.{Whole, Refused}
-use Rattle.ownership_checker.proofs.RingPasses.RowsFit.{row_fits}
-use Rattle.ownership_checker.proofs.RingPasses.Verdicts.{none_refused, one_more, reversed_more, reversed_twice, row_refused}
-use Rattle.ownership_checker.proofs.RingPasses.Walks.{walks}
+use Rattle.ownership_checker.proofs.MiddleLaws.{◌≡◌, ℕ, Bool, ◌+◌, ◌-◌, ◌<◌, List, [], ◌∷◌, ◌++◌, ◌∙◌, true, false, Option, Some, None, Result, Ok, Err, All, refl, ap, sym, subst, arith, length, append-nil, append_assoc, add-zero, IfErr, IfOk, reverse, All-cons, All-nil, most_streamed_lines, Header, TraceRow, LineFault, text_taken, RowReader, StreamFault, Line, ahead_of, IsCall, has_ended, IsOpened, IsSameTrace, progress_of, HasRead, IfBadLine, IsBadTaken, OfStream, Lease, Refusal, without_end, Lent, lents, FitsFields, header_now, known_now, ring_lents, IsLeastOfRow, DoNoHarm, IsRingLogged, IsRingPassed, Begins, IfRefusedRow, IsWholeLog, OfTrace, with_rows, ring_row, ring_verdict, RingPass, end_read, line_read_bad, opened_read, row_numbered, row_read, StepFault, RefusedBy, IfRefused, Passed, row_fits, none_refused, one_more, reversed_more, reversed_twice, row_refused, walks, rules}
 
 -- a call between two readers answered so
 abbrev pub Gives : Option (List ℕ) → Option (List ℕ) → RowReader → RowReader → Result (Option (ℕ × TraceRow)) StreamFault → Type 0
@@ -23,11 +13,7 @@ pub record IsGiven (held held' : Option (List ℕ)) (r r' : RowReader) (row : �
 
 pub given : {o : Option (ℕ × TraceRow)} {held held' : Option (List ℕ)} {row : ℕ × TraceRow} (r r' : RowReader) → o ≡ Some row → IsSameTrace r r' → r'.ended ≡ has_ended (Ok o) → Gives held held' r r' (Ok o) →
     IsGiven held held' r r' row
-given {held} {held'} r r' is headed over call = record {
-  headed = headed;
-  on = subst (λ (o : Option (ℕ × TraceRow)). r'.ended ≡ has_ended (Ok o)) is over;
-  call = subst (λ (o : Option (ℕ × TraceRow)). Gives held held' r r' (Ok o)) is call;
-}
+given {held} {held'} r r' is headed over call = search rules
 
 -- it gave none
 pub record IsOver (held held' : Option (List ℕ)) (r r' : RowReader) : Type 0 where
@@ -36,11 +22,7 @@ pub record IsOver (held held' : Option (List ℕ)) (r r' : RowReader) : Type 0 w
   pub call : Gives held held' r r' (Ok None)
 
 pub ended : {o : Option (ℕ × TraceRow)} {held held' : Option (List ℕ)} (r r' : RowReader) → o ≡ None → IsSameTrace r r' → r'.ended ≡ has_ended (Ok o) → Gives held held' r r' (Ok o) → IsOver held held' r r'
-ended {held} {held'} r r' is headed over call = record {
-  headed = headed;
-  over = subst (λ (o : Option (ℕ × TraceRow)). r'.ended ≡ has_ended (Ok o)) is over;
-  call = subst (λ (o : Option (ℕ × TraceRow)). Gives held held' r r' (Ok o)) is call;
-}
+ended {held} {held'} r r' is headed over call = search rules
 
 -- behind a row fewer lines may be left
 pub fewer_left : {held held' : Option (List ℕ)} {r r' : RowReader} {row : ℕ × TraceRow} → IsGiven held held' r r' row → most_streamed_lines - r'.lines < most_streamed_lines - r.lines
@@ -54,19 +36,14 @@ as_taken row one same = ap (λ (r : TraceRow). Ok r) same
 of_start : (before held : Option (List ℕ)) (start r : RowReader) (first : ℕ) (rows : List TraceRow) → IsSameTrace start r →
     OfStream before held (λ text. text_taken r.keeps ring_row text ≡ Ok (record { header = r.header; first = first; rows = rows })) →
     OfStream before held (λ text. text_taken start.keeps ring_row text ≡ Ok (record { header = start.header; first = first; rows = rows }))
-of_start before held start r first rows same read =
-    subst (λ (k : Bool). OfStream before held (λ text. text_taken k ring_row text ≡ Ok (record { header = start.header; first = first; rows = rows }))) same.1
-    (subst (λ (h : Header). OfStream before held (λ text. text_taken r.keeps ring_row text ≡ Ok (record { header = h; first = first; rows = rows }))) same.0 read)
+of_start before held start r first rows same read = rw (← same.0, ← same.1) read
 
 -- what a pass comes to that ends at a row
 pub ended_refused : {B : Type 0} (r : Result (Passed B) StreamFault) (P Q : ℕ → Refusal → Type 0) → ((row : ℕ) (c : Refusal) → P row c → Q row c) → IfOk r (λ p. IfRefusedRow p P) → IfOk r (λ p. IfRefusedRow p Q)
-ended_refused (Ok (Whole log)) P Q f so = tt
-ended_refused (Ok (Refused row c)) P Q f so = f row c so
-ended_refused (Err e) P Q f so = tt
+ended_refused r P Q f so = grind (arith, f)
 
 pub ended_bad : {B : Type 0} (r : Result (Passed B) StreamFault) (P Q : ℕ → LineFault → Type 0) → ((e : StreamFault) → IfBadLine e P → IfBadLine e Q) → IfErr r (λ e. IfBadLine e P) → IfErr r (λ e. IfBadLine e Q)
-ended_bad (Ok passed) P Q f so = tt
-ended_bad (Err e) P Q f so = f e so
+ended_bad r P Q f so = grind (arith, f)
 
 -- so many rows were read and passed
 pub record IsUnderway {B M : Type 0} (words : M → ℕ → ℕ) (holds : List Lease → Header → List Lent → B → Type 0) (start : RowReader) (held held' : Option (List ℕ)) (log : B) (reader : RowReader)
@@ -88,10 +65,8 @@ module _ {B M : Type 0} {words : M → ℕ → ℕ} {holds : List Lease → Head
     headed = (refl, refl);
     read = λ keeps before opened. opened_read ring_row keeps before held start opened;
     fitting = All-nil FitsFields;
-    passed = subst (λ (x : Header). IsRingPassed words x [] pass) is passed;
-    logged = λ list begins.
-        subst (λ (x : Header). IsRingLogged (holds list) x (start.lines + 1) [] pass) is
-        (logged list (start.lines + 1) (subst (λ (x : Header). holds list x (lents x (start.lines + 1) []) log) (sym is) (begins (start.lines + 1))));
+    passed = rw is at passed;
+    logged = λ list begins. rw is at (logged list (start.lines + 1) (rw is (begins (start.lines + 1))));
   }
 
   module _ {held' : Option (List ℕ)} {r : RowReader} {pass : RingPass B M} (u : IsUnderway words holds start held held' log r pass) where
@@ -148,25 +123,23 @@ module _ {B M : Type 0} {words : M → ℕ → ℕ} {holds : List Lease → Head
           (more : List TraceRow) × OfStream before last (λ text. text_taken r'.keeps ring_row text ≡ Ok (with_rows r' first (done ++ more)))) →
           (keeps : Bool) (before : Option (List ℕ)) → IsOpened keeps before held (Ok start) → OfTrace keeps before last (λ trace. ring_verdict trace.header trace.first trace.rows ≡ Some (number, c))
       refused_at last least number c so keeps before opened =
-          let told = subst (λ (e : StepFault). IfRefused e (λ y. (h : Header) (past : List TraceRow) → IsRingPassed words h past pass → IsLeastOfRow (header_now h past) (known_now h past) one y)) so.1 least in
-          subst (λ n. OfTrace keeps before last (λ trace. ring_verdict trace.header trace.first trace.rows ≡ Some (n, c))) (sym so.0) (refused_so last c told so.2 keeps before opened)
+          rw so.0 (refused_so last c (rw so.1 at least) so.2 keeps before opened)
 
       -- a refused row, and a bad line behind it
       pub bad_behind : (last : Option (List ℕ)) (e : StreamFault) →
           IfBadLine e (λ line fault. (before : Option (List ℕ)) (first : ℕ) (done : List TraceRow) → HasRead ring_row before held'' first done r' → IsBadTaken r'.keeps ring_row before last line fault) →
           IfBadLine e (λ line fault. (keeps : Bool) (before : Option (List ℕ)) → IsOpened keeps before held (Ok start) → IsBadTaken keeps ring_row before last line fault)
       bad_behind last (Line line fault) told = λ keeps before opened.
-          subst (λ (k : Bool). IsBadTaken k ring_row before last line fault) (next.headed.1 ∙ u.headed.1 ∙ opened.0) (told before (start.lines + 1) (reverse (one ∷ u.past)) (read_so keeps before opened))
-      bad_behind last Device told = tt
-      bad_behind last Memory told = tt
+          subst (λ (k : Bool). IsBadTaken k ring_row before last line fault) (next.headed.1 ∙ u.headed.1 ∙ opened.0)
+          (told before (start.lines + 1) (reverse (one ∷ u.past)) (read_so keeps before opened))
+      bad_behind last _ told = search rules
 
     -- a bad line is told
     pub bad_so : (held'' : Option (List ℕ)) (r' : RowReader) (e : StreamFault) → IsSameTrace r r' → r'.ended ≡ true → Gives held' held'' r r' (Err e) →
         IfBadLine e (λ line fault. (keeps : Bool) (before : Option (List ℕ)) → IsOpened keeps before held (Ok start) → IsBadTaken keeps ring_row before held'' line fault)
-    bad_so held'' r' (Line line fault) headed over call = λ keeps before opened.
-        subst (λ (k : Bool). IsBadTaken k ring_row before held'' line fault) (u.headed.1 ∙ opened.0) (line_read_bad ring_row before held' held'' (start.lines + 1) (reverse u.past) r r' headed (u.read keeps before opened) over line fault call)
-    bad_so held'' r' Device headed over call = tt
-    bad_so held'' r' Memory headed over call = tt
+    bad_so held'' r' (Line line fault) headed over call = λ keeps before opened. rw (← opened.0, ← u.headed.1)
+        (line_read_bad ring_row before held' held'' (start.lines + 1) (reverse u.past) r r' headed (u.read keeps before opened) over line fault call)
+    bad_so held'' r' _ headed over call = search rules
 
     -- no row is left
     pub whole_so : {held'' : Option (List ℕ)} {r' : RowReader} → IsOver held' held'' r r' → (r.ended ≡ true → held'' ≡ held') →
@@ -238,5 +211,4 @@ module _ {start : RowReader} {held : Option (List ℕ)} where
     pub bad_read_on : (held'' : Option (List ℕ)) (r' : RowReader) (e : StreamFault) → IsSameTrace r r' → r'.ended ≡ true → Gives held' held'' r r' (Err e) →
         IfBadLine e (λ line fault. (before : Option (List ℕ)) (first : ℕ) (done : List TraceRow) → HasRead ring_row before held first done start → IsBadTaken start.keeps ring_row before held'' line fault)
     bad_read_on held'' r' (Line line fault) headed over call = λ before first done read. bad_more held'' r' before first done headed over line fault call (u.read before first done read)
-    bad_read_on held'' r' Device headed over call = tt
-    bad_read_on held'' r' Memory headed over call = tt
+    bad_read_on held'' r' _ headed over call = search rules

@@ -1,11 +1,8 @@
 -- Each row is taken as it stands: what a text says is the trace that it spells
-use Rattle.ownership_checker.proofs.Words.{Bool, ◌≡◌, ◌∷◌, ◌∙◌, ℕ, List, [], Option, Some, None, Result, Ok, Err, refl, sym, TraceRow, LineFault, State, TraceText, go_on, next_number, read_line, read_lines, start, trace_of, whole, take_lines, taken, text_taken, ring_row}
-use Rattle.line_text.specs.Lines.{TextLine, lines_of}
+use Rattle.ownership_checker.proofs.Words.{arith, Bool, ◌≡◌, ◌∷◌, ◌∙◌, ℕ, List, [], Option, Result, Ok, refl, sym, TraceRow, LineFault, State, TraceText, go_on, next_number, read_line, read_lines, start, trace_of, whole, take_lines, taken, text_taken, ring_row, TextLine, lines_of}
 
 taken_same : (r : Result (State × Option TraceRow) LineFault) → taken ring_row r ≡ r
-taken_same (Ok (st, Some row)) = refl
-taken_same (Ok (st, None)) = refl
-taken_same (Err fault) = refl
+taken_same r = grind arith
 
 lines_same : (lines : List TextLine) (st : State) → take_lines ring_row st lines ≡ read_lines st lines
 unfolding take_lines read_lines

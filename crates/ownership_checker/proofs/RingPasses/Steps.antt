@@ -1,24 +1,11 @@
 -- A row more of a pass
-use Rattle.ownership_checker.proofs.Words.{◌≡◌, ◌+◌, ◌++◌, ◌∷◌, ◌∙◌, ℕ, true, false, List, [], All, Option, Some, None, Result, Ok, Err, IfErr, suc, length, reverse, arith, refl, sym, ap, subst, inl, inr, reverse-append, All-cons, All-head, All-nil, All-tail, Header, Known, Ring, IsHeader, DriverKeeps, nothing, on_ring, false≢true, lenient_row, nothing_kept, clean_tests, EventState, Xfer, Row, TraceRow, Plain, Comes, Goes, id_below, IsAmong, TraceRecord, FollowsTrace, IsWithin, IsLeast, IsRowStep, Refusal, IsTracked, ContextsFit, IsComing, forgotten, is_bad_free, is_bad_ring, with_ring, without_ring, AreKept, FitsFields, header_now, known_now, is_left, restored, restored_on, ring_restored, some_flips, row_comes, stopped_still, BadFree, BadRing, BadWithdraw, first_of, withdraws_badly, restored_same, IsLeastOfRow, DoNoHarm, IsRingPassed, NothingFree, RingPass}
-use Rattle.safety.proofs.DriverHistories.{kept_driver}
-use Rattle.traces.specs.declared.trace_row.TraceRow.TheVariants.{Withdraws}
-use Rattle.trace_record.specs.RingFinder.Finding.{IsFinder}
+use Rattle.ownership_checker.proofs.LowerLaws.{◌≡◌, ◌+◌, ◌++◌, ◌∷◌, ◌∙◌, ℕ, true, false, List, [], All, Option, Some, None, Result, IfErr, suc, length, reverse, arith, refl, sym, ap, subst, inl, inr, reverse-append, All-cons, All-head, All-nil, All-tail, Header, Known, Ring, IsHeader, DriverKeeps, nothing, on_ring, false≢true, lenient_row, nothing_kept, clean_tests, EventState, Xfer, Row, TraceRow, Plain, Comes, Goes, id_below, IsAmong, TraceRecord, FollowsTrace, IsWithin, IsLeast, IsRowStep, Refusal, IsTracked, ContextsFit, IsComing, forgotten, is_bad_free, is_bad_ring, with_ring, without_ring, AreKept, FitsFields, header_now, known_now, is_left, restored, restored_on, ring_restored, some_flips, row_comes, stopped_still, BadFree, BadRing, BadWithdraw, withdraws_badly, restored_same, IsLeastOfRow, DoNoHarm, IsRingPassed, NothingFree, RingPass, kept_driver, Withdraws, IsFinder, contexts_fit, EntriesFit, nothing_fits, still_fit, row_keeps, withdraw_keeps, gone_ring_kept, comes_keeps, rings_headline, IsRingStep, least_broken, none_broken, reversed_twice, rules}
 use Rattle.trace_record.proofs.RingFinder.HeaderRings.{shape_allowed}
+use Rattle.leases.proofs.LeaseRows.EntriesFit.{row_fits}
+use Rattle.ownership_checker.proofs.RingPasses.Histories.{comes_free, driver_same, flips_none_restored, goes_free, kept_now, no_rule_broken, nothing_free, plain_free, stands_where_restored}
 use Rattle.trace_record.specs.declared.fault.StepFault as step
 use Rattle.trace_record.specs.declared.fault.StepFault.TheVariants as variants
 use Rattle.trace_record.specs.Steps as steps
-use Rattle.ownership_checker.proofs.JudgedRows.Keeping.{contexts_fit}
-use Rattle.leases.specs.LeaseRows.LeftBehind.{EntriesFit}
-use Rattle.leases.proofs.LeaseRows.EntriesFit.{nothing_fits, row_fits, still_fit}
-use Rattle.safety.proofs.RingChanges.Restored.{row_keeps}
-use Rattle.safety.proofs.RingChanges.Withdrawn.{withdraw_keeps}
-use Rattle.safety.proofs.RingChanges.GoneRings.{gone_ring_kept}
-use Rattle.safety.proofs.RingChanges.RingRuns.{comes_keeps}
-use Rattle.safety.proofs.RingChanges.RingsHeadline.{rings_headline}
-use Rattle.driver_rows.specs.RingRows.RingSteps.{IsRingStep}
-use Rattle.ownership_checker.proofs.RingPasses.Broken.{least_broken, none_broken}
-use Rattle.ownership_checker.proofs.RingPasses.Histories.{comes_free, driver_same, flips_none_restored, goes_free, kept_now, no_rule_broken, nothing_free, plain_free, stands_where_restored}
-use Rattle.ownership_checker.proofs.RingPasses.Verdicts.{reversed_twice}
 
 among_last : (r : Ring) (rs : List Ring) → IsAmong r (rs ++ r ∷ [])
 among_last r [] = inl refl
@@ -27,38 +14,29 @@ among_last r (x ∷ rs) = inr (among_last r rs)
 -- a ring that a header has behind it may come, by its line alone
 pub coming_by_header : (h : Header) (r : Ring) → IsHeader (with_ring h r) → r.shape.kind ≡ Xfer → IsComing r
 unfolding with_ring
-coming_by_header h r is kind = record {
-  low = id_below (with_ring h r) is r (among_last r h.rings);
-  kind = kind;
-  shape = shape_allowed (with_ring h r) is r (among_last r h.rings);
-}
+coming_by_header h r is kind = search (rules, id_below (with_ring h r) is r, among_last, shape_allowed (with_ring h r) is r)
 
 all_joined : (xs ys : List TraceRow) → All FitsFields xs → All FitsFields ys → All FitsFields (xs ++ ys)
 all_joined [] ys first second = second
-all_joined (x ∷ xs) ys first second = All-cons FitsFields x (xs ++ ys) (All-head FitsFields x xs first) (all_joined xs ys (All-tail FitsFields x xs first) second)
+all_joined (x ∷ xs) ys first second = search (rules, All-cons, All-head, All-tail, all_joined xs ys)
 
 pub all_reversed : (rows : List TraceRow) → All FitsFields rows → All FitsFields (reverse rows)
 all_reversed [] are = are
-all_reversed (row ∷ rows) are =
-    subst (All FitsFields) (sym (reverse-append (row ∷ []) rows))
-    (all_joined (reverse rows) (row ∷ []) (all_reversed rows (All-tail FitsFields row rows are)) (All-cons FitsFields row [] (All-head FitsFields row rows are) (All-nil FitsFields)))
+all_reversed (row ∷ rows) are = rw (reverse-append (row ∷ []) rows) (all_joined (reverse rows) (row ∷ []) (all_reversed rows (All-tail FitsFields row rows are))
+    (All-cons FitsFields row [] (All-head FitsFields row rows are) (All-nil FitsFields)))
 
 one_more : (events : Option EventState) (n : ℕ) → IsWithin events n → IsWithin events (n + 1)
-one_more None n within = tt
-one_more (Some e) n within = omega (arith, within)
+one_more events n within = grind arith
 
 one_later : (t : TraceRecord) (n : ℕ) → IsWithin t.events n → IsWithin t.events (suc n)
 one_later t n within = subst (IsWithin t.events) (omega arith) (one_more t.events n within)
 
 -- of a refusal of a row, what follows of it
 pub refused_too : {T : Type 0} (r : Result T step.StepFault) (P Q : Refusal → Type 0) → ((c : Refusal) → P c → Q c) → IfErr r (λ e. steps.IfRefused e P) → IfErr r (λ e. steps.IfRefused e Q)
-refused_too (Ok x) P Q f so = tt
-refused_too (Err (variants.Refused c)) P Q f so = f c so
-refused_too (Err variants.Memory) P Q f so = tt
+refused_too r P Q f so = grind (arith, f)
 
 pub told_of : (e : step.StepFault) (P Q : Refusal → Type 0) → ((c : Refusal) → P c → Q c) → steps.IfRefused e P → steps.IfRefused e Q
-told_of (variants.Refused c) P Q f so = f c so
-told_of variants.Memory P Q f so = tt
+told_of e P Q f so = grind (arith, f)
 
 forgotten_fits : (k : Known) (id : ℕ) → EntriesFit k → EntriesFit (forgotten k id)
 unfolding forgotten
@@ -108,18 +86,14 @@ module _ {B M : Type 0} (words : M → ℕ → ℕ) where
         let on : k.stopped ≡ false = sym (stopped_still g k (ring_restored g k row)) ∙ (clean_tests g (restored g k row) row clean).0 in
         let keeps = tracked_now.keeps on in
         let keeps_restored : DriverKeeps g (restored g k row) = row_keeps g headed_now k keeps row stands in
-        let tracked : IsTracked g (known_now h (Plain row ∷ past)) after memory = record {
-          follows = now.followed;
-          keeps = λ still. kept_driver g headed_now (restored g k row) row keeps_restored (row_comes g headed_now k keeps row clean flips) still;
-        } in
-        let number : length past + 1 ≡ length (Plain row ∷ past) = omega arith in
         record {
           opening = p.opening;
           header = header ∙ p.header;
-          headed = subst IsHeader (sym header) p.headed;
+          headed = rw header p.headed;
           found = rw (header, same) p.found;
-          few_reads = rw is (subst (IsWithin after.events) number reads);
-          tracked = rw (is, at) (subst (λ (x : Header). IsTracked x (known_now h (Plain row ∷ past)) after memory) (sym (header ∙ p.header)) tracked);
+          few_reads = rw is (subst (IsWithin after.events) (omega arith) reads);
+          tracked = rw (is, at, header, p.header)
+              (record { follows = now.followed; keeps = λ still. kept_driver g headed_now (restored g k row) row keeps_restored (row_comes g headed_now k keeps row clean flips) still });
           entries = row_fits g headed_now (restored g k row) row keeps_restored clean (restored_fits g k (ring_restored g k row) p.entries);
           clean = (p.clean, no_rule_broken g k row (record { on = on; stands = stands; flips = flips; clean = now.clean }));
           unwithdrawn = none;
@@ -133,20 +107,16 @@ module _ {B M : Type 0} (words : M → ℕ → ℕ) where
       pub quiet_behind : (row : Row) (after : TraceRecord) (memory : ℕ → ℕ) → IsRowStep before.header k row after memory → IsWithin after.events (length past + 1) →
           (later : RingPass B M) → later.header ≡ before.header → later.finder ≡ before.finder → later.record ≡ after → words later.memory ≡ memory → IsRingPassed words h (Plain row ∷ past) later
       quiet_behind row after memory step reads later header same is at =
-          let here : IsRowStep g k row after memory = subst (λ (x : Header). IsRowStep x k row after memory) p.header step in
           plain_behind row after memory (stands_where_restored g k none_now row) (flips_none_restored g k none_now row)
-          (subst (λ (x : Known). IsRowStep g x row after memory) (sym (restored_same g k row none_now)) here) reads later header same is at (λ none. plain_free h past none_now row)
+          (rw (restored_same g k row none_now, ← p.header) step) reads later header same is at (λ none. plain_free h past none_now row)
 
       pub least_quiet : (row : Row) (c : Refusal) → IsLeast before.header k row c → IsLeastOfRow g k (Plain row) c
-      least_quiet row c least = ap first_of (driver_same g k none_now row) ∙ subst (λ (x : Header). IsLeast x k row c) p.header least
+      least_quiet row c least = rw (driver_same g k none_now row, ← p.header) least
 
     -- where the ring that a row starts or moves stands as declared, this holds what is known once that is the controller's again
     pub restored_tracked : (row : Row) (o : Option ℕ) (after : TraceRecord) → o ≡ ring_restored before.header k row → k.stopped ≡ false → is_left before.header k (ring_restored before.header k row) ≡ false →
         FollowsTrace before.header (restored_on before.header k o) after (words before.memory) → IsTracked before.header (restored before.header k row) after (words before.memory)
-    restored_tracked row o after is on stands follows = record {
-      follows = subst (λ (x : Option ℕ). FollowsTrace before.header (restored_on before.header k x) after (words before.memory)) is follows;
-      keeps = λ still. row_keeps before.header p.headed k (p.tracked.keeps on) row stands;
-    }
+    restored_tracked row o after is on stands follows = record { follows = rw (← is) follows; keeps = λ still. row_keeps before.header p.headed k (p.tracked.keeps on) row stands }
 
     -- behind a ring that comes
     pub comes_behind : (ring : Ring) (after : TraceRecord) → ring.shape.kind ≡ Xfer → (DriverKeeps before.header k → k.stopped ≡ false → IsRingStep before.header k (Comes ring) after (words before.memory)) →
@@ -154,8 +124,7 @@ module _ {B M : Type 0} (words : M → ℕ → ℕ) where
         words later.memory ≡ words before.memory → later.has_withdrawn ≡ before.has_withdrawn → IsRingPassed words h (Comes ring ∷ past) later
     comes_behind ring after kind stepped on reads later header is found recorded at same =
         let keeps = tracked_now.keeps on in
-        let now : IsRingStep g k (Comes ring) after (words before.memory) =
-        subst (λ (x : Header). IsRingStep x k (Comes ring) after (words before.memory)) p.header (stepped (p.tracked.keeps on) on) in
+        let now : IsRingStep g k (Comes ring) after (words before.memory) = rw p.header at (stepped (p.tracked.keeps on) on) in
         let there : later.header ≡ with_ring g ring = header ∙ ap (λ (x : Header). with_ring x ring) p.header in
         let coming : IsComing ring = coming_by_header g ring (subst IsHeader there is) kind in
         record {
@@ -164,8 +133,7 @@ module _ {B M : Type 0} (words : M → ℕ → ℕ) where
           headed = is;
           found = found;
           few_reads = rw recorded (one_later after (length past) reads);
-          tracked = rw (recorded, at) (subst (λ (x : Header). IsTracked x (known_now h (Comes ring ∷ past)) after (words before.memory)) (sym there)
-              (record { follows = now.followed; keeps = λ still. comes_keeps g headed_now ring coming k keeps now.kept.1 }));
+          tracked = rw (recorded, at, there) (record { follows = now.followed; keeps = λ still. comes_keeps g headed_now ring coming k keeps now.kept.1 });
           entries = forgotten_fits k _ p.entries;
           clean = (p.clean, none_broken k BadRing (is_bad_ring g k ring) now.kept);
           unwithdrawn = λ none. comes_free h past (p.unwithdrawn (sym same ∙ none)) ring;
@@ -177,8 +145,7 @@ module _ {B M : Type 0} (words : M → ℕ → ℕ) where
         words later.memory ≡ words before.memory → later.has_withdrawn ≡ before.has_withdrawn → IsRingPassed words h (Goes id ∷ past) later
     goes_behind id after stepped on reads later header is found recorded at same =
         let keeps = tracked_now.keeps on in
-        let now : IsRingStep g k (Goes id) after (words before.memory) =
-        subst (λ (x : Header). IsRingStep x k (Goes id) after (words before.memory)) p.header (stepped (p.tracked.keeps on) on) in
+        let now : IsRingStep g k (Goes id) after (words before.memory) = rw p.header at (stepped (p.tracked.keeps on) on) in
         let there : later.header ≡ without_ring g id = header ∙ ap (λ (x : Header). without_ring x id) p.header in
         record {
           opening = p.opening;
@@ -186,8 +153,7 @@ module _ {B M : Type 0} (words : M → ℕ → ℕ) where
           headed = is;
           found = found;
           few_reads = rw recorded (one_later after (length past) reads);
-          tracked = rw (recorded, at) (subst (λ (x : Header). IsTracked x (known_now h (Goes id ∷ past)) after (words before.memory)) (sym there)
-              (record { follows = now.followed; keeps = λ still. gone_ring_kept g headed_now k keeps id now.kept.1 }));
+          tracked = rw (recorded, at, there) (record { follows = now.followed; keeps = λ still. gone_ring_kept g headed_now k keeps id now.kept.1 });
           entries = forgotten_fits k _ p.entries;
           clean = (p.clean, none_broken k BadFree (is_bad_free g k id) now.kept);
           unwithdrawn = λ none. goes_free h past (p.unwithdrawn (sym same ∙ none)) id;
@@ -201,36 +167,23 @@ module _ {B M : Type 0} (words : M → ℕ → ℕ) where
     unfolding on_ring
     withdrawn_behind r q after stepped good on reads later header same recorded at has =
         let keeps = tracked_now.keeps on in
-        let keeps_before = p.tracked.keeps on in
-        let now : IsRingStep g k (Withdraws r q) after (words before.memory) =
-        subst (λ (x : Header). IsRingStep x k (Withdraws r q) after (words before.memory)) p.header (stepped keeps_before on) in
+        let now : IsRingStep g k (Withdraws r q) after (words before.memory) = rw p.header at (stepped (p.tracked.keeps on) on) in
         record {
           opening = p.opening;
           header = header ∙ p.header;
-          headed = subst IsHeader (sym header) p.headed;
+          headed = rw header p.headed;
           found = rw (header, same) p.found;
           few_reads = rw recorded (one_later after (length past) reads);
-          tracked = rw (recorded, at) (subst (λ (x : Header). IsTracked x (known_now h (Withdraws r q ∷ past)) after (words before.memory)) (sym (header ∙ p.header))
-              (record { follows = now.followed; keeps = λ still. withdraw_keeps g r q headed_now k keeps now.kept.1 }));
+          tracked = rw (recorded, at, header, p.header) (record { follows = now.followed; keeps = λ still. withdraw_keeps g r q headed_now k keeps now.kept.1 });
           entries = still_fit k (known_now h (Withdraws r q ∷ past)) refl (λ s d at. at) p.entries;
-          clean = (p.clean, none_broken k BadWithdraw (withdraws_badly g k r q) (on, subst (λ (x : Header). withdraws_badly x k r q ≡ false) p.header (good keeps_before)));
+          clean = (p.clean, none_broken k BadWithdraw (withdraws_badly g k r q) (on, rw p.header at (good (p.tracked.keeps on))));
           unwithdrawn = λ none. absurd (false≢true (sym none ∙ has));
         }
 
     -- the log and the indexes tell nothing of this
     pub same_still : (later : RingPass B M) → later.header ≡ before.header → later.finder ≡ before.finder → later.record ≡ before.record → later.memory ≡ before.memory →
         later.has_withdrawn ≡ before.has_withdrawn → IsRingPassed words h past later
-    same_still later header finder known memory withdrawn = rw (header, finder, known, memory, withdrawn) (record {
-      opening = p.opening;
-      header = p.header;
-      headed = p.headed;
-      found = p.found;
-      few_reads = p.few_reads;
-      tracked = p.tracked;
-      entries = p.entries;
-      clean = p.clean;
-      unwithdrawn = p.unwithdrawn;
-    })
+    same_still later header finder known memory withdrawn = rw (header, finder, known, memory, withdrawn) (assumption p)
 
     -- no run beside the rows, in their order, does harm
     pub no_harm : All FitsFields past → DoNoHarm h (reverse past)

@@ -20,14 +20,7 @@ module _ (h : Header) (first : ℕ) where
   verdict_behind : (past more : List TraceRow) → AreClean h past → ring_verdict h first (reverse past ++ more) ≡ ring_verdict_from (header_now h past) (known_now h past) (first + length past) more
   unfolding ring_verdict_from first_or
   verdict_behind [] more clean = ap (λ n. ring_verdict_from h nothing n more) (sym (add-zero first))
-  verdict_behind (row ∷ past) more clean =
-      let g = header_now h past in
-      let k = known_now h past in
-      let number : first + length past + 1 ≡ first + length (row ∷ past) = omega arith in
-      ap (ring_verdict h first) (one_more past row more)
-      ∙ verdict_behind past (row ∷ more) clean.0
-      ∙ ap (λ cs. first_or cs (first + length past) (ring_verdict_from (header_after g row) (known_after g k row) (first + length past + 1) more)) clean.1
-      ∙ ap (λ n. ring_verdict_from (header_after g row) (known_after g k row) n more) number
+  verdict_behind (row ∷ past) more clean = grind (arith, one_more, verdict_behind past (row ∷ more) clean.0)
 
   -- no row breaks a rule
   pub none_refused : (past : List TraceRow) → AreClean h past → ring_verdict h first (reverse past) ≡ None

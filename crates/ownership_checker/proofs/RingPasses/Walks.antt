@@ -1,16 +1,8 @@
 -- Behind any rows that break no rule the walk through each ring that is there reads what was declared
-use Rattle.ownership_checker.proofs.Words.{◌≡◌, ◌∷◌, ◌++◌, ◌∙◌, ℕ, true, false, List, [], All, sym, ap, subst, drop, reverse, take, false≢true, reverse-append, take-append-drop, RingKind, Evt, walk_reads, TraceRow, Plain, Comes, Goes, is_driver_kind, shape_of, All-tail, Header, IsHeader, Known, DriverKeeps, rings_of, endpoints_of, still_of, lenient_row, HasRing, has_ring, still_reads, BadFree, BadRing, BadWithdraw, on_ring, forgotten, is_bad_free, is_bad_ring, FitsFields, header_now, known_now, restored, row_comes, withdraws_badly, AreClean}
-use Rattle.traces.specs.declared.trace_row.TraceRow.TheVariants.{Withdraws}
-use Rattle.safety.specs.RingsKeep.{RingsKeep}
-use Rattle.safety.proofs.DriverRows.{nothing_keeps}
+use Rattle.ownership_checker.proofs.LowerLaws.{rules, ◌≡◌, ◌∷◌, ◌++◌, ◌∙◌, ℕ, true, false, List, [], All, sym, ap, subst, drop, reverse, take, false≢true, reverse-append, take-append-drop, RingKind, Evt, walk_reads, TraceRow, Plain, Comes, Goes, is_driver_kind, All-tail, Header, IsHeader, Known, DriverKeeps, rings_of, endpoints_of, still_of, lenient_row, HasRing, has_ring, still_reads, BadFree, BadRing, BadWithdraw, on_ring, forgotten, is_bad_free, is_bad_ring, FitsFields, header_now, known_now, restored, row_comes, withdraws_badly, AreClean, Withdraws, RingsKeep, nothing_keeps, shape_allowed, restored_keeps, now_keeps, breaks_none, reversed_twice}
 use Rattle.safety.proofs.Histories.{row_keeps}
-use Rattle.safety.proofs.RingsOfHeader.{shape_allowed}
-use Rattle.safety.proofs.RingChanges.Restored.{row_keeps as restored_keeps}
-use Rattle.safety.proofs.RingChanges.RingsHeadline.{now_keeps}
 use Rattle.ownership_checker.specs.RingPasses.Accepted.{WalksRead}
-use Rattle.ownership_checker.proofs.RingPasses.Broken.{breaks_none}
 use Rattle.ownership_checker.proofs.RingPasses.Histories.{breaks_no_rule, kept_now}
-use Rattle.ownership_checker.proofs.RingPasses.Verdicts.{reversed_twice}
 
 module _ (h : Header) (is : IsHeader h) where
   -- behind rows that break no rule: also behind a stop
@@ -19,9 +11,7 @@ module _ (h : Header) (is : IsHeader h) where
     pub rings : RingsKeep (header_now h past) (known_now h past)
 
   of_rows : (past : List TraceRow) → All FitsFields past → AreClean h past → (known_now h past).stopped ≡ false → AllKept past
-  of_rows past fit clean on =
-      let p = now_keeps h is past fit (kept_now h past clean) on in
-      record { headed = p.headed; rings = rings_of (header_now h past) (known_now h past) p.keeps }
+  of_rows past fit clean on = search (rules, rings_of, now_keeps h is past fit (kept_now h past clean) on)
 
   all_kept : (past : List TraceRow) → All FitsFields past → AreClean h past → AllKept past
   unfolding forgotten on_ring
@@ -33,14 +23,7 @@ module _ (h : Header) (is : IsHeader h) where
       let p = now_keeps h is past (All-tail FitsFields (Plain row) past fit) (kept_now h past clean.0) c.on in
       let may = lenient_row g (restored g k row) row c.clean in
       let keeps : DriverKeeps g (restored g k row) = restored_keeps g p.headed k p.keeps row c.stands in
-      let endpoints = endpoints_of g (restored g k row) keeps.states in
-      let rings = rings_of g (restored g k row) keeps in
-      record {
-        headed = p.headed;
-        rings =
-            row_keeps g p.headed (restored g k row) row rings endpoints keeps.commands_stay (row_comes g p.headed k p.keeps row may c.flips)
-            (still_reads g p.headed (restored g k row) row rings endpoints (still_of g p.headed (restored g k row) row keeps may));
-      }
+      search (rules, endpoints_of, rings_of, row_keeps, row_comes, still_reads, still_of)
   all_kept (Comes ring ∷ past) fit clean =
       of_rows (Comes ring ∷ past) fit clean (breaks_none (known_now h past) BadRing (is_bad_ring (header_now h past) (known_now h past) ring) clean.1).0
   all_kept (Goes id ∷ past) fit clean = of_rows (Goes id ∷ past) fit clean (breaks_none (known_now h past) BadFree (is_bad_free (header_now h past) (known_now h past) id) clean.1).0
@@ -69,5 +52,4 @@ walks h is past fit clean done r within driver restored =
     let kept = all_kept h is there (earlier_fit h is (reverse (drop done rows)) there (subst (All FitsFields) parts fit)) was_clean in
     let g = header_now h there in
     let has : HasRing g r = has_ring g r driver in
-    walk_reads (shape_of g r) (shape_allowed g kept.headed r driver) (no_event_ring (shape_of g r).kind (ap (λ s. is_driver_kind s.kind) has.shape ∙ has.driver))
-    (known_now h there).memory ((known_now h there).ring r) (kept.rings r driver) restored
+    search (rules, walk_reads, shape_allowed, no_event_ring)

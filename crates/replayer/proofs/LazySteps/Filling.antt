@@ -1,14 +1,13 @@
 -- One turn of the pass that fills the needs into the notes
-use Rattle.replayer.proofs.Words.{◌≡◌, ◌+◌, ◌<◌, ◌∷◌, ◌++◌, ◌∙◌, ℕ, List, [], length, take, drop, slice_index, replicate, sym, ap, arith, get_or, add-one, append_assoc, get_or-take, length-take-le, append-nil, take_all, set, get_or-append, drop-cons, set-append_seam, take_more, get_or-replicate, drop_all, Note, need_before, need_in, with_need, filled, IsTable}
+use Rattle.replayer.proofs.Words.{◌≡◌, ◌+◌, ◌<◌, ◌∷◌, ◌++◌, ◌∙◌, ℕ, List, [], length, take, drop, slice_index, replicate, sym, ap, arith, get_or, add-one, append_assoc, get_or-take, length-take-le, append-nil, take_all, set, get_or-append, set-append_seam, take_more, get_or-replicate, drop_all, Note, need_before, need_in, with_need, filled, IsTable}
+use Rattle.std.proofs.Math.Seq.{drop-cons}
 
 -- the notes, of which those from position i on are filled
 abbrev pub filled_from : ℕ → List Note → List Note
 filled_from i notes = take i notes ++ filled (drop i notes)
 
 pub one_left : (s : List Note) (i : ℕ) (d : Note) → i < length s → get_or (filled_from (i + 1) s) i d ≡ get_or s i d
-one_left s i d lt =
-    let size : length (take (i + 1) s) ≡ i + 1 = length-take-le (i + 1) s (omega arith) in
-    get_or-append (take (i + 1) s) (filled (drop (i + 1) s)) d i (omega arith) ∙ get_or-take (i + 1) s i d (omega arith)
+one_left s i d lt = grind (arith, length-take-le, get_or-append, get_or-take)
 
 behind : (s : List Note) (i : ℕ) (d : Note) → i < length s → drop i s ≡ get_or s i d ∷ drop (i + 1) s
 behind s i d lt = drop-cons s i d lt ∙ ap (λ n. get_or s i d ∷ drop n s) (sym (add-one i))

@@ -1,13 +1,11 @@
 -- Only the note of the next row changes the rings that are there and the rows to come
-use Rattle.replayer.proofs.Words.{◌≡◌, List, refl, Header, TraceRow, Note, Next, header_behind, rows_behind}
+use Rattle.replayer.proofs.Words.{arith, ◌≡◌, List, Header, TraceRow, Note, Next, header_behind, rows_behind}
 
 module _ (h : Header) (rows : List TraceRow) where
   pub other_header : (note : Note) → (note ≡ Next → ⊥) → header_behind h rows note ≡ h
   unfolding header_behind
-  other_header Next other = absurd (other refl)
-  other_header _ other = refl
+  other_header note other = grind arith
 
   pub other_rows : (note : Note) → (note ≡ Next → ⊥) → rows_behind rows note ≡ rows
   unfolding rows_behind
-  other_rows Next other = absurd (other refl)
-  other_rows _ other = refl
+  other_rows note other = grind arith

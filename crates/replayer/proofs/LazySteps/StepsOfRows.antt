@@ -1,6 +1,5 @@
 -- The steps of a trace's notes are its lazy schedule
-use Rattle.replayer.proofs.Words.{◌≡◌, ◌∷◌, ◌++◌, ◌∙◌, ℕ, List, [], reverse, sym, ap, append-nil, append_assoc, reverse-append, reverse-reverse, Spot, Header, TraceRow, Step, NextRow, Known, header_after, header_now, known_after, known_now, steps_for, brought, pointers_for, pointers_at, lazy_run, lazy_steps, Note, Next, notes, need_before, need_in, with_need, filled, note_goals, note_steps, pointers_behind, header_behind, rows_behind, steps_of, StepsLaw, one_more}
-use Rattle.replayer.proofs.LazySteps.NeedsOfRows.{needs_law}
+use Rattle.replayer.proofs.MiddleLaws.{◌≡◌, ◌∷◌, ◌++◌, ◌∙◌, ℕ, List, [], reverse, sym, ap, append-nil, append_assoc, reverse-append, reverse-reverse, Spot, Header, TraceRow, Step, NextRow, Known, header_after, header_now, known_after, known_now, steps_for, brought, pointers_for, pointers_at, lazy_run, lazy_steps, Note, Next, notes, need_before, need_in, with_need, filled, note_goals, note_steps, pointers_behind, header_behind, rows_behind, steps_of, StepsLaw, one_more, needs_law}
 use Rattle.replayer.proofs.LazySteps.NoteSteps.{any_steps}
 
 module _ (h : Header) where

@@ -1,6 +1,5 @@
 -- The steps of the notes, one by one
-use Rattle.replayer.proofs.Words.{◌≡◌, ◌+◌, ◌<◌, ◌≤◌, ◌++◌, ◌∙◌, ℕ, List, [], length, drop, replicate, refl, ap, get_or, zero, suc, append_assoc, append-nil, fun_ext, drop_all, Spot, Data, Header, Step, Note, TraceRow, note_steps, pointers_behind, header_behind, rows_behind, steps_of, spot_in}
-use Rattle.replayer.proofs.Runs.{from_here}
+use Rattle.replayer.proofs.LowerLaws.{◌≡◌, ◌+◌, ◌<◌, ◌≤◌, ◌++◌, ◌∙◌, ℕ, List, [], length, drop, replicate, refl, ap, get_or, zero, suc, append_assoc, append-nil, fun_ext, drop_all, Spot, Data, Header, Step, Note, TraceRow, note_steps, pointers_behind, header_behind, rows_behind, steps_of, spot_in, from_here}
 
 -- the steps so far, and those of the notes from position i on
 abbrev pub steps_with : Header → List TraceRow → List Step → (ℕ → Spot) → ℕ → List Note → List Step

@@ -1,21 +1,14 @@
 -- The spots before another one, one by one
-use Rattle.replayer.proofs.Words.{◌≡◌, ◌+◌, ◌-◌, ◌*◌, ◌<◌, ◌≤◌, if◌then◌else◌, ◌∷◌, ◌++◌, ◌∙◌, ℕ, suc, zero, Bool, true, false, List, [], nat_lt, filter, map, refl, sym, ap, arith, append_assoc, append-nil, cond-true, cond-false, nat_tests, Shape, is_crossing, Spot, Data, Link, number, rank, next, spots_from, Step, Look, spots_before}
+use Rattle.replayer.proofs.Words.{◌≡◌, ◌+◌, ◌-◌, ◌*◌, ◌<◌, ◌≤◌, if◌then◌else◌, ◌∷◌, ◌++◌, ◌∙◌, ℕ, suc, zero, List, [], nat_lt, filter, map, refl, sym, ap, arith, append_assoc, append-nil, cond-true, cond-false, nat_tests, Shape, Spot, number, rank, next, spots_from, Step, Look, spots_before}
 
 number_low : (s : Spot) → 2 * number s ≤ rank s
-number_low (Data q) = omega arith
-number_low (Link q) = omega arith
+number_low s = grind arith
 
 number_high : (s : Spot) → rank s ≤ 2 * number s + 1
-number_high (Data q) = omega arith
-number_high (Link q) = omega arith
-
-crossed_or_not : (q : ℕ) (b : Bool) → 2 * q + 1 < rank (if b then Link (q + 1) else Data (q + 1))
-crossed_or_not q true = omega arith
-crossed_or_not q false = omega arith
+number_high s = grind arith
 
 next_rises : (shape : Shape) (s : Spot) → rank s < rank (next shape s)
-next_rises shape (Data q) = crossed_or_not q (is_crossing shape (q + 1))
-next_rises shape (Link q) = omega arith
+next_rises shape s = grind arith
 
 module _ (shape : Shape) (t : Spot) where
   abbrev some_before : Spot → ℕ → List Spot
@@ -29,16 +22,12 @@ module _ (shape : Shape) (t : Spot) where
 
   none_before : (n : ℕ) (s : Spot) → rank t ≤ rank s → some_before s n ≡ []
   none_before zero s past = refl
-  none_before (suc n) s past =
-      let rises : rank s < rank (next shape s) = next_rises shape s in
-      first_no s (spots_from shape (next shape s) n) past ∙ none_before n (next shape s) (omega arith)
+  none_before (suc n) s past = grind (arith, next_rises shape s, first_no s (spots_from shape (next shape s) n) past, none_before n (next shape s))
 
   enough : (n m : ℕ) (s : Spot) → rank t ≤ rank s + n → rank t ≤ rank s + m → some_before s n ≡ some_before s m
   enough zero m s few more = sym (none_before m s (omega arith))
   enough (suc n) zero s few more = none_before (suc n) s (omega arith)
-  enough (suc n) (suc m) s few more =
-      let rises : rank s < rank (next shape s) = next_rises shape s in
-      ap (λ (l : List Spot). if nat_lt (rank s) (rank t) then s ∷ l else l) (enough n m (next shape s) (omega arith) (omega arith))
+  enough (suc n) (suc m) s few more = grind (arith, next_rises shape s, enough n m (next shape s))
 
   pub walk_ends : (s : Spot) → rank t ≤ rank s → spots_before shape s t ≡ []
   unfolding spots_before
@@ -46,15 +35,7 @@ module _ (shape : Shape) (t : Spot) where
 
   pub walk_goes : (s : Spot) → rank s < rank t → spots_before shape s t ≡ s ∷ spots_before shape (next shape s) t
   unfolding spots_before
-  walk_goes s before =
-      let rises : rank s < rank (next shape s) = next_rises shape s in
-      let n : ℕ = 2 * (number t - number s) + 1 in
-      let more : 2 * (number t - number s) + 2 ≡ suc n = omega arith in
-      let low : 2 * number s ≤ rank s = number_low s in
-      let next_low : 2 * number (next shape s) ≤ rank (next shape s) = number_low (next shape s) in
-      let high : rank t ≤ 2 * number t + 1 = number_high t in
-      ap (λ c. some_before s c) more ∙ first_yes s (spots_from shape (next shape s) n) before
-      ∙ ap (λ (l : List Spot). s ∷ l) (enough n (2 * (number t - number (next shape s)) + 2) (next shape s) (omega arith) (omega arith))
+  walk_goes s before = grind (arith, next_rises shape s, number_low s, number_low (next shape s), number_high t, first_yes s (spots_from shape (next shape s) (2 * (number t - number s) + 1)) before, enough (2 * (number t - number s) + 1) (2 * (number t - number (next shape s)) + 2) (next shape s))
 
 -- the looks of a walk, from the steps made so far
 pub one_look : (made : List Step) (ring : ℕ) (shape : Shape) (s t : Spot) → rank s < rank t →

@@ -1,18 +1,13 @@
 -- What is kept of single rings
-use Rattle.replayer.proofs.Words.{◌≡◌, ℕ, ◌∙◌, true, List, Option, Some, None, refl, ap, sym, subst, ◌==◌, is_some, position, slice_get, eqb-true, false≢true, same_Some, floor_number, Ring, Header, IsHeader, command_id, command_ring, id_or_none, is_transfer_kind, ring_with, RingRecord, FollowsRing, Known, next_command, FollowsRings, among_at, find_some, ring_found, DriverKeeps, IsDriverRing, IsTransferRing, none_has_256, command_is_ring, next_is, found_at, none_found, driven}
-use Rattle.driver_rows.proofs.DoorbellRows.Followed.{command_id_is}
+use Rattle.replayer.proofs.Words.{arith, ◌≡◌, ℕ, ◌∙◌, true, List, Some, None, ap, sym, subst, ◌==◌, is_some, position, slice_get, eqb-true, false≢true, same_Some, floor_number, Ring, Header, IsHeader, command_id, command_ring, is_transfer_kind, ring_with, RingRecord, FollowsRing, Known, next_command, FollowsRings, among_at, find_some, ring_found, DriverKeeps, IsTransferRing, none_has_256, command_is_ring, next_is, found_at, none_found, driven, command_id_is}
 
 module _ (h : Header) (headed : IsHeader h) where
   -- ---- the command ring
 
-  id_there : (o : Option Ring) → command_ring h ≡ o → IsDriverRing h (command_id h) → is_some o ≡ true
-  unfolding command_id
-  id_there None none is = absurd (none_has_256 h headed is.ring (sym (ap (λ o. ring_with h (id_or_none o)) none) ∙ is.found))
-  id_there (Some r) some is = refl
-
   -- there is one once the controller is started
   pub some_command : (k : Known) → DriverKeeps h k → k.started ≡ true → is_some (command_ring h) ≡ true
-  some_command k d on = id_there (command_ring h) refl (command_is_ring h k d on)
+  unfolding command_id
+  some_command k d on = grind (arith, none_has_256, command_is_ring h k d on)
 
   pub next_there : (k : Known) (ring : Ring) (n : ℕ) → command_ring h ≡ Some ring → n ≡ floor_number (k.ring ring.id) → n ≡ next_command h k
   next_there k ring n there is = is ∙ ap (λ i. floor_number (k.ring i)) (sym (command_id_is h ring there)) ∙ sym (next_is h k)
@@ -30,6 +25,4 @@ module _ (h : Header) (headed : IsHeader h) where
         (found.0, subst (λ i. FollowsRing found.0.shape (k.ring i) known) is (f.each n found.0 known found.1 at (driven found.0.shape.kind kind)))
 
     pub not_there : {X : Type 0} → position (λ ring. ring.id == id) h.rings ≡ None → X
-    not_there none =
-        let found = find_some (λ q. q.id == id) h.rings transfer.ring transfer.found in
-        absurd (false≢true (sym (none_found (λ ring. ring.id == id) h.rings none transfer.ring found.0) ∙ found.1))
+    not_there none = grind (arith, find_some, false≢true, none_found, find_some (λ q. q.id == id) h.rings transfer.ring transfer.found)

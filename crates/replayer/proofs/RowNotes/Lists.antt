@@ -1,10 +1,8 @@
 -- Notes that are added one after another
-use Rattle.replayer.proofs.Words.{drop_all, ◌≡◌, ℕ, ◌≤◌, ◌+◌, ◌<◌, ◌∙◌, List, [], ◌∷◌, ◌++◌, Result, Ok, Err, map, length, drop, get_or, refl, ap, sym, append_assoc, add-one, OnOk, IfOk, append-nil, Note}
-use Rattle.std.proofs.Common.{drop-cons}
+use Rattle.replayer.proofs.Words.{arith, drop_all, ◌≡◌, ℕ, ◌≤◌, ◌+◌, ◌<◌, ◌∙◌, List, [], ◌∷◌, ◌++◌, Result, map, length, drop, get_or, refl, ap, sym, append_assoc, add-one, OnOk, IfOk, append-nil, Note, drop-cons}
 
 pub on_more : {X E P Q : Type 0} (answer : Result X E) → (P → Q) → OnOk answer P → OnOk answer Q
-on_more (Ok x) f p = f p
-on_more (Err e) f p = p
+on_more answer f p = grind arith
 
 at_head : (xs : List ℕ) (i : ℕ) → i < length xs → drop i xs ≡ get_or xs i 0 ∷ drop (i + 1) xs
 at_head xs i inside = rw (add-one, drop-cons xs i 0) refl
@@ -20,12 +18,10 @@ pub one_behind : (old m : List Note) (x : Note) (first second : List Note) → f
 one_behind old m x first second e f = f ∙ ap (λ l. l ++ x ∷ []) e ∙ append_assoc old m (x ∷ [])
 
 pub both_ok : {X E : Type 0} (P Q R : X → Type 0) (answer : Result X E) → ((x : X) → P x → Q x → R x) → IfOk answer P → IfOk answer Q → IfOk answer R
-both_ok P Q R (Ok x) f p q = f x p q
-both_ok P Q R (Err e) f p q = tt
+both_ok P Q R answer f p q = grind arith
 
 pub more_ok : {X E : Type 0} (P R : X → Type 0) (answer : Result X E) → ((x : X) → P x → R x) → IfOk answer P → IfOk answer R
-more_ok P R (Ok x) f p = f x p
-more_ok P R (Err e) f p = tt
+more_ok P R answer f p = grind arith
 
 pub nothing_more : {X : Type 0} (xs ys : List X) → ys ≡ [] → xs ≡ xs ++ ys
 nothing_more xs ys none = sym (ap (λ zs. xs ++ zs) none ∙ append-nil xs)

@@ -1,5 +1,5 @@
 -- The notes of single looks
-use Rattle.replayer.proofs.Words.{◌≡◌, ℕ, ◌+◌, [], ◌∷◌, ◌++◌, Bool, true, false, Some, None, refl, ◌==◌, if◌then◌else◌, cond-false, ne_eqb, Block, code, is_success, Spot, number, Command, StopEndpoint, Header, command_id, Known, RingSpot, next_command, Note, Succeeded, if_open, open_stopped, reporting_look, transfer_notes, CommandPlace}
+use Rattle.replayer.proofs.Words.{arith, ◌≡◌, ℕ, ◌+◌, [], ◌∷◌, ◌++◌, Some, None, if◌then◌else◌, cond-false, ne_eqb, Block, code, is_success, Spot, number, Command, StopEndpoint, Header, command_id, Known, RingSpot, next_command, Succeeded, open_stopped, reporting_look, transfer_notes, CommandPlace}
 
 abbrev pub place_of : Header → Known → CommandPlace
 place_of h k = record { ring = command_id h; behind = next_command h k + 1 }
@@ -9,24 +9,17 @@ module _ (h : Header) (k : Known) where
     abbrev at : RingSpot
     at = record { ring = r; spot = t }
 
-    spot_notes : (success : Bool) (look : Note) →
-        (if success then Succeeded r (number t + 1) ∷ [] else []) ++ look ∷ [] ≡ (if success then Succeeded r (number t + 1) ∷ look ∷ [] else look ∷ [])
-    spot_notes true look = refl
-    spot_notes false look = refl
-
     pub transfer_is : (if is_success (code b) then Succeeded r (number t + 1) ∷ [] else []) ++ reporting_look h k b at ∷ [] ≡ transfer_notes h k b (Some at)
     unfolding transfer_notes
-    transfer_is = spot_notes (is_success (code b)) (reporting_look h k b at)
+    transfer_is = grind arith
 
 -- ---- the ring that is stopped
 
 module _ (k : Known) where
   pub failed_stop : (code : ℕ) (c : Command) → (code ≡ 1 → ⊥) → open_stopped k code (Some c) ≡ None
   unfolding open_stopped
-  failed_stop code (StopEndpoint s i) other = cond-false (code == 1) (if_open k (k.ring_of s i)) None (ne_eqb code 1 other)
-  failed_stop code _ other = refl
+  failed_stop code c other = grind (arith, cond-false, ne_eqb)
 
   pub no_stop : (c : Command) → ((s i : ℕ) → c ≡ StopEndpoint s i → ⊥) → open_stopped k 1 (Some c) ≡ None
   unfolding open_stopped
-  no_stop (StopEndpoint s i) other = absurd (other s i refl)
-  no_stop _ other = refl
+  no_stop c other = grind arith

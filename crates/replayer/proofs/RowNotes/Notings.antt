@@ -1,25 +1,18 @@
 -- The notes of events and doorbells
-use Rattle.replayer.proofs.Words.{append-nil, ◌≡◌, ℕ, ◌∙◌, List, [], ◌∷◌, ◌++◌, false, Option, Some, None, map, refl, ap, sym, append_assoc, ◌==◌, if◌then◌else◌, All-nil, All-same, Block, BlockKind, TransferEvent, CommandCompletion, code, kind, slot, Command, Header, Row, Bell, Read, Report, Finish, Other, IsHeader, Known, command_at, event_at, next_command, DriverKeeps, IsTransferRing, post_of, Note, Begun, Made, completing_look, event_notes, open_stopped, placed, placed_by, placed_note, row_notes, transfer_notes, is_impossible_by_kind, is_impossible_completion, lenient, event_facts, CompletionFacts, by_completion, command_holds, next_unfinished, has_room, was_started, rings_of, MayPlace, AreNoted}
-use Rattle.replayer.proofs.RowNotes.Lists.{nothing_more}
-use Rattle.replayer.proofs.RowNotes.Placings.{placed_transfer}
+use Rattle.replayer.proofs.LowerLaws.{arith, append-nil, ◌≡◌, ℕ, ◌∙◌, List, [], ◌∷◌, ◌++◌, false, Option, Some, None, map, refl, ap, sym, append_assoc, ◌==◌, if◌then◌else◌, All-nil, All-same, Block, BlockKind, TransferEvent, CommandCompletion, code, kind, slot, Command, Header, Row, Bell, Read, Report, Finish, Other, IsHeader, Known, command_at, event_at, next_command, DriverKeeps, post_of, Note, Begun, Made, completing_look, event_notes, open_stopped, placed, placed_by, placed_note, row_notes, transfer_notes, is_impossible_by_kind, is_impossible_completion, lenient, event_facts, CompletionFacts, by_completion, command_holds, next_unfinished, has_room, was_started, rings_of, MayPlace, AreNoted, nothing_more, placed_transfer}
 
 module _ (h : Header) (k : Known) where
   -- ---- rows that place nothing
 
   pub alone : (row : Row) (old new : List Note) (rings : List ℕ) → rings ≡ [] → new ≡ old ++ row_notes h k row → AreNoted h k row old new rings
-  alone row old new rings none e = record {
-    notes = rw none (append-nil new ∙ e);
-    rings = rw none (All-nil (IsTransferRing h));
-  }
+  alone row old new rings none e = grind (arith, append-nil, All-nil)
 
   pub none_said : (row : Row) (old : List Note) (rings : List ℕ) → rings ≡ [] → row_notes h k row ≡ [] → AreNoted h k row old old rings
   none_said row old rings none e = alone row old old rings none (nothing_more old (row_notes h k row) e)
 
   pub quiet : (row : Row) → ((s t : ℕ) → row ≡ Bell s t → ⊥) → ((b : Block) → row ≡ Read b → ⊥) → row_notes h k row ≡ []
   unfolding row_notes
-  quiet (Bell s t) bell read = absurd (bell s t refl)
-  quiet (Read b) bell read = absurd (read b refl)
-  quiet _ bell read = refl
+  quiet row bell read = grind arith
 
   -- ---- events
 
@@ -34,9 +27,7 @@ module _ (h : Header) (k : Known) where
 
     pub other_notes : (n : BlockKind) → (n ≡ TransferEvent → ⊥) → (n ≡ CommandCompletion → ⊥) → Made (Other b) ∷ [] ≡ event_notes h k n b
     unfolding event_notes post_of
-    other_notes TransferEvent transfer completion = absurd (transfer refl)
-    other_notes CommandCompletion transfer completion = absurd (completion refl)
-    other_notes _ transfer completion = refl
+    other_notes n transfer completion = grind arith
 
     pub placed_is : (o : Option Command) → o ≡ command_at h k (next_command h k) → (if code b == 1 then placed_by h k (slot b) o else []) ≡ placed h k b
     unfolding placed
@@ -50,14 +41,7 @@ module _ (h : Header) (k : Known) where
 
     pub completed : IsHeader h → DriverKeeps h k → kind b ≡ CommandCompletion → (old new : List Note) (rings : List ℕ) → rings ≡ placed h k b →
         new ≡ old ++ map Begun rings ++ completing_look h k (open_stopped k (code b) (command_at h k (next_command h k))) ∷ Made (Finish b) ∷ [] → AreNoted h k (Read b) old new rings
-    completed headed d is old new rings places e = record {
-      notes =
-          let look : Note = completing_look h k (open_stopped k (code b) (command_at h k (next_command h k))) in
-          let f : ℕ → Note = placed_note h k (Read b) in
-          let joined : new ++ map f rings ≡ old ++ (map Begun rings ++ look ∷ Made (Finish b) ∷ map f rings) = ap (λ l. l ++ map f rings) e ∙ simp append_assoc in
-          joined ∙ ap (λ rs. old ++ (map Begun rs ++ look ∷ Made (Finish b) ∷ map f rs)) places ∙ ap (λ l. old ++ l) (completion_notes ∙ notes_read CommandCompletion is);
-      rings = All-same (IsTransferRing h) rings (placed h k b) places (placed_transfer h headed k d b);
-    }
+    completed headed d is old new rings places e = grind (arith, append_assoc, completion_notes, notes_read, All-same, placed_transfer)
 
 -- ---- the rings of a completion
 

@@ -1,15 +1,12 @@
 -- The rings that the success of a command binds or moves
-use Rattle.replayer.proofs.Words.{cond_both, ◌≡◌, ℕ, suc, ◌+◌, ◌-◌, ◌<◌, ◌∙◌, List, [], ◌∷◌, ◌++◌, Bool, true, false, Option, Some, None, map, refl, ap, sym, arith, get_or, inl, inr, ◌==◌, All, filter, cases_Bool, cond-true, cond-false, or_parts, none-some, All-head, All-tail, All-nil, All-cons, All-append, Block, code, slot, ContextSize, added_endpoints, context_pointer, input_add_flag, Command, AddressDevice, ConfigureEndpoint, SetTrDequeue, EndpointState, Stopped, is_off, Change, Places, changes, placed_by_context, Header, IsHeader, is_ring, ring_having, Known, changed_by, is_among, has_repeats, binds, binding_in, ring_bound, EndpointsKeep, DriverKeeps, IsTransferRing, StillHolds, RingsKeep, endpoints_of, transfer_ring, change_keeps, ReadyAt, all_ready, dropped, map_map, ready_next, ring_at, having_transfer, each_fails, any_of_map, ring_placed, listed, placed, placed_by, placed_by_all, rings_added}
-use Rattle.std.specs.List.{cons_option, filter_map, list_any, range_with_len}
+use Rattle.replayer.proofs.Words.{rules, cond_both, ◌≡◌, ℕ, suc, ◌+◌, ◌-◌, ◌<◌, ◌∙◌, List, [], ◌∷◌, ◌++◌, Bool, true, false, Option, map, refl, ap, sym, arith, get_or, ◌==◌, All, filter, cases_Bool, cond-true, cond-false, or_parts, none-some, All-head, All-tail, All-nil, All-cons, All-append, Block, code, slot, ContextSize, added_endpoints, context_pointer, input_add_flag, Command, AddressDevice, ConfigureEndpoint, SetTrDequeue, EndpointState, Stopped, is_off, Change, Places, changes, placed_by_context, Header, IsHeader, is_ring, ring_having, Known, changed_by, is_among, has_repeats, binds, binding_in, ring_bound, EndpointsKeep, DriverKeeps, IsTransferRing, StillHolds, RingsKeep, endpoints_of, transfer_ring, change_keeps, ReadyAt, all_ready, dropped, map_map, ready_next, ring_at, having_transfer, each_fails, any_of_map, ring_placed, listed, placed, placed_by, placed_by_all, rings_added, cons_option, filter_map, list_any, range_with_len}
 use Rattle.safety.specs.EndpointsKeep as endpoints
 
 listed_alone : (o : Option ℕ) → listed o ++ [] ≡ listed o
-listed_alone None = refl
-listed_alone (Some r) = refl
+listed_alone o = grind arith
 
 listed_before : (o : Option ℕ) (xs : List ℕ) → listed o ++ xs ≡ cons_option o xs
-listed_before None xs = refl
-listed_before (Some r) xs = refl
+listed_before o xs = grind arith
 
 module _ (h : Header) where
   -- ---- one endpoint
@@ -48,8 +45,7 @@ module _ (h : Header) where
 
   pub added_end : (memory : ℕ → ℕ) (a i : ℕ) → i ≡ 32 → rings_added h memory a i ≡ []
   unfolding rings_added
-  added_end memory a i e =
-      ap (λ n. filter_map (λ j. ring_having h (context_pointer h.context_size memory a j)) (filter (input_add_flag memory a) (range_with_len i n))) (let none : 32 - i ≡ 0 = omega arith in none)
+  added_end memory a i e = grind arith
 
   module _ (is : IsHeader h) where
     -- each that is added is off when its turn comes
@@ -86,33 +82,18 @@ module _ (h : Header) where
 
     -- ---- each is a transfer ring
 
-    transfers : (l : Known) → EndpointsKeep h l → (change : Change) (r : ℕ) → ring_placed h l change ≡ Some r → endpoints.IsTransferRing h r
-    unfolding ring_placed
-    transfers l keeps (Places s i p cycle state) r e =
-        elim (cases_Bool (is_off (l.endpoint_state s i))) [
-          | inl off ↦ having_transfer h is p r (sym (placed_off l s i p cycle state off) ∙ e)
-          | inr on ↦ keeps.transfer s i r (sym (placed_on l s i p cycle state on) ∙ e)
-        ]
-    transfers l keeps _ r e = absurd (none-some r e)
-
     one_transfer : (l : Known) → EndpointsKeep h l → (change : Change) → All (IsTransferRing h) (listed (ring_placed h l change))
-    one_transfer l keeps change = by (ring_placed h l change) refl
-      where
-        by : (o : Option ℕ) → ring_placed h l change ≡ o → All (IsTransferRing h) (listed o)
-        by None e = All-nil (IsTransferRing h)
-        by (Some r) e = All-cons (IsTransferRing h) r [] (transfer_ring h r (transfers l keeps change r e)) (All-nil (IsTransferRing h))
+    unfolding ring_placed
+    one_transfer l keeps change = grind (arith, Option, All-nil, All-cons, transfer_ring, cases_Bool, having_transfer, placed_off, placed_on, none-some)
 
     pub all_transfer : (c : Command) (all : List Change) (l : Known) → EndpointsKeep h l → All (IsTransferRing h) (placed_by_all h c l all)
     unfolding placed_by_all
     all_transfer c [] l keeps = All-nil (IsTransferRing h)
-    all_transfer c (change ∷ rest) l keeps =
-        All-append (IsTransferRing h) (listed (ring_placed h l change)) (placed_by_all h c (changed_by h c l change) rest) (one_transfer l keeps change)
-        (all_transfer c rest (changed_by h c l change) (change_keeps h is c l change keeps))
+    all_transfer c (change ∷ rest) l keeps = search (rules, All-append, one_transfer, all_transfer c rest (changed_by h c l change) (change_keeps h is c l change keeps))
 
     by_transfer : (k : Known) → EndpointsKeep h k → (n : ℕ) (o : Option Command) → All (IsTransferRing h) (placed_by h k n o)
     unfolding placed_by
-    by_transfer k keeps n None = All-nil (IsTransferRing h)
-    by_transfer k keeps n (Some c) = all_transfer c (changes h.context_size k.memory n c) k keeps
+    by_transfer k keeps n o = grind (arith, All-nil, all_transfer)
 
     pub placed_transfer : (k : Known) → DriverKeeps h k → (b : Block) → All (IsTransferRing h) (placed h k b)
     unfolding placed
@@ -139,7 +120,4 @@ module _ (h : Header) where
     pub of_others : (c : Command) → ((s : ℕ) (bsr : Bool) (a : ℕ) → c ≡ AddressDevice s bsr a → ⊥) → ((s : ℕ) (dc : Bool) (a : ℕ) → c ≡ ConfigureEndpoint s dc a → ⊥) →
         ((s i p : ℕ) (cycle : Bool) → c ≡ SetTrDequeue s i p cycle → ⊥) → rings_of c ≡ []
     unfolding changes placed_by_all ring_placed
-    of_others (AddressDevice s bsr a) address configure dequeue = absurd (address s bsr a refl)
-    of_others (ConfigureEndpoint s dc a) address configure dequeue = absurd (configure s dc a refl)
-    of_others (SetTrDequeue s i p cycle) address configure dequeue = absurd (dequeue s i p cycle refl)
-    of_others _ address configure dequeue = refl
+    of_others c address configure dequeue = grind arith

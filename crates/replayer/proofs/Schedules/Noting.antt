@@ -1,9 +1,8 @@
 -- The rows of a trace, checked and noted one by one
-use Rattle.replayer.proofs.Words.{◌≡◌, ℕ, ◌+◌, ◌<◌, ◌≤◌, List, [], ◌∷◌, ◌++◌, Some, ap, sym, ◌∙◌, arith, length, get_or, refl, subst, Result, Ok, Err, All, OnOk, map, reverse, take, drop, drop_all, take_all, append-nil, append_assoc, common_steps, most_lines, most_streamed_lines, Header, Row, Bell, Read, Write, TraceRow, Plain, Known, nothing, Refusal, learned, IsKept, header_now, known_now, restored, restored_on, ring_restored, fun_ext, DriverKeeps, IsTransferRing, TraceRecord, FollowsTrace, AreClean, IsLeastOfRow, IsRingPassed, ring_verdict, RingPass, kept_now, row_refused, kept_on, restored_learns, row_learns, Note, Next, Placed, any_notes, notes, placed_note, row_notes, AreNoted, MayBeRead}
+use Rattle.replayer.proofs.Words.{◌≡◌, ℕ, ◌+◌, ◌<◌, ◌≤◌, List, [], ◌∷◌, ◌++◌, Some, ap, sym, ◌∙◌, arith, length, get_or, subst, Result, All, OnOk, map, reverse, take, drop, drop_all, take_all, append-nil, append_assoc, common_steps, most_lines, most_streamed_lines, Header, Row, TraceRow, Plain, Known, nothing, Refusal, learned, IsKept, header_now, known_now, restored, restored_on, ring_restored, fun_ext, DriverKeeps, IsTransferRing, TraceRecord, FollowsTrace, AreClean, IsLeastOfRow, IsRingPassed, ring_verdict, RingPass, kept_now, row_refused, kept_on, restored_learns, row_learns, Note, Next, Placed, any_notes, notes, placed_note, row_notes, AreNoted, MayBeRead}
 
 pub on_any : {X E P : Type 0} (r : Result X E) → P → OnOk r P
-on_any (Ok x) p = p
-on_any (Err e) p = tt
+on_any r p = grind arith
 
 left : (rows : List TraceRow) (i : ℕ) (d : TraceRow) → i < length rows → drop i rows ≡ get_or rows i d ∷ drop (i + 1) rows
 left rows i d h = grind (arith, common_steps, h)
@@ -70,21 +69,11 @@ module _ {B M : Type 0} {words : M → ℕ → ℕ} {h : Header} {rows : List Tr
 
 may_read : (g : Header) (k : Known) (row : Row) → IsKept g k (Plain row) → MayBeRead g k row
 unfolding ring_restored restored_on
-may_read g k (Read b) kept = kept.0
-may_read g k _ kept = tt
-
--- what is restored moves no floor
-floor_same : (g : Header) (k : Known) (row : Row) (r : ℕ) → ((learned g (restored g k row) row).ring r).floor ≡ ((learned g k row).ring r).floor
-unfolding ring_restored restored_on
-floor_same g k (Write a x) r =
-    (row_learns g (restored g k (Write a x)) (Write a x) tt).floors r ∙ (restored_learns g k (ring_restored g k (Write a x))).floors r ∙ sym ((row_learns g k (Write a x) tt).floors r)
-floor_same g k (Bell s t) r =
-    (row_learns g (restored g k (Bell s t)) (Bell s t) tt).floors r ∙ (restored_learns g k (ring_restored g k (Bell s t))).floors r ∙ sym ((row_learns g k (Bell s t) tt).floors r)
-floor_same g k _ r = refl
+may_read g k row kept = grind arith
 
 placed_same : (g : Header) (k : Known) (row : Row) → placed_note g (restored g k row) row ≡ placed_note g k row
-unfolding placed_note
-placed_same g k row = fun_ext (λ r. ap (λ t. Placed r t) (floor_same g k row r))
+unfolding placed_note ring_restored restored_on
+placed_same g k row = fun_ext (λ r. ap (λ t. Placed r t) (grind (arith, row_learns, restored_learns)))
 
 module _ {B M : Type 0} (words : M → ℕ → ℕ) (h : Header) (past : List TraceRow) (row : Row) (pass after : RingPass B M) (p : IsRingPassed words h past pass) (q : IsRingPassed words h (Plain row ∷ past) after) where
   abbrev g : Header

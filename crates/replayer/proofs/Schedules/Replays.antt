@@ -1,5 +1,5 @@
 -- A run whose worlds are all safe is replayed without harm
-use Rattle.replayer.proofs.Words.{append-nil, ◌≡◌, ℕ, ◌+◌, List, [], ◌∷◌, Option, Some, None, refl, sym, ◌∙◌, ap, subst, arith, ◌++◌, reverse, option_and_then, All, common_steps, All-cons, All-head, All-nil, All-tail, Header, Step, TraceRow, IsStep, NoHarm, judged, Scene, scene_before, scene_ending_from, scene_reached, scene_replayed, step_made, ContainsAll, DoNoHarm}
+use Rattle.replayer.proofs.Words.{append-nil, ◌≡◌, ℕ, ◌+◌, List, [], ◌∷◌, Option, Some, refl, sym, ◌∙◌, ap, subst, arith, ◌++◌, reverse, option_and_then, All, common_steps, All-cons, All-head, All-nil, All-tail, Header, Step, TraceRow, IsStep, NoHarm, judged, Scene, scene_before, scene_ending_from, scene_reached, scene_replayed, step_made, ContainsAll, DoNoHarm}
 
 pub turned : (s : Step) (steps past : List Step) → reverse (s ∷ steps) ++ past ≡ reverse steps ++ s ∷ past
 turned s steps past = grind (arith, common_steps)
@@ -12,12 +12,7 @@ module _ (h : Header) (rows : List TraceRow) where
   -- the beginning of a run is one
   earlier : (later past : List Step) (scene : Scene) → scene_reached h rows (later ++ past) ≡ Some scene → (y : Scene) × (scene_reached h rows past ≡ Some y)
   earlier [] past scene run = (scene, run)
-  earlier (s ∷ later) past scene run = by (scene_reached h rows (later ++ past)) refl run (earlier later past)
-    where
-      by : (o : Option Scene) → scene_reached h rows (later ++ past) ≡ o → option_and_then (λ u. step_made u s) o ≡ Some scene →
-          ((u : Scene) → scene_reached h rows (later ++ past) ≡ Some u → (y : Scene) × (scene_reached h rows past ≡ Some y)) → (y : Scene) × (scene_reached h rows past ≡ Some y)
-      by None is step before = absurd (cc)
-      by (Some u) is step before = before u is
+  earlier (s ∷ later) past scene run = grind (arith, Option, earlier later past)
 
   module _ (harmless : DoNoHarm h rows) (scene : Scene) where
     from_here : (steps past : List Step) (n : ℕ) (x : Scene) → All IsStep steps → All IsStep past → scene_reached h rows past ≡ Some x → scene_reached h rows (reverse steps ++ past) ≡ Some scene →

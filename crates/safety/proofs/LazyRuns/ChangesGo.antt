@@ -1,7 +1,7 @@
 -- The changes of a command's success, one after the other: each is possible, and the rings go as they should, also one that is bound or moved
-use Rattle.safety.proofs.LazyRuns.Words.{[], ◌≡◌, ◌==◌, ◌&&◌, if◌then◌else◌, ◌∷◌, ◌∙◌, ℕ, not, Bool, false, List, Option, Some, None, option_and_then, refl, sym, ap, subst, eq-eqb, rules, and_from, and_parts, or_parts, or_from, false≢true, false_from_ne_true, not_from_false, none-some, Spot, is_open, Command, Stopped, Change, SlotGoesOn, DeviceLeft, Disables, Places, Stops, Resets, Header, command_id, is_ring, World, Known, on_ring, ring_here, ring_elsewhere, StatesMatch, ChangeKeeps, none_keeps, both_keep, IsNoPlacing, AreNoPlacings, change_keeps, cond_is, put_off, none_in_range, world_changed_by, world_changed_by_all, world_disabled, has_one_of, world_in_state, inactive, known_changed_by, known_changed_by_all, known_disabled, held_at_ceiling, known_in_state, is_placed_by_all, ring_placed, ◌≢◌, ◌<◌, ◌≤◌, true, find, arith, inl, inr, ne_eqb, list_any, range_with_len, cases_eq, cond-true, cond-false, not-true, same_Some, is_inside, RingView, IsSpot, number, rank, spot_address, ceiling, cases_option, rank_least, rank_most, EndpointState, is_off, Ring, IsHeader, shape_of, id_of, is_transfer_kind, ring_having, IsIn, IsTransferRing, RingState, state_of, BoundRing, found_in, shape_is, ring_shape, transfer_driver, transfer_not_command, MoveSpot, move_spot, transfer_ring, having_transfer, Ready, bound_spot, floor_number, moved_having, spot_inside, ceiling_held, MayBind, MayMove, bind_keeps, move_keeps, binds_placed, moves_placed, placed_state, placed_world, placed_world_is, placed_here, placed_elsewhere, rest_active, rest_still, PlacedTo, is_had_by_another, placed, placed_on}
-use Rattle.safety.proofs.UpperLaws.{StandsAt, IsActiveIfOpen, HadBefore, AtFloors, RingsGo, one_spot}
-use Rattle.safety.proofs.BoundRings.{ring_is, ring_is as is_ring_is}
+use Rattle.safety.proofs.UpperLaws.{[], ◌≡◌, ◌==◌, ◌&&◌, if◌then◌else◌, ◌∷◌, ◌∙◌, ℕ, not, Bool, false, List, Option, Some, None, option_and_then, refl, sym, ap, subst, eq-eqb, rules, and_from, and_parts, or_parts, or_from, false≢true, false_from_ne_true, not_from_false, none-some, Spot, is_open, Command, Stopped, Change, SlotGoesOn, DeviceLeft, Disables, Places, Stops, Resets, Header, command_id, is_ring, World, Known, on_ring, ring_here, ring_elsewhere, StatesMatch, ChangeKeeps, none_keeps, both_keep, IsNoPlacing, AreNoPlacings, cond_is, put_off, none_in_range, world_changed_by, world_changed_by_all, world_disabled, has_one_of, world_in_state, inactive, known_changed_by, known_changed_by_all, known_disabled, held_at_ceiling, known_in_state, is_placed_by_all, ring_placed, ◌≢◌, ◌<◌, ◌≤◌, true, find, arith, inl, inr, ne_eqb, list_any, range_with_len, cases_eq, cond-true, cond-false, not-true, same_Some, is_inside, RingView, IsSpot, number, rank, spot_address, ceiling, cases_option, rank_least, rank_most, EndpointState, is_off, Ring, IsHeader, shape_of, id_of, is_transfer_kind, ring_having, IsIn, IsTransferRing, RingState, state_of, BoundRing, found_in, shape_is, ring_shape, transfer_driver, transfer_not_command, MoveSpot, move_spot, transfer_ring, having_transfer, Ready, bound_spot, floor_number, moved_having, spot_inside, MayBind, MayMove, bind_keeps, move_keeps, binds_placed, moves_placed, placed_state, placed_world, placed_world_is, placed_here, placed_elsewhere, rest_active, rest_still, PlacedTo, is_had_by_another, placed, placed_on, StandsAt, IsActiveIfOpen, HadBefore, AtFloors, RingsGo, one_spot, ring_is, is_ring_is}
+use Rattle.safety.proofs.FinishSlots.{change_keeps}
+use Rattle.safety.proofs.NoWait.{ceiling_held}
 use Rattle.safety.proofs.LazyRuns.LooksRun.{stands_same}
 
 module _ (h : Header) (c : Command) where
@@ -77,25 +77,19 @@ module _ (h : Header) (c : Command) where
 
     slot_goes : (s : ℕ) → ChangeGoes k w (SlotGoesOn s)
     unfolding world_changed_by known_changed_by ring_placed
-    slot_goes s = goes_to (SlotGoesOn s) _ tt refl
-        (record { had = λ z j r has. has; floor = λ r. refl; pointer = refl; cycle = refl; events = refl; active = λ z j r has was opened. was opened }) refl
+    slot_goes s = goes_to (SlotGoesOn s) _ tt refl (search rules) refl
 
     device_goes : (s : ℕ) → ChangeGoes k w (DeviceLeft s)
     unfolding world_changed_by known_changed_by ring_placed
-    device_goes s = goes_to (DeviceLeft s) _ tt refl
-        (record { had = λ z j r has. has; floor = λ r. refl; pointer = refl; cycle = refl; events = refl; active = λ z j r has was opened. was opened }) refl
+    device_goes s = goes_to (DeviceLeft s) _ tt refl (search rules) refl
 
     reset_goes : (s i : ℕ) → ChangeGoes k w (Resets s i)
     unfolding world_changed_by known_changed_by ring_placed world_in_state known_in_state
-    reset_goes s i = goes_to (Resets s i) _ tt refl
-        (record { had = λ z j r has. has; floor = λ r. refl; pointer = refl; cycle = refl; events = refl; active = λ z j r has was opened. was opened }) refl
+    reset_goes s i = goes_to (Resets s i) _ tt refl (search rules) refl
 
     -- ---- endpoints are disabled
 
     module _ (s : ℕ) (which : ℕ → Bool) where
-      still_had : (z j r : ℕ) → (if z == s && which j then None else k.ring_of z j) ≡ Some r → (z == s && which j) ≡ false
-      still_had z j r has = search (rules, cond_is, none-some)
-
       had_then : (z j r : ℕ) → (if z == s && which j then None else k.ring_of z j) ≡ Some r → k.ring_of z j ≡ Some r
       had_then z j r has = search (rules, cond_is, none-some)
 
@@ -111,17 +105,7 @@ module _ (h : Header) (c : Command) where
 
       disable_goes : ChangeGoes k w (Disables s which)
       unfolding world_changed_by known_changed_by ring_placed world_disabled known_disabled
-      disable_goes = goes_to (Disables s which) _ tt refl
-          (record {
-            had = had_then;
-            floor = λ r. refl;
-            pointer = refl;
-            cycle = refl;
-            events = refl;
-            active = λ z j r has was opened.
-                and_from (w.is_active r) (not (has_one_of w s which r)) (was opened)
-                (not_from_false (has_one_of w s which r) (not_let_go z j r (still_had z j r has) (had_then z j r has)));
-          }) refl
+      disable_goes = goes_to (Disables s which) _ tt refl (search (rules, had_then, and_from, not_from_false, not_let_go, cond_is, none-some)) refl
 
     -- ---- an endpoint is stopped
 
@@ -129,20 +113,13 @@ module _ (h : Header) (c : Command) where
     unfolding world_in_state known_in_state
     none_stops s i = record { had = λ z j r has. has; floor = λ r. refl; pointer = refl; cycle = refl; events = refl; active = λ z j r has was opened. was opened }
 
-    ring_stops : (s i r : ℕ) → LeavesRings k (held_at_ceiling h (known_in_state h k s i Stopped) (Some r)) w (inactive (world_in_state w s i Stopped) (Some r))
-    unfolding world_in_state known_in_state inactive held_at_ceiling on_ring is_open
-    ring_stops s i r = search (rules, false≢true, is_open, ring_here, put_off, ring_elsewhere)
-
     stops_by : (s i : ℕ) (o : Option ℕ) → LeavesRings k (held_at_ceiling h (known_in_state h k s i Stopped) o) w (inactive (world_in_state w s i Stopped) o)
-    unfolding inactive held_at_ceiling
-    stops_by s i None = none_stops s i
-    stops_by s i (Some r) = ring_stops s i r
+    unfolding inactive held_at_ceiling world_in_state known_in_state on_ring is_open
+    stops_by s i o = search (rules, false≢true, is_open, ring_here, put_off, ring_elsewhere, none_stops)
 
     stop_goes : (s i : ℕ) → ChangeGoes k w (Stops s i)
     unfolding world_changed_by known_changed_by ring_placed
-    stop_goes s i = goes_to (Stops s i) _ tt refl
-        (subst (λ o. LeavesRings k (held_at_ceiling h (known_in_state h k s i Stopped) (k.ring_of s i)) w (inactive (world_in_state w s i Stopped) o)) (sym (m.ring_of s i))
-        (stops_by s i (k.ring_of s i))) refl
+    stop_goes s i = goes_to (Stops s i) _ tt refl (search (rules, stops_by, m.ring_of)) refl
 
     pub change_goes : (change : Change) → IsNoPlacing change → ChangeGoes k w change
     change_goes (SlotGoesOn s) plain = search (rules, slot_goes, device_goes, disable_goes, stop_goes, reset_goes)
@@ -157,14 +134,7 @@ module _ (h : Header) (c : Command) where
 -- a search among what has one that passes finds one
 finds_one : {X : Type 0} (p : X → Bool) (xs : List X) (x : X) → IsIn x xs → p x ≡ true → find p xs ≡ None → ⊥
 finds_one p [] x at passes none = at
-finds_one p (y ∷ ys) x at passes none =
-    elim (cond_is (p y) (Some y) (find p ys) None none) [
-      | inl here ↦ none-some y (sym here.1)
-      | inr later ↦ elim at [
-        | inl first ↦ false≢true (sym later.0 ∙ ap p (sym first) ∙ passes)
-        | inr rest ↦ finds_one p ys x rest passes later.1
-      ]
-    ]
+finds_one p (y ∷ ys) x at passes none = grind (arith, cond_is (p y) (Some y) (find p ys) None none, none-some, finds_one p ys x)
 
 no_id : (o : Option Ring) → id_of o ≡ None → o ≡ None
 no_id o none = grind (arith, none-some)
@@ -181,11 +151,7 @@ module _ (h : Header) (is : IsHeader h) where
 
   -- the transfer ring that has an address is found by it
   having : (p r : ℕ) (t : Spot) → IsTransferRing h r → IsSpot (shape_of h r) t → spot_address (shape_of h r) t ≡ p → ring_having h p ≡ Some r
-  having p r t transfer is_spot at =
-      elim (cases_option (ring_having h p)) [
-        | inl none ↦ absurd (none_has p r t transfer is_spot at none)
-        | inr some ↦ some.1 ∙ ap (λ n. Some n) (moved_having h is p r some.0 t transfer is_spot at some.1)
-      ]
+  having p r t transfer is_spot at = grind (arith, cases_option (ring_having h p), none_has p r t transfer is_spot at, moved_having h is p r)
 
   -- another endpoint has no ring that is one endpoint's alone
   unshared : (k : Known) (w : World) (s i r : ℕ) → StatesMatch h k w → ((z j : ℕ) → k.ring_of z j ≡ Some r → (z ≡ s) × (j ≡ i)) → is_had_by_another w s i r ≡ false
@@ -255,11 +221,7 @@ module _ (h : Header) (is : IsHeader h) where
         subst (λ e. StandsAt h v r e) ((one_spot (shape_of h r) (ring_shape h is r (transfer_driver h r transfer)).is b.spot t x.is_spot is_spot there same) ∙ sym floor_here) (record { is_spot = x.is_spot; pointer = x.pointer; cycle = x.cycle; next = x.next })
 
     at_floor : StandsAt h v r (l.ring r).floor
-    at_floor =
-        elim (keeps.states.rings r other_than) [
-          | inl bound ↦ at_floor_by bound
-          | inr free ↦ absurd (free.none s i has_it)
-        ]
+    at_floor = elim (keeps.states.rings r other_than) [ inl bound ↦ at_floor_by bound | inr free ↦ absurd (free.none s i has_it) ]
 
     -- another ring was had before
     had_before : (z j q : ℕ) → q ≢ r → l.ring_of z j ≡ Some q → k.ring_of z j ≡ Some q

@@ -1,6 +1,7 @@
 -- The step of a row with a Command Completion Event: the looks for it, and what follows where the controller can finish its command
-use Rattle.safety.proofs.LazyRuns.Words.{[], ◌≡◌, ◌∷◌, ◌++◌, ◌∙◌, ℕ, true, List, reverse, Some, sym, ap, subst, eq-eqb, rules, and_from, cond-true, not_from_false, Block, kind, pointer, is_command_completion, Spot, cycle_of, is_open, cycle_of_bit, command_of, Header, Read, TraceRow, Plain, Step, IsHeader, shape_of, command_id, World, UnderWay, can_post, Known, lenient, next_command, was_stop_seen, DriverKeeps, Agrees, next_at_floor, AtFloor, command_at_is, command_of-with_cycle, ◌≢◌, ◌⊎◌, ◌+◌, ◌≤◌, ◌==◌, if◌then◌else◌, suc, Option, None, arith, refl, inl, inr, flat_map, cases_Bool, cases_eq, cases_lt, cond-false, put, code, Data, Shape, IsSpot, number, rank, after, ceiling, MayReach, crossing_positive, after_reached, number-after, rank_least, rank_most, Command, StopEndpoint, changes, RingSpot, command_at, event_read, learned, UnderWayMatches, TakenCommand, ring_here, ring_elsewhere, completion_kind, transfer_not_command, put_at, put_off, next_is, need, ended_with, finish_finished, finished_as, behind_taken, brought, command_taken, further as lazy_further, goals as lazy_goals, looks_to, open_goals, stopped_goals, taken_up_to, known_changed_by, known_changed_by_all, completed, known_finished, held_at_ceiling, known_in_state, stop_ended, known_succeeded, false, false≢true, IsBlock, RingView, Finish, RingState, state_of, Runs, kept_driver, run_keeps, finish_is, finish_runs, posted as posts_posted, counted, made, brought as lazy_brought, goals, pointers_after, post_of, is_placed}
-use Rattle.safety.proofs.UpperLaws.{agrees_now, CompletionSays, completion_says, commands_open, CommandsOpen, AreTimely, IsHeld, need_of_held, timely_then, StandsAt, Follows, Leads, Past, may_post, AtFloors, Traced, traced_behind, looks_for, MayBring, commands_stand, IsActiveIfOpen, Carries, HadBefore, RingsGo}
+use Rattle.safety.proofs.UpperLaws.{[], cond_both, ◌≡◌, ◌∷◌, ◌++◌, ◌∙◌, ℕ, true, List, reverse, Some, sym, ap, subst, eq-eqb, rules, and_from, cond-true, not_from_false, Block, kind, pointer, is_command_completion, Spot, cycle_of, is_open, cycle_of_bit, command_of, Header, Read, TraceRow, Plain, Step, IsHeader, shape_of, command_id, World, UnderWay, can_post, Known, lenient, next_command, was_stop_seen, DriverKeeps, Agrees, next_at_floor, command_at_is, command_of-with_cycle, ◌≢◌, ◌⊎◌, ◌+◌, ◌≤◌, ◌==◌, if◌then◌else◌, suc, Option, None, arith, refl, inl, inr, flat_map, cases_eq, cases_lt, cond-false, put, code, Data, Shape, IsSpot, number, rank, after, ceiling, MayReach, crossing_positive, after_reached, number-after, rank_least, rank_most, Command, StopEndpoint, changes, RingSpot, command_at, event_read, learned, UnderWayMatches, TakenCommand, ring_here, ring_elsewhere, completion_kind, transfer_not_command, put_at, put_off, next_is, need, ended_with, finish_finished, finished_as, behind_taken, brought, command_taken, lazy_further, lazy_goals, looks_to, open_goals, stopped_goals, taken_up_to, known_changed_by, known_changed_by_all, completed, known_finished, held_at_ceiling, known_in_state, stop_ended, known_succeeded, false, false≢true, IsBlock, RingView, Finish, RingState, state_of, Runs, finish_is, finish_runs, posts_posted, counted, made, lazy_brought, goals, pointers_after, post_of, agrees_now, CompletionSays, completion_says, commands_open, CommandsOpen, AreTimely, IsHeld, need_of_held, timely_then, StandsAt, Follows, Leads, Past, may_post, AtFloors, Traced, traced_behind, looks_for, MayBring, commands_stand, IsActiveIfOpen, Carries, HadBefore, RingsGo}
+use Rattle.safety.proofs.DriverHistories.{kept_driver, run_keeps}
+use Rattle.safety.specs.LazyRuns.Needs.{is_placed}
 use Rattle.safety.proofs.LazyRuns.LooksRun.{AllBrought, Fits, AllFit, AreApart, goals_reached, stands_same, further_then, further_not}
 use Rattle.safety.proofs.LazyRuns.PostStep.{IsPosted, behind_read, posts_last, running_now, runs_behind, all_read_behind, event_step}
 
@@ -47,17 +48,11 @@ module _ (h : Header) where
         let other : r ≢ command_id h = transfer_not_command h is r (d.states.transfer s i r had) in
         let held : IsHeld (learned h past.known (Read b)) r = search (rules, cond-true, stop_succeeded, ring_elsewhere, completion_kind) in
         let none : need h (learned h k (Read b)) r later ≡ 0 = need_of_held later h (learned h past.known (Read b)) r other held (timely_then h past.known b later timely) in
-        elim (cases_Bool (is_open (k.ring r))) [
-          | inl opened ↦ inr (s, i, r, had, cond-true (is_open (k.ring r)) _ [] opened ∙ no_need r (need h (learned h k (Read b)) r later) none)
-          | inr closed ↦ inl (cond-false (is_open (k.ring r)) _ [] closed)
-        ]
+        cond_both (is_open (k.ring r)) _ [] (IsIdle k) (λ _. inr (s, i, r, had, no_need r (need h (learned h k (Read b)) r later) none)) (λ _. inl refl)
 
     stop_idle : (s i : ℕ) → command_at h k (next_command h k) ≡ Some (StopEndpoint s i) → IsIdle k (if code b == 1 then open_goals h k later b (k.ring_of s i) else [])
     stop_idle s i here =
-        elim (cases_Bool (code b == 1)) [
-          | inl one ↦ subst (λ g. IsIdle k g) (sym (cond-true (code b == 1) (open_goals h k later b (k.ring_of s i)) [] one)) (open_idle s i (k.ring_of s i) refl here one)
-          | inr fails ↦ subst (λ g. IsIdle k g) (sym (cond-false (code b == 1) (open_goals h k later b (k.ring_of s i)) [] fails)) (inl refl)
-        ]
+        cond_both (code b == 1) (open_goals h k later b (k.ring_of s i)) [] (IsIdle k) (λ one. open_idle s i (k.ring_of s i) refl here one) (λ _. inl refl)
 
     stopped_idle : (o : Option Command) → command_at h k (next_command h k) ≡ o → IsIdle k (stopped_goals h k later b o)
     unfolding stopped_goals
@@ -117,10 +112,6 @@ module _ (h : Header) where
       abbrev now : ℕ → Spot
       now = put pointers (command_id h) at_command
 
-      none_more : FitGoals []
-      unfolding brought command_taken taken_up_to goal at_command
-      none_more = search (rules, command_fits, put_at, command_id, at_command, put_off, not_command)
-
       one_more_fits : (s i r : ℕ) → k.ring_of s i ≡ Some r → FitGoals (needless r)
       unfolding brought command_taken taken_up_to goal at_command
       one_more_fits s i r had =
@@ -139,9 +130,10 @@ module _ (h : Header) where
           }
 
       all_fit : FitGoals (stopped_goals h k later b (command_at h k (next_command h k)))
+      unfolding brought command_taken taken_up_to goal at_command
       all_fit =
           elim (stopped_idle (command_at h k (next_command h k)) refl) [
-            | inl none ↦ subst (λ g. FitGoals g) (sym none) none_more
+            | inl none ↦ subst (λ g. FitGoals g) (sym none) (search (rules, command_fits, put_at, command_id, at_command, put_off, not_command))
             | inr idle ↦ subst (λ g. FitGoals g) (sym idle.4) (one_more_fits idle.0 idle.1 idle.2 idle.3)
           ]
 
@@ -201,43 +193,35 @@ module _ (h : Header) where
       (timely : AreTimely h past.known (Plain (Read b) ∷ later)) (f : Follows h past.known past.pointers w) where
     pub ready_to_finish : Leads h past past.made (Plain (Read b) ∷ later) w → ReadyToFinish past later b
     ready_to_finish run =
-        let k : Known = past.known in
-        let pointers : ℕ → Spot = past.pointers in
-        let older : List Step = past.made in
-        let d : DriverKeeps h k = past.keeps in
-        let says : CompletionSays h k b = completion_says h k b completion clean in
-        let trace : Traced h past.known pointers w = traced_behind h past.known past.pointers w f in
-        let looked : AllBrought h past (Plain (Read b) ∷ later) older w pointers (lazy_goals h k later (kind b) b) (looks_for h past later b) =
-        prepared h is past later b completion timely d w says pointers trace older run in
-        let v : World = looked.world in
-        let one : IsTaken h is past later b completion timely d w says pointers trace v = is_taken h is past later b completion timely d w says pointers trace v looked.traced in
-        let g : Agrees h k [] v = agrees_now h past.known v looked.traced.runs looked.traced.all_read in
-        let floor : AtFloor h k = next_at_floor h is k d says.started says.below in
-        let declared : command_of floor.block ≡ Some says.command = sym (command_at_is h k (next_command h k) floor.block floor.queued) ∙ says.here in
+        let says = completion_says h past.known b completion clean in
+        let trace = traced_behind h past.known past.pointers w f in
+        let looked = prepared h is past later b completion timely past.keeps w says past.pointers trace past.made run in
+        let one = is_taken h is past later b completion timely past.keeps w says past.pointers trace looked.world looked.traced in
+        let g = agrees_now h past.known looked.world looked.traced.runs looked.traced.all_read in
+        let floor = next_at_floor h is past.known past.keeps says.started says.below in
         record {
-          world = v;
+          world = looked.world;
           run = looked.run;
           traced = looked.traced;
-          stay = λ s i r had. rings_stay h is past later b completion timely d w says pointers trace s i r had ∙ f.traced s i r had;
-          opened = (commands_open h k d says.below).opened;
-          keeps = d;
+          stay = λ s i r had. rings_stay h is past later b completion timely past.keeps w says past.pointers trace s i r had ∙ f.traced s i r had;
+          opened = (commands_open h past.known past.keeps says.below).opened;
+          keeps = past.keeps;
           agrees = g;
           says = says;
-          can = may_post h is k v b d g clean;
+          can = may_post h is past.known looked.world b past.keeps g clean;
           taken = one.taken;
           under_way = one.under_way;
           named = says.named ∙ sym one.command.address;
           command_is = ap (λ e. command_of e) (one.command.words floor.block floor.queued)
-              ∙ command_of-with_cycle floor.block (cycle_of (shape_of h (command_id h)) (next_command h k)) (cycle_of_bit (shape_of h (command_id h)) (next_command h k)) ∙ declared;
+              ∙ command_of-with_cycle floor.block (cycle_of (shape_of h (command_id h)) (next_command h past.known)) (cycle_of_bit (shape_of h (command_id h)) (next_command h past.known))
+              ∙ sym (command_at_is h past.known (next_command h past.known) floor.block floor.queued) ∙ says.here;
           stopped_is = one.command.stopped says.command says.here;
         }
 
   -- the rings stand at their floors
   pub floors_then : (past : Past h) (later : List TraceRow) (b : Block) → (ready : ReadyToFinish past later b) → AtFloors h past.known ready.world
-  floors_then past later b ready = record {
-    floors = λ s i r had. subst (λ t. StandsAt h ready.world r t) (ready.stay s i r had) (ready.traced.rings s i r had);
-    active = ready.traced.active;
-  }
+  floors_then past later b ready =
+      assumption (λ (s i r : ℕ) (had : past.known.ring_of s i ≡ Some r). subst (λ t. StandsAt h ready.world r t) (ready.stay s i r had) (ready.traced.rings s i r had), ready.traced.active)
 
   -- it can be posted, with what its code does
   pub finish_posted : (past : Past h) (later : List TraceRow) (b : Block) (v : World) → is_command_completion (kind b) ≡ true → (ready : ReadyToFinish past later b) →
@@ -313,19 +297,16 @@ module _ (h : Header) where
         (stands_same h x v q (m.ring q).floor (rings_are q) (goes.at_floors.floors s i q (had s i q has)))
 
     still_active : (s i q : ℕ) → l.ring_of s i ≡ Some q → IsActiveIfOpen l v q
-    still_active s i q has on =
-        ap (λ (g : RingState). g.active) (rings_are q)
-        ∙ goes.at_floors.active s i q (had s i q has) (subst (λ (g : RingView). is_open g ≡ true) (view_is s i q has) on)
+    unfolding counted
+    still_active s i q has on = search (rules, rings_are, had, view_is, goes.at_floors)
 
     pointer_is : (s i q : ℕ) → l.ring_of s i ≡ Some q → pointers_after h past.known past.pointers (Read b) later q ≡ (l.ring q).floor
     unfolding pointers_after
     pointer_is s i q has =
-        elim (cases_Bool (is_placed h past.known q b)) [
-          | inl placed ↦ cond-true (is_placed h past.known q b) ((learned h past.known (Read b)).ring q).floor _ placed
-          | inr other ↦
-              let before : HadBefore past.known m q = goes.had s i q (had s i q has) other in
-              other_pointer b past later q other ∙ brought q ∙ stay before.slot before.index q before.had ∙ sym before.floor ∙ ap (λ (g : RingView). g.floor) (sym (view_is s i q has))
-        ]
+        cond_both (is_placed h past.known q b) ((learned h past.known (Read b)).ring q).floor _ (λ t. t ≡ (l.ring q).floor) (λ _. refl)
+        (λ other.
+        let before : HadBefore past.known m q = goes.had s i q (had s i q has) other in
+        brought q ∙ stay before.slot before.index q before.had ∙ sym before.floor ∙ ap (λ (g : RingView). g.floor) (sym (view_is s i q has)))
 
     command_is : state_of v (command_id h) ≡ state_of w (command_id h)
     command_is = rings_are (command_id h) ∙ leaves.command

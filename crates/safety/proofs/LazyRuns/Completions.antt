@@ -1,9 +1,9 @@
 -- The step of a row that reads a Command Completion Event, whatever its command and its code
-use Rattle.safety.proofs.LazyRuns.Words.{[], ◌≡◌, ◌+◌, ◌==◌, ◌∙◌, ℕ, not, true, false, List, Option, Some, is_some, option_map, unwrap_or, refl, sym, ap, rules, or_parts, cond-false, cond-true, Block, IsBlock, kind, code, slot, is_command_completion, Command, changes, command_of, named_context, can_succeed, Header, Read, TraceRow, Config, IsHeader, command_id, register_or_zero, World, posted, Known, event_read, learned, lenient, on_ring, command_at, next_command, is_bad_area, has_bad_context, CommandKeeps, Agrees, bad_command_context, ring_elsewhere, StatesMatch, ChangeKeeps, states_match, let_go, completion_kind, seen_after, stop_ended_is, next_unfinished, stored, stored_block, world_changed_by_all, effect as bindings_effect, ended, ended_with, passes_end, finish_succeeded, completed, known_finished, known_succeeded, is_placed, is_placed_by, ◌≢◌, ◌<◌, ◌∷◌, Bool, map, All, get_or, eq-eqb, list_any, All-head, All-tail, ConfigureEndpoint, Running, Change, SlotGoesOn, Disables, Places, placed_by_context, added_endpoints, is_dropped, context_pointer, context_cycle, is_ring, is_among, has_repeats, ring_bound, binding_in, DriverKeeps, Stands, bad_context_parts, same_context, configure_same, slot_above, may_add, have_none, numbered, apart, ReadyAt, HasNone, ring_at, ready_next, placed_there, none_there, false≢true, each_fails, any_of_map, known_changed_by, subst, inl, inr, cases_Bool, PlacesNone, command_numbered, SetTrDequeue, Stopped, may_move, MayMove, ContextSize, AreNoPlacings, arith, AddressDevice, is_off, address_same, first_binds, second_moves, slot_binds, slot_moves, and_left, and_right, not-true, Plain, was_stop_seen, learned_read, next_known, failed_read, put_off}
+use Rattle.safety.proofs.UpperLaws.{[], ◌≡◌, ◌+◌, ◌==◌, ◌∙◌, ℕ, not, true, false, List, Option, Some, is_some, unwrap_or, refl, sym, ap, rules, or_parts, cond-false, cond-true, Block, IsBlock, kind, code, slot, is_command_completion, Command, changes, command_of, named_context, can_succeed, Header, Read, TraceRow, Config, IsHeader, command_id, register_or_zero, World, posted, Known, event_read, learned, lenient, on_ring, command_at, next_command, is_bad_area, has_bad_context, CommandKeeps, Agrees, bad_command_context, ring_elsewhere, StatesMatch, ChangeKeeps, states_match, let_go, completion_kind, seen_after, stop_ended_is, next_unfinished, stored, stored_block, world_changed_by_all, bindings_effect, ended, ended_with, passes_end, finish_succeeded, completed, known_finished, known_succeeded, is_placed_by, ◌≢◌, ◌<◌, ◌∷◌, Bool, map, All, get_or, eq-eqb, list_any, All-head, All-tail, ConfigureEndpoint, Running, Change, SlotGoesOn, Disables, Places, placed_by_context, added_endpoints, is_dropped, context_pointer, context_cycle, is_ring, is_among, has_repeats, ring_bound, binding_in, DriverKeeps, Stands, bad_context_parts, same_context, configure_same, slot_above, may_add, have_none, numbered, apart, ReadyAt, HasNone, ring_at, ready_next, placed_there, none_there, false≢true, each_fails, any_of_map, known_changed_by, subst, inl, inr, cases_Bool, PlacesNone, command_numbered, SetTrDequeue, Stopped, may_move, MayMove, ContextSize, AreNoPlacings, arith, AddressDevice, is_off, address_same, first_binds, second_moves, slot_binds, slot_moves, and_left, and_right, not-true, Plain, was_stop_seen, learned_read, next_known, failed_read, put_off, Carries, Past, RingsGo, AtFloors, Follows, Leads, AreTimely, same_meant}
+use Rattle.std.proofs.Common.{option_map}
+use Rattle.safety.specs.LazyRuns.Needs.{is_placed}
 use Rattle.safety.proofs.LazyRuns.ChangesGo.{ListGoes, ChangeGoes, no_change_goes, change_then_goes, change_goes, changes_go, bind_goes, move_goes}
 use Rattle.safety.proofs.LazyRuns.CompletionStep.{ReadyToFinish, finish_posted, spots_then, ready_to_finish, floors_then, CompletionLearns, FinishLeaves, completion_step}
-use Rattle.safety.proofs.UpperLaws.{Carries, Past, RingsGo, AtFloors, Follows, Leads, AreTimely}
-use Rattle.safety.proofs.FinishSuccess.{same_meant}
 use Rattle.safety.proofs.LazyRuns.PostStep.{EventLawOf}
 
 -- The success of a command, from its changes: the lazy run goes on
@@ -66,27 +66,19 @@ module _ (h : Header) where
         let can : can_succeed k.slot_state k.endpoint_state (register_or_zero k.register Config) (slot b) c ≡ true = sym (cond-true (code b == 1) _ _ one) ∙ ready.says.may in
         simp (low_end k (named_context c) (bad_command_context h k c (given_then past later b is ready).good), same_success k w (slot b) c ready.agrees ∙ can) makes
 
-    ends : ended_with h w b ready.taken ≡ Some (let_go (posted h list.world b))
-    unfolding ended_with ended
-    ends = search (rules, cond-true, code, option_map, ended, finish_succeeded, w, slot, command_of, succeeds)
-
     keeps : ChangeKeeps h k m w list.world
     unfolding known_succeeded
     keeps = list.keeps
-
-    rings_go : RingsGo h k m list.world (λ r. is_placed h k r b)
-    unfolding known_succeeded is_placed is_placed_by
-    rings_go = search (rules, list, code, is_placed_by, slot, command_at, next_command, command_id)
 
     started : m.started ≡ k.started
     started = ap (λ (y : Known). y.started) keeps.rest.known
 
     pub success_step : IsBlock b → lenient h past.known (Read b) ≡ [] → Carries h past (Read b) later
-    unfolding posted stored_block stored
+    unfolding posted stored_block stored ended_with ended known_succeeded is_placed is_placed_by
     success_step block clean =
         completion_step h is past later b block clean completion (spots_then h past later b) (λ q. refl) w (let_go (posted h list.world b)) list.world m ready.traced ready.stay
-        ready.says.started ready.opened (finish_posted h past later b (let_go (posted h list.world b)) completion ready ends) (search (rules, let_go))
-        (success_learns k b c completion one ready.says.here started) rings_go ready.run
+        ready.says.started ready.opened (finish_posted h past later b (let_go (posted h list.world b)) completion ready (search (rules, cond-true, code, option_map, ended, finish_succeeded, w, slot, command_of, succeeds))) (search (rules, let_go))
+        (success_learns k b c completion one ready.says.here started) (search (rules, list, code, is_placed_by, slot, command_at, next_command, command_id)) ready.run
 
   -- the states of what is known are those of the world, before the first change
   pub states_then : (past : Past h) (later : List TraceRow) (b : Block) → IsHeader h → (ready : ReadyToFinish h past later b) → StatesMatch h past.known ready.world

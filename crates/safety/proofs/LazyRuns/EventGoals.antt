@@ -1,7 +1,5 @@
 -- What an event that is read asks for stays below the floors behind it, or below what is needed later; and it is few looks
-use Rattle.safety.proofs.LazyRuns.Words.{rules, [], ◌≡◌, ◌+◌, ◌<◌, ◌≤◌, ◌==◌, ◌&&◌, ◌||◌, ◌∷◌, ◌∙◌, ℕ, true, false, List, Option, Some, max, nat_lt, arith, refl, sym, ap, subst, inl, inr, eq-eqb, eqb-true, ltb-true, cases_Bool, cond_both, false≢true, and_parts, Block, BlockKind, TransferEvent, CommandCompletion, kind, code, slot, endpoint, is_transfer_event, is_success, is_halting, is_trb_error, is_stopping, Spot, number, after, number-after, floor_number, is_open, Command, Header, TraceRow, Read, IsHeader, shape_of, command_id, Known, RingSpot, command_at, next_command, learned, lenient, transferred, IsDriverRing, IsTransferRing, DriverKeeps, command_is_ring, event_facts, found_in, transfer_driver, transfer_not_command, need, number_behind, number_reported, is_report_of_success, is_shape, driver_test, floors_grow, each_passes, header_parts, command_taken, goals as lazy_goals, open_goals, report_goals, stop_goal, stopped_goals, taken_up_to}
-use Rattle.ring_knowledge.specs.Rings.{event_at}
-use Rattle.safety.proofs.UpperLaws.{bit, bit_set, number_taken, AreFew, no_goal, command_goal, ring_goal, two_goals, TransferFacts, transfer_facts, stop_code}
+use Rattle.safety.proofs.UpperLaws.{rules, [], ◌≡◌, ◌+◌, ◌<◌, ◌≤◌, ◌==◌, ◌&&◌, ◌||◌, ◌∷◌, ◌∙◌, ℕ, true, false, List, Some, max, nat_lt, arith, refl, sym, ap, subst, inl, inr, eq-eqb, eqb-true, ltb-true, cases_Bool, cond_both, false≢true, and_parts, Block, BlockKind, TransferEvent, CommandCompletion, kind, code, slot, endpoint, is_transfer_event, is_success, is_halting, is_trb_error, is_stopping, Spot, number, after, number-after, floor_number, is_open, Header, TraceRow, Read, IsHeader, shape_of, command_id, Known, RingSpot, next_command, learned, lenient, transferred, IsDriverRing, IsTransferRing, DriverKeeps, command_is_ring, event_facts, found_in, transfer_driver, transfer_not_command, need, number_behind, number_reported, is_report_of_success, is_shape, driver_test, floors_grow, each_passes, header_parts, command_taken, lazy_goals, open_goals, report_goals, stop_goal, stopped_goals, taken_up_to, event_at, bit, bit_set, number_taken, AreFew, no_goal, command_goal, ring_goal, two_goals, TransferFacts, transfer_facts, stop_code}
 use Rattle.safety.proofs.LazyRuns.TransferGoals.{read_is, success_floor, error_ring, stop_ring}
 
 -- each goal's number is at most that of its ring
@@ -112,17 +110,12 @@ module _ (h : Header) (k : Known) (b : Block) (clean : lenient h k (Read b) ≡ 
           (λ _. (command_within, (stop_within (need h l f.ring later) (top_need f.ring), tt)))
           (λ goes_on. (taken_within (number f.spot + 1) f.ring (top_floor f.ring (number f.spot + 1) ((is_passed transfer f).block goes_on)), tt))
 
-    stopped_within : (o : Option Command) → AreWithin top (stopped_goals h k later b o)
-    unfolding stopped_goals open_goals
-    stopped_within o = grind (arith, code, open_goals, is_open, taken_up_to, need, taken_within, top_need)
-
     kind_within : (n : BlockKind) → kind b ≡ n → AreWithin top (lazy_goals h k later n b)
-    unfolding lazy_goals
+    unfolding lazy_goals stopped_goals open_goals
     kind_within TransferEvent is_kind =
-        let transfer : is_transfer_event (kind b) ≡ true = ap is_transfer_event is_kind in
-        let f : TransferFacts h k b = transfer_facts h k b clean transfer in
-        subst (λ o. AreWithin top (report_goals h k later b o)) (sym f.at) (report_within transfer f)
-    kind_within CommandCompletion is_kind = (command_within, stopped_within (command_at h k (next_command h k)))
+        let f : TransferFacts h k b = transfer_facts h k b clean (ap is_transfer_event is_kind) in
+        subst (λ o. AreWithin top (report_goals h k later b o)) (sym f.at) (report_within (ap is_transfer_event is_kind) f)
+    kind_within CommandCompletion is_kind = (command_within, (grind (arith, code, open_goals, is_open, taken_up_to, need, taken_within, top_need)))
     kind_within _ is_kind = tt
 
     pub goals_within : AreWithin top (lazy_goals h k later (kind b) b)
@@ -175,17 +168,12 @@ module _ (h : Header) (k : Known) (b : Block) (clean : lenient h k (Read b) ≡ 
       abbrev AreFewThen : List RingSpot → Type 0
       AreFewThen goals = AreFew h pointers (command_taken h k ∷ goals)
 
-      stopped_few : (o : Option Command) → AreFewThen (stopped_goals h k later b o)
-      unfolding stopped_goals open_goals
-      stopped_few o = grind (arith, code, open_goals, is_open, taken_up_to, need, both_few, taken_on, command_few)
-
       kind_few : (n : BlockKind) → kind b ≡ n → AreFew h pointers (lazy_goals h k later n b)
-      unfolding lazy_goals
+      unfolding lazy_goals stopped_goals open_goals
       kind_few TransferEvent is_kind =
-          let transfer : is_transfer_event (kind b) ≡ true = ap is_transfer_event is_kind in
-          let f : TransferFacts h k b = transfer_facts h k b clean transfer in
-          subst (λ o. AreFew h pointers (report_goals h k later b o)) (sym f.at) (report_few transfer f)
-      kind_few CommandCompletion is_kind = stopped_few (command_at h k (next_command h k))
+          let f : TransferFacts h k b = transfer_facts h k b clean (ap is_transfer_event is_kind) in
+          subst (λ o. AreFew h pointers (report_goals h k later b o)) (sym f.at) (report_few (ap is_transfer_event is_kind) f)
+      kind_few CommandCompletion is_kind = (grind (arith, code, open_goals, is_open, taken_up_to, need, both_few, taken_on, command_few))
       kind_few _ is_kind = no_goal h pointers
 
       pub goals_few : AreFew h pointers (lazy_goals h k later (kind b) b)

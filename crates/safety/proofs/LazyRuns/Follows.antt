@@ -1,5 +1,6 @@
 -- What the induction over the rows follows: where rings stand in the world, what is known of them there, and what looks may be made
-use Rattle.safety.proofs.LazyRuns.Words.{rules, [], ◌≡◌, ◌⊎◌, ◌∷◌, ◌++◌, ℕ, true, false, List, reverse, Some, Block, IsBlock, Spot, Data, is_open, IsSpot, number, spot_address, spot_cycle, Header, Row, Read, Step, NextRow, TraceRow, Plain, IsHeader, shape_of, command_id, World, next_take, Known, learned, lenient, DriverKeeps, Runs, scene_reached, scene_with, steps_before, pointers_after, AreAtFloors, ◌∙◌, option_map, option_and_then, sym, ap, subst, IsDriverRow, step_made, Option, cond-false, row_done, counted, made as steps_made, while_running, ◌≢◌, ◌+◌, ◌<◌, ◌≤◌, rank, MayReach, RingSpot, next_command, state_of, further, looks_to, flat_map, kind, goals, Bool, inl, inr, cases_Bool, cases_eq, false≢true, Shape, IsShape, data_not_link, IsDriverRing, RingMatches, Unreported, UnderWayMatches, Agrees, transfer_driver, ring_shape, command_is_ring, arith}
+use Rattle.safety.proofs.MiddleLaws.{rules, [], ◌≡◌, ◌⊎◌, ◌∷◌, ◌++◌, ℕ, true, false, List, reverse, Some, Block, IsBlock, Spot, Data, is_open, IsSpot, number, spot_address, spot_cycle, Header, Row, Read, Step, NextRow, TraceRow, Plain, IsHeader, shape_of, command_id, World, next_take, Known, learned, lenient, DriverKeeps, Runs, scene_reached, scene_with, steps_before, pointers_after, AreAtFloors, ◌∙◌, option_and_then, sym, ap, subst, IsDriverRow, step_made, Option, cond-false, row_done, counted, steps_made, while_running, ◌≢◌, ◌+◌, ◌<◌, ◌≤◌, rank, MayReach, RingSpot, next_command, state_of, further, looks_to, flat_map, kind, goals, Bool, inl, inr, cases_Bool, cases_eq, false≢true, Shape, IsShape, data_not_link, IsDriverRing, RingMatches, Unreported, UnderWayMatches, Agrees, transfer_driver, ring_shape, command_is_ring, arith}
+use Rattle.std.proofs.Common.{option_map}
 use Rattle.safety.proofs.LazyRuns.NeedsOfHeld.{AreTimely}
 
 -- What an induction over the rows has to carry beside the lazy law: all events are read, the schedule knows where the pointers stand,
@@ -184,18 +185,7 @@ module _ (h : Header) (is : IsHeader h) (k : Known) (w : World) (d : DriverKeeps
     pub takes : Unreported (shape_of h r) (k.ring r) (state_of w r) t
 
   pub endpoint_stands : (s i r : ℕ) (t : Spot) → r ≢ command_id h → k.ring_of s i ≡ Some r → StandsAt h w r t → EndpointStands r t
-  endpoint_stands s i r t other has at =
-      let ring : IsDriverRing h r = transfer_driver h r (d.states.transfer s i r has) in
-      elim (g.matches.rings r other) [
-        | inl b ↦
-            let same = same_there r b.spot t ring b.matches at in
-            record {
-              ring = ring;
-              matches = subst (λ x. RingMatches (shape_of h r) (k.ring r) (state_of w r) x) same b.matches;
-              takes = subst (λ x. Unreported (shape_of h r) (k.ring r) (state_of w r) x) same b.takes;
-            }
-        | inr free ↦ absurd (free.none s i has)
-      ]
+  endpoint_stands s i r t other has at = search (rules, transfer_driver, d.states, g.matches, same_there)
 
   -- the command ring: where it stands, and which command is under way
   pub record CommandsStand (t : Spot) : Type 0 where
@@ -204,15 +194,7 @@ module _ (h : Header) (is : IsHeader h) (k : Known) (w : World) (d : DriverKeeps
     pub under_way : UnderWayMatches h k t w.under_way
 
   pub commands_stand : (t : Spot) → k.started ≡ true → StandsAt h w (command_id h) t → CommandsStand t
-  commands_stand t on at =
-      let ring : IsDriverRing h (command_id h) = command_is_ring h k d on in
-      let c = g.matches.command on in
-      let same = same_there (command_id h) c.spot t ring c.ring at in
-      record {
-        ring = ring;
-        matches = subst (λ x. RingMatches (shape_of h (command_id h)) (k.ring (command_id h)) (state_of w (command_id h)) x) same c.ring;
-        under_way = subst (λ x. UnderWayMatches h k x w.under_way) same c.under_way;
-      }
+  commands_stand t on at = search (rules, command_is_ring, g.matches, same_there)
 
   -- any ring that is active
   pub record RingStands (r : ℕ) (t : Spot) : Type 0 where
@@ -221,17 +203,10 @@ module _ (h : Header) (is : IsHeader h) (k : Known) (w : World) (d : DriverKeeps
 
   commands_active : (t : Spot) → w.is_active (command_id h) ≡ true → StandsAt h w (command_id h) t → RingStands (command_id h) t
   commands_active t active at =
-      elim (cases_Bool k.started) [
-        | inl on ↦ let c = commands_stand t on at in record { ring = c.ring; matches = c.matches }
-        | inr off ↦ absurd (false≢true (sym (g.matches.before off).inactive ∙ active))
-      ]
+      elim (cases_Bool k.started) [ inl on ↦ assumption (commands_stand t on at) | inr off ↦ absurd (false≢true (sym (g.matches.before off).inactive ∙ active)) ]
 
   endpoint_active : (r : ℕ) (t : Spot) → r ≢ command_id h → w.is_active r ≡ true → StandsAt h w r t → RingStands r t
-  endpoint_active r t other active at =
-      elim (g.matches.rings r other) [
-        | inl b ↦ let e = endpoint_stands b.slot b.index r t other b.bound at in record { ring = e.ring; matches = e.matches }
-        | inr free ↦ absurd (false≢true (sym free.rests.inactive ∙ active))
-      ]
+  endpoint_active r t other active at = search (rules, g.matches, endpoint_stands, false≢true)
 
   pub ring_stands : (r : ℕ) (t : Spot) → w.is_active r ≡ true → StandsAt h w r t → RingStands r t
   ring_stands r t active at =

@@ -1,9 +1,13 @@
 -- Each position before a ring's floor was given by a write of its own: floors, summed, and events that are read are no more than rows
-use Rattle.safety.proofs.LazyRuns.Words.{[], ◌≡◌, ◌≢◌, ◌+◌, ◌<◌, ◌≤◌, ◌∷◌, ◌∙◌, ℕ, suc, true, List, All, length, Option, arith, refl, sym, ap, inl, inr, rules, cases_eq, cond_both, All-head, All-tail, is_inside, put, put_at, put_off, Opens, RingChange, RingView, new_ring, floor_number, Header, Row, Sub, Write, Reg, Bell, Read, TraceRow, Comes, Goes, Plain, Withdraws, IsHeader, shape_of, command_id, Register, Known, on_ring, nothing, endpoint_rung, rung, learned, AreKept, FitsFields, header_now, known_now, forgotten, restored, restored_on, ring_restored, with_ring, without_ring, register_leaves, view_after, kind, Block, DriverKeeps, IsDriverRing, ring_shape, Declares, changed, ring_with, is_driver_ring, driver_ring, endpoints_of, rings_of, nothing_keeps, row_keeps, still_of, not_in_both, transfer_driver, written_view, event_same, still_reads, RingsKeep, RingWithdraws}
-use Rattle.safety.proofs.RingChanges.GoneRings as rings_gone
+use Rattle.safety.proofs.UpperLaws.{[], ◌≡◌, ◌≢◌, ◌+◌, ◌<◌, ◌≤◌, ◌∷◌, ◌∙◌, ℕ, suc, true, List, All, length, Option, arith, refl, sym, ap, rules, cases_eq, cond_both, All-head, All-tail, is_inside, put, put_at, put_off, Opens, RingChange, RingView, new_ring, floor_number, Header, Row, Sub, Write, Reg, Bell, Read, TraceRow, Comes, Goes, Plain, IsHeader, shape_of, command_id, Register, Known, on_ring, nothing, endpoint_rung, rung, learned, AreKept, FitsFields, header_now, known_now, forgotten, restored, restored_on, ring_restored, with_ring, without_ring, register_leaves, view_after, kind, Block, DriverKeeps, IsDriverRing, ring_shape, Declares, changed, ring_with, is_driver_ring, driver_ring, endpoints_of, rings_of, still_of, not_in_both, transfer_driver, written_view, event_same, still_reads, RingsKeep, RingWithdraws, given_among, all_given, same_given, one_more, no_more, of_driver, on_driver, off_driver, none_of_driver, driver_le, total, total_grows, total_le, total_none, total_one}
+use Rattle.traces.specs.declared.trace_row.TraceRow.TheVariants.{Withdraws}
+use Rattle.safety.proofs.DriverRows.{nothing_keeps}
+use Rattle.safety.proofs.Histories.{row_keeps}
 use Rattle.safety.proofs.RingChanges.Restored.{row_comes, row_keeps as kept_row}
-use Rattle.safety.proofs.UpperLaws.{Keeps, now_keeps, given_among, all_given, none_given, same_given, one_more, no_more, of_driver, on_driver, off_driver, none_of_driver, driver_le, OthersStay, comes_stay, goes_stay, total, total_grows, total_le, total_none, total_one}
-use Rattle.safety.proofs.LazyRuns.Induction.{kept_on}
+use Rattle.safety.proofs.RingChanges.RingsHeadline.{Keeps, kept_on, now_keeps}
+use Rattle.safety.proofs.LazyRuns.Progress.{none_given}
+use Rattle.safety.proofs.LazyRuns.RingRows.{OthersStay, comes_stay, goes_stay}
+use Rattle.safety.proofs.RingChanges.GoneRings as rings_gone
 
 -- how many rows read an event
 unfoldable pub events : List TraceRow → ℕ
@@ -78,11 +82,7 @@ module _ (h : Header) where
       unfolding all_rings
       write_one =
           total_one (of_ring k) (of_ring l) 256 near
-          (λ r c first second.
-          elim (cases_eq r c) [
-            | inl same ↦ same
-            | inr other ↦ let x = written r first in let y = written c second in absurd (not_in_both h is r c x.driver y.driver other a x.inside y.inside)
-          ])
+          (λ r c first second. grind (arith, cases_eq r c, written r first, written c second, not_in_both h is r c))
 
     before_any : all_rings nothing ≡ 0
     unfolding all_rings of_ring nothing
@@ -164,10 +164,8 @@ module _ (h : Header) where
         omega (arith, given_most past (All-tail FitsFields (Withdraws r p) past are) kept.0 n, withdrawn_most (header_now h past) n (known_now h past) r p)
     given_most (Comes ring ∷ past) are kept n =
         let p = kept_before (Comes ring) past are kept in
-        let g : Header = header_now h past in
-        let k : Known = known_now h past in
-        let stay = comes_stay g p.headed k p.keeps ring (All-head FitsFields (Comes ring) past are) kept.1.1 in
-        omega (arith, given_most past (All-tail FitsFields (Comes ring) past are) kept.0 n, comes_most g (with_ring g ring) k ring.id stay n)
+        let stay = comes_stay (header_now h past) p.headed (known_now h past) p.keeps ring (All-head FitsFields (Comes ring) past are) kept.1.1 in
+        omega (arith, given_most past (All-tail FitsFields (Comes ring) past are) kept.0 n, comes_most (header_now h past) (with_ring (header_now h past) ring) (known_now h past) ring.id stay n)
     given_most (Goes id ∷ past) are kept n =
         let p = kept_before (Goes id) past are kept in
         let g : Header = header_now h past in

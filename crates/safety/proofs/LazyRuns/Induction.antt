@@ -1,8 +1,14 @@
 -- The lazy law by induction over the rows, from the step of a row that reads an event
-use Rattle.safety.proofs.LazyRuns.Words.{[], ◌≡◌, ◌≢◌, ◌⊎◌, ◌≤◌, ◌∷◌, ◌∙◌, ℕ, true, false, List, Some, arith, sym, ap, subst, inl, inr, rules, cases_Bool, false≢true, Spot, Data, number, rank, Header, Row, TraceRow, Plain, IsHeader, command_id, IsRow, World, next_take, counted, Known, learned, MayCome, DriverKeeps, IsDriverRow, Agrees, Runs, kept_driver, transfer_not_command, more_law, row_runs, square_law, still_rings, pointers_after, AreAtFloors, ◌++◌, All, reverse, option_and_then, refl, append_assoc, reverse-append, All-cons, All-head, All-nil, All-tail, Read, Comes, Goes, Withdraws, NextRow, opening, emptied, with_ring, without_ring, without_descriptor, scene_reached, step_made, scene_with, AreKept, FitsFields, IsKept, header_after, header_now, known_now, restored, restored_on, ring_restored, clean_tests, IsTimely, lazy_run, pointers_at, pointers_for, steps_for, LazyLaw, AllAreRead, none-some, is_open, nothing, opens}
-use Rattle.safety.proofs.UpperLaws.{agrees_now, pointers_same, driver_reached, StandsAt, IsActiveIfOpen, Follows, Carries, Leads, Past, RowLearns, row_learns, row_active, row_starts, Keeps, now_keeps, all_are_read, EventLaw, AreTimely, comes_follows, comes_stay, goes_follows, goes_stay, restored_follows, withdrawn_follows}
-use Rattle.safety.proofs.LazyRuns.RowsLearn.{PointerStays, RowLeaves, row_leaves, done, row_is_done}
-use Rattle.safety.proofs.RingChanges.Restored.{row_comes, row_keeps, stopped_still}
+use Rattle.safety.proofs.UpperLaws.{[], ◌≡◌, ◌≢◌, ◌⊎◌, ◌∷◌, ◌∙◌, ℕ, true, false, List, Some, sym, ap, subst, inl, inr, rules, cases_Bool, false≢true, Spot, Data, Header, Row, TraceRow, Plain, IsHeader, command_id, IsRow, World, next_take, counted, Known, learned, MayCome, DriverKeeps, IsDriverRow, Agrees, Runs, transfer_not_command, more_law, pointers_after, AreAtFloors, ◌++◌, All, reverse, option_and_then, refl, All-cons, All-head, All-nil, All-tail, Read, Comes, Goes, NextRow, opening, with_ring, without_ring, scene_reached, step_made, scene_with, AreKept, FitsFields, IsKept, header_after, header_now, known_now, restored, restored_on, ring_restored, IsTimely, lazy_run, pointers_at, pointers_for, steps_for, LazyLaw, AllAreRead, none-some, is_open, nothing, opens, agrees_now, pointers_same, driver_reached, StandsAt, IsActiveIfOpen, Follows, Carries, Leads, Past, RowLearns, row_learns, row_active, row_starts, all_are_read, EventLaw, AreTimely, PointerStays, RowLeaves, row_leaves, done, row_is_done}
+use Rattle.safety.proofs.DriverHistories.{kept_driver}
+use Rattle.safety.proofs.RowRuns.{row_runs}
+use Rattle.safety.proofs.Squares.{square_law}
+use Rattle.safety.proofs.StillRings.{still_rings}
+use Rattle.traces.specs.declared.trace_row.TraceRow.TheVariants.{Withdraws}
+use Rattle.safety.proofs.RingChanges.RingsHeadline.{Keeps, now_keeps}
+use Rattle.safety.proofs.LazyRuns.RingRows.{comes_follows, comes_stay, goes_follows, goes_stay, restored_follows, withdrawn_follows}
+use Rattle.safety.proofs.RingChanges.Restored.{row_comes, row_keeps}
+pub use Rattle.safety.proofs.RingChanges.RingsHeadline.{kept_on, later_kept, one_more}
 
 -- The induction's step for a row of the driver
 
@@ -72,33 +78,16 @@ module _ (h : Header) where
       unfolding l
       agrees_then = agrees_now h (learned h past.known row) (counted h v) runs all_read
 
-      -- it was started before
-      goes_on : past.known.started ≡ true → l.started ≡ true → StandsAt h (counted h v) (command_id h) (past.pointers (command_id h))
-      unfolding counted
-      goes_on started still = search (rules, l, v, agrees_then, agrees, leaves, stands_still)
-
-      -- the row starts it: nothing is taken yet
-      begins : past.known.started ≡ false → l.started ≡ true → StandsAt h (counted h v) (command_id h) (past.pointers (command_id h))
-      unfolding counted next_take
-      begins waits started = search (rules, l, v, agrees_then, leaves, agrees, before, next_take, learns, floors, past.keeps)
-
       command : l.started ≡ true → StandsAt h (counted h v) (command_id h) (pointers_after h past.known past.pointers row later (command_id h))
+      unfolding counted next_take
       command started =
           subst (λ t. StandsAt h (counted h v) (command_id h) t) (sym (pointers_same h past.known past.pointers row later (command_id h) driver_row))
-          (elim (cases_Bool past.known.started) [ inl already ↦ goes_on already started | inr waits ↦ begins waits started ])
+          (elim (cases_Bool past.known.started) [ inl already ↦ search (rules, l, v, agrees_then, agrees, leaves, stands_still) | inr waits ↦ search (rules, l, v, agrees_then, leaves, agrees, before, next_take, learns, floors, past.keeps) ])
 
       follows_row : Follows h (learned h past.known row) (pointers_after h past.known past.pointers row later) (counted h v)
       unfolding l
-      follows_row = record {
-        runs = runs;
-        all_read = all_read;
-        floors = floors;
-        traced = traced;
-        active = λ s i r at. active r (f.active s i r (had s i r at));
-        before = before;
-        command = command;
-        command_active = active (command_id h) f.command_active;
-      }
+      follows_row =
+          assumption (runs, all_read, floors, traced, λ (s i r : ℕ) (at : l.ring_of s i ≡ Some r). active r (f.active s i r (had s i r at)), before, command, active (command_id h) f.command_active)
 
     -- the world behind the row, be it a stop or not
     goes : Follows h (learned h past.known row) (pointers_after h past.known past.pointers row later) (counted h v) ⊎ (((learned h past.known row).stopped ≡ true) × AreAtFloors h (learned h past.known row) (counted h v))
@@ -116,20 +105,7 @@ pub first : (h : Header) → Follows h nothing (λ r. Data 0) (opening [])
 unfolding opening nothing is_open
 first h = search (rules, opens, none-some, false≢true)
 
--- a row that is kept isn't behind a stop
-pub kept_on : (h : Header) (k : Known) (row : TraceRow) → IsKept h k row → k.stopped ≡ false
-kept_on h k (Plain row) kept = sym (stopped_still h k (ring_restored h k row)) ∙ (clean_tests h (restored h k row) row kept.0).0
-kept_on h k _ kept = kept.0
-
--- rows told from their history
-pub one_more : (row : TraceRow) (rest past : List TraceRow) → reverse (row ∷ rest) ++ past ≡ reverse rest ++ (row ∷ past)
-one_more row rest past = ap (λ l. l ++ past) (reverse-append (row ∷ []) rest) ∙ append_assoc (reverse rest) (row ∷ []) past
-
 module _ (h : Header) where
-  pub later_kept : (xs ys : List TraceRow) → AreKept h (xs ++ ys) → AreKept h ys
-  later_kept [] ys kept = kept
-  later_kept (x ∷ xs) ys kept = later_kept xs ys kept.0
-
   later_timely : (xs ys : List TraceRow) → IsTimely h (xs ++ ys) → IsTimely h ys
   later_timely [] ys timely = timely
   later_timely (x ∷ xs) ys timely = later_timely xs ys timely.0
@@ -159,7 +135,7 @@ module _ (h : Header) where
         let then_kept : AreKept h (reverse later ++ (row ∷ past)) = subst (AreKept h) more kept in
         let then_timely : IsTimely h (reverse later ++ (row ∷ past)) = subst (IsTimely h) more timely in
         let then_made : All FitsFields (row ∷ past) = All-cons FitsFields row past (All-head FitsFields row later left) made in (
-          (command_stays past row then_made (later_kept (reverse later) (row ∷ past) then_kept), (later_timely (reverse later) (row ∷ past) then_timely).1),
+          (command_stays past row then_made (later_kept h (reverse later) (row ∷ past) then_kept), (later_timely (reverse later) (row ∷ past) then_timely).1),
           timely_from later (row ∷ past) then_made (All-tail FitsFields row later left) then_kept then_timely,
         )
 
@@ -239,14 +215,11 @@ module _ (h : Header) where
         unfolding lazy_run pointers_at steps_for pointers_for
         step (Plain row) is_row kept timely run f = plain row is_row kept timely run f
         step (Comes ring) coming kept timely run f =
-            let v : World = counted g (emptied w ring.id) in
-            record { world = v; run = made (Comes ring) v (with_ring g ring) run refl; goes = inl (comes_follows g p.headed k p.keeps ring coming kept.1 (pointers_at h past (Comes ring ∷ later)) w f) }
+            record { world = _; run = made (Comes ring) _ (with_ring g ring) run refl; goes = inl (comes_follows g p.headed k p.keeps ring coming kept.1 (pointers_at h past (Comes ring ∷ later)) w f) }
         step (Goes id) is_row kept timely run f =
-            let v : World = counted g (emptied w id) in
-            record { world = v; run = made (Goes id) v (without_ring g id) run refl; goes = inl (goes_follows g p.headed k p.keeps id kept.1 (pointers_at h past (Goes id ∷ later)) w f) }
+            record { world = _; run = made (Goes id) _ (without_ring g id) run refl; goes = inl (goes_follows g p.headed k p.keeps id kept.1 (pointers_at h past (Goes id ∷ later)) w f) }
         step (Withdraws r q) is_row kept timely run f =
-            let v : World = counted g (without_descriptor w r q) in
-            record { world = v; run = made (Withdraws r q) v g run refl; goes = inl (withdrawn_follows g p.headed k (pointers_at h past (Withdraws r q ∷ later)) w r q p.keeps kept.1 f) }
+            record { world = _; run = made (Withdraws r q) _ g run refl; goes = inl (withdrawn_follows g p.headed k (pointers_at h past (Withdraws r q ∷ later)) w r q p.keeps kept.1 f) }
 
       carries : (past later : List TraceRow) → All FitsFields (reverse past ++ later) → AreKept h (reverse later ++ past) → IsTimely h (reverse later ++ past) → Carried past later
       unfolding lazy_run pointers_at
@@ -258,7 +231,7 @@ module _ (h : Header) where
           let r = rows_of (row ∷ past) later rows in
           let made : All FitsFields past = All-tail FitsFields row past r.0 in
           let is_row : FitsFields row = All-head FitsFields row past r.0 in
-          let own : AreKept h (row ∷ past) = later_kept (reverse later) (row ∷ past) kept in
+          let own : AreKept h (row ∷ past) = later_kept h (reverse later) (row ∷ past) kept in
           let on = kept_on (header_now h past) (known_now h past) row own.1 in
           let to_come = timely_from (row ∷ later) past made (All-cons FitsFields row later is_row r.1) (subst (AreKept h) (sym more) kept) (subst (IsTimely h) (sym more) timely) in
           elim before.goes [
@@ -268,11 +241,7 @@ module _ (h : Header) where
 
       -- the lazy law is part of it
       at_floors : (past later : List TraceRow) (c : Carried past later) → AreAtFloors (header_now h past) (known_now h past) c.world
-      at_floors past later c =
-          elim c.goes [
-            | inl f ↦ λ s i r at. let stands = f.floors s i r at in record { pointer = stands.pointer; cycle = stands.cycle }
-            | inr over ↦ over.1
-          ]
+      at_floors past later c = elim c.goes [ inl f ↦ λ s i r at. assumption (f.floors s i r at) | inr over ↦ over.1 ]
 
   pub lazy_from_events : ((g : Header) → EventLaw g) → LazyLaw h
   lazy_from_events events past later is rows kept timely =

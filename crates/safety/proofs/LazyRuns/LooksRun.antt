@@ -1,6 +1,6 @@
 -- The looks for an event, at one ring after the other, are a run: each ring comes to its goal
-use Rattle.safety.proofs.LazyRuns.Words.{[], ◌≡◌, ◌+◌, ◌-◌, ◌*◌, ◌<◌, ◌≤◌, ◌∷◌, ◌++◌, ◌∙◌, ℕ, suc, zero, List, filter, map, nat_lt, reverse, arith, refl, sym, ap, subst, inl, inr, lt-ltb, le-ltb, append_assoc, rules, cases_lt, cond-true, cond-false, reverse-append, Spot, Shape, IsSpot, number, rank, next, spots_from, rank_least, rank_most, same_rank, next_later, next_least, Header, TraceRow, Step, Look, IsHeader, shape_of, World, counted, Known, DriverKeeps, Agrees, Runs, run_keeps, look_runs, false, Some, ◌≢◌, ◌==◌, ◌&&◌, if◌then◌else◌, Bool, true, Option, is_some, ne_eqb, cases_Bool, cases_eq, and_left, and_right, Block, cycle, kind, is_link, Data, Link, after, command_id, UnderWay, next_command, RingState, RingMatches, UnderWayMatches, state_of, Takeable, Crossable, takeable, crossable, ring_shape, seen, only_crossed, only_taken, only_begun, behind_link, behind_block, TakeDone, CrossDone, take_done, cross_done, block_no_link, link_is, OnlyRing, looked_left, stands_at, block_found, not, eq-eqb, IsDriverRing, Stands, further, looks_to, spots_before, command_begun, crossed, looked, looked_at, seen_by_look, taken as looks_taken, taken_on, made as steps_made, flat_map, put, RingSpot, put_at, put_off, brought as lazy_brought, further as lazy_further}
-use Rattle.safety.proofs.UpperLaws.{step_reached, agrees_now, StandsAt, Leads, Past, MayBring, Looked, LooksLeave, LooksLaw, RingStands, ring_stands, commands_stand, Traced}
+use Rattle.safety.proofs.UpperLaws.{[], ◌≡◌, ◌+◌, ◌-◌, ◌*◌, ◌<◌, ◌≤◌, ◌∷◌, ◌++◌, ◌∙◌, ℕ, suc, zero, List, filter, map, nat_lt, reverse, arith, refl, sym, ap, subst, inl, inr, lt-ltb, le-ltb, append_assoc, rules, cases_lt, cond-true, cond-false, reverse-append, Spot, Shape, IsSpot, number, rank, next, spots_from, rank_least, rank_most, same_rank, next_later, next_least, Header, TraceRow, Step, Look, IsHeader, shape_of, World, counted, Known, DriverKeeps, Agrees, Runs, look_runs, false, Some, ◌≢◌, ◌==◌, ◌&&◌, if◌then◌else◌, Bool, true, is_some, ne_eqb, cases_Bool, cases_eq, and_left, and_right, Block, cycle, kind, is_link, Data, Link, after, command_id, RingState, RingMatches, state_of, Takeable, Crossable, takeable, crossable, ring_shape, seen, only_crossed, only_taken, only_begun, behind_link, behind_block, TakeDone, CrossDone, take_done, cross_done, block_no_link, link_is, OnlyRing, looked_left, stands_at, block_found, not, eq-eqb, IsDriverRing, Stands, further, looks_to, spots_before, command_begun, crossed, looked, looked_at, seen_by_look, looks_taken, taken_on, steps_made, flat_map, put, RingSpot, put_at, put_off, lazy_brought, lazy_further, step_reached, agrees_now, StandsAt, Leads, Past, MayBring, Looked, LooksLeave, LooksLaw, RingStands, ring_stands, commands_stand, Traced}
+use Rattle.safety.proofs.DriverHistories.{run_keeps}
 
 -- The looks of the lazy schedule at one ring are a run: by induction over the spots on the way
 
@@ -55,16 +55,11 @@ module _ (h : Header) where
   stands_from k w v r x t o m = search (rules, shape_of, state_of, cycle, next)
 
   module _ (is : IsHeader h) (k : Known) (w : World) (d : DriverKeeps h k) (g : Agrees h k [] w) (r : ℕ) where
-    free_ring : (q : ℕ) (t : Spot) → q < number t → w.is_active r ≡ true → StandsAt h w r (Data q) → (r ≡ command_id h → number t ≤ next_command h k + 1) →
-        (r == command_id h && is_some w.under_way) ≡ false
-    free_ring q t before active at one = search (rules, arith, cases_eq, command_id, and_left, is_some, ne_eqb, cases_Bool, commands_stand, and_right)
-
     take_look : (q : ℕ) (t : Spot) → rank (Data q) < rank t → StandsAt h w r (Data q) → MayBring h k w r t → LookDone w r (Data q)
     take_look q t before at may =
         let b : Block = seen w r in
         let m : RingStands h is k w d g r (Data q) = ring_stands h is k w d g r (Data q) may.active at in
-        let below : q < number t = omega (arith, before, rank_most t) in
-        let given : (k.ring r).given q ≡ true = may.reach.passed q below in
+        let given : (k.ring r).given q ≡ true = may.reach.passed q (omega (arith, before, rank_most t)) in
         let can : Takeable (shape_of h r) k.memory (k.ring r) q =
         takeable (shape_of h r) (ring_shape h is r m.ring).is k.memory (k.ring r) (d.rings r m.ring) q (stands_at h is k w d g.stands r (Data q) m.ring m.matches) given
         ((d.rings r m.ring).open_restored (m.matches.opened may.active) q) in
@@ -74,7 +69,7 @@ module _ (h : Header) where
         let here : done.number ≡ q = ap number (sym done.was) in
         let v : World = looks_taken h (seen_by_look h w r) r b in
         let o : OnlyRing w v r (behind_block h w r b) = only_taken_any w r b in
-        let made : looked h w r ≡ Some v = block_taken h is k w d g.stands r m.ring may.active q m.matches given (free_ring q t below may.active at may.one_command) in
+        let made : looked h w r ≡ Some v = block_taken h is k w d g.stands r m.ring may.active q m.matches given (search (rules, arith, cases_eq, command_id, and_left, is_some, ne_eqb, cases_Bool, commands_stand, and_right)) in
         record {
           world = v;
           made = made;

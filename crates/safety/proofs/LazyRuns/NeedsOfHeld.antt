@@ -1,6 +1,5 @@
 -- The need of a ring that is held is 0, where no event is late: until its doorbell no success of its blocks is read
-use Rattle.safety.proofs.LazyRuns.Words.{rules, [], ◌≡◌, ◌≢◌, ◌==◌, ◌&&◌, ◌∷◌, ◌∙◌, ℕ, not, max, Bool, false, List, Option, option_map, refl, ap, subst, ne_eqb, eq-eqb, cond_both, cond-false, false≢true, not_from_false, Block, BlockKind, TransferEvent, CommandCompletion, kind, code, pointer, slot, endpoint, is_success, is_halting, is_trb_error, is_stopping, Spot, number, after, RingView, RingChange, changed, new_ring, Shape, put, put_at, put_off, cases_eq, Opens, Holds, Reaches, is_open, ceiling, named, stopped_number, target, Command, is_off, Change, changes, Header, Row, Read, TraceRow, Plain, IsDriverRow, shape_of, command_id, is_ring, ring_having, Known, RingSpot, on_ring, spot_on, command_at, next_command, endpoint_rung, rung, event_read, learned, declaration_leaves, write_leaves, register_leaves, view_after, is_report_of_success, is_held_ring, is_late, is_late_row, number_behind, begins_anew, number_reported, ends_need, number_needed, need, header_after, known_after, forgotten, restored, restored_on, ring_restored, broken_off, passed as transfers_passed, stopped_at, transfer_read, transferred, transferred_at, bound_to, known_changed_by, known_changed_by_all, completed, known_disabled, known_finished, held_at_ceiling, known_in_state, moved, moved_to, pointed, set_to, stop_ended, known_succeeded, arith}
-use Rattle.ring_knowledge.specs.Rings.{event_at}
+use Rattle.safety.proofs.MiddleLaws.{rules, [], ◌≡◌, ◌≢◌, ◌∷◌, ◌∙◌, ℕ, max, Bool, false, List, Option, refl, ap, subst, ne_eqb, eq-eqb, cond_both, cond-false, false≢true, not_from_false, Block, BlockKind, TransferEvent, CommandCompletion, kind, code, pointer, slot, endpoint, is_success, is_halting, is_trb_error, is_stopping, Spot, number, after, RingView, RingChange, changed, new_ring, Shape, put, put_at, put_off, cases_eq, Opens, Holds, Reaches, is_open, ceiling, named, stopped_number, target, Command, is_off, Change, changes, Header, Row, Read, TraceRow, Plain, IsDriverRow, shape_of, command_id, is_ring, ring_having, Known, on_ring, spot_on, command_at, next_command, endpoint_rung, rung, event_read, learned, declaration_leaves, write_leaves, register_leaves, view_after, is_report_of_success, is_held_ring, is_late, is_late_row, number_behind, begins_anew, number_reported, ends_need, number_needed, need, header_after, known_after, forgotten, restored_on, ring_restored, broken_off, transfers_passed, stopped_at, transfer_read, transferred, transferred_at, bound_to, known_changed_by, known_changed_by_all, completed, known_disabled, known_finished, held_at_ceiling, known_in_state, moved, moved_to, pointed, set_to, stop_ended, known_succeeded, arith, event_at}
 
 abbrev pub IsHeld : Known → ℕ → Type 0
 IsHeld k r = is_open (k.ring r) ≡ false
@@ -25,41 +24,25 @@ module _ (h : Header) where
 
   -- ---- an event holds rings, and opens none
 
-  transfer_held : (k : Known) (c s i q r : ℕ) (t : Spot) → StaysHeld k (transferred h k c s i q t) r
-  unfolding transferred broken_off transfers_passed stopped_at
-  transfer_held k c s i q r t held = search (rules, on_ring, after, shape_of, number, reaches_held, stopped_number, cond_both, is_success, is_halting, holds_held, is_trb_error, is_stopping)
-
   moved_held : (k : Known) (o : Option ℕ) (p : ℕ) (cycle : Bool) (r : ℕ) → StaysHeld k (moved h k o p cycle) r
   unfolding moved moved_to set_to
   moved_held k o p cycle r held = grind (arith, holds_held, on_ring, number, reaches_held, target, shape_of, k.ring)
 
-  ceiling_held : (k : Known) (o : Option ℕ) (r : ℕ) → StaysHeld k (held_at_ceiling h k o) r
-  unfolding held_at_ceiling
-  ceiling_held k o r held = grind (arith, holds_held, ceiling, shape_of, k.ring)
-
-  pointed_held : (k : Known) (s i p : ℕ) (cycle : Bool) (r : ℕ) → StaysHeld k (pointed h k s i p cycle) r
-  unfolding pointed bound_to
-  pointed_held k s i p cycle r held = search (rules, cond_both, is_off, ring_having, moved_held)
-
   change_held : (c : Command) (k : Known) (change : Change) (r : ℕ) → StaysHeld k (known_changed_by h c k change) r
-  unfolding known_changed_by known_disabled known_in_state
-  change_held c k o r held = grind (arith, pointed_held, ceiling_held, known_in_state, k.ring_of)
+  unfolding known_changed_by known_disabled known_in_state held_at_ceiling pointed bound_to
+  change_held c k o r held = grind (arith, cond_both, is_off, ring_having, moved_held, holds_held, ceiling, shape_of, known_in_state, k.ring_of)
 
   changes_held : (c : Command) (k : Known) (all : List Change) (r : ℕ) → StaysHeld k (known_changed_by_all h c k all) r
   unfolding known_changed_by_all
   changes_held c k [] r held = held
   changes_held c k (change ∷ rest) r held = changes_held c (known_changed_by h c k change) rest r (change_held c k change r held)
 
-  finished_held : (k : Known) (b : Block) (o : Option Command) (r : ℕ) → StaysHeld k (known_finished h k b o) r
-  unfolding known_finished known_succeeded stop_ended
-  finished_held k b o r held = grind (arith, code, known_succeeded, slot, changes_held, changes, h.context_size, k.memory)
-
   event_held : (k : Known) (t : BlockKind) (b : Block) (r : ℕ) → StaysHeld k (event_read h k t b) r
-  unfolding event_read transfer_read completed transferred_at
-  event_held k TransferEvent b r held = grind (arith, transfer_held, code, slot, endpoint)
+  unfolding event_read transfer_read completed transferred_at transferred broken_off transfers_passed stopped_at known_finished known_succeeded stop_ended
+  event_held k TransferEvent b r held = grind (arith, on_ring, after, shape_of, number, reaches_held, stopped_number, cond_both, is_success, is_halting, holds_held, is_trb_error, is_stopping, code, slot, endpoint)
   event_held k CommandCompletion b r held =
       reaches_held (known_finished h k b (command_at h k (next_command h k))) (command_id h) (after (shape_of h (command_id h)) (next_command h k)) r
-      (finished_held k b (command_at h k (next_command h k)) r held)
+      (grind (arith, code, known_succeeded, slot, changes_held, changes, h.context_size, k.memory))
   event_held k _ b r held = held
 
   -- ---- a doorbell opens its own ring
@@ -67,26 +50,18 @@ module _ (h : Header) where
   opens_other : (k : Known) (q r : ℕ) → r ≢ q → StaysHeld k (on_ring h k q Opens) r
   opens_other k q r other held = view_after h (λ v. is_open v ≡ false) k q Opens r (λ same. absurd (other same)) (λ _. held)
 
-  bell_held : (k : Known) (s t r : ℕ) → r ≢ command_id h → (not (s == 0) && is_ring r (k.ring_of s t)) ≡ false → StaysHeld k (rung h k s t) r
-  unfolding rung endpoint_rung
-  bell_held k s t r no_command quiet held = search (rules, cond_both, opens_other, command_id, false≢true, eq-eqb, is_ring, not_from_false)
-
   -- ring r is held behind a row, if it was before: but for its doorbell
   pub row_held : (k : Known) (row : Row) (r : ℕ) → r ≢ command_id h → begins_anew h k r row ≡ false → StaysHeld k (learned h k row) r
-  unfolding learned begins_anew
+  unfolding learned begins_anew rung endpoint_rung
   row_held k (Read b) r no_command quiet held = event_held k (kind b) b r held
-  row_held k _ r no_command quiet held = search (rules, held_as_before, declaration_leaves, write_leaves, register_leaves, bell_held)
+  row_held k _ r no_command quiet held = search (rules, held_as_before, declaration_leaves, write_leaves, register_leaves, cond_both, opens_other, command_id, false≢true, eq-eqb, is_ring, not_from_false)
 
   -- ---- no success of its blocks is read
 
-  on_open_ring : (k : Known) (r a : ℕ) (o : Option ℕ) → IsHeld k r → is_held_ring k o ≡ false → number_behind r (spot_on h k a o) ≡ 0
-  unfolding spot_on is_held_ring number_behind
-  on_open_ring k r a o held opened = grind (arith, cond-false, number, named, shape_of, ne_eqb, false≢true, not_from_false, is_open, false)
-
   none_reported : (k : Known) (r : ℕ) (row : Row) → IsHeld k r → is_late k row ≡ false → number_reported h k r row ≡ 0
-  unfolding number_reported is_late event_at
+  unfolding number_reported is_late event_at spot_on is_held_ring number_behind
   none_reported k r o held timely =
-      grind (arith, is_report_of_success, number_behind, event_at, on_open_ring, pointer, slot, endpoint, is_held_ring)
+      grind (arith, is_report_of_success, number_behind, event_at, cond-false, number, named, shape_of, ne_eqb, false≢true, not_from_false, is_open, false, pointer, slot, endpoint, is_held_ring)
 
 -- none of the rows to come is late, and the command ring stays the same one
 abbrev pub AreTimely : Header → Known → List TraceRow → Type 0
@@ -108,14 +83,10 @@ module _ (h : Header) where
   unfolding begins_anew restored_on on_ring
   anew_same k o r row driver_row quiet = grind arith
 
-  plain_held : (k : Known) (row : Row) (r : ℕ) → r ≢ command_id h → begins_anew h k r row ≡ false → StaysHeld k (learned h (restored h k row) row) r
-  unfolding ring_restored restored_on
-  plain_held k row r other quiet held = grind (arith, row_held, ring_restored, restored_on, anew_same, quiet_held)
-
   -- ring r is held behind a row of any kind, if it was before: but for its doorbell
   any_held : (k : Known) (row : TraceRow) (r : ℕ) → r ≢ command_id h → ends_need h k r row ≡ false → StaysHeld k (known_after h k row) r
-  unfolding ends_need forgotten is_open
-  any_held k o r other quiet held = grind (arith, plain_held, cases_eq, is_open, put, new_ring, put_at, put_off, quiet_held)
+  unfolding ends_need forgotten is_open ring_restored restored_on
+  any_held k o r other quiet held = grind (arith, row_held, ring_restored, restored_on, anew_same, cases_eq, is_open, put, new_ring, put_at, put_off, quiet_held)
 
   none_needed : (k : Known) (r : ℕ) (row : TraceRow) → IsHeld k r → is_late_row k row ≡ false → number_needed h k r row ≡ 0
   unfolding number_needed

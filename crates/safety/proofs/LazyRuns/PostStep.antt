@@ -1,6 +1,8 @@
 -- The step of a row that reads an event: the lazy run posts it directly before, whichever step it is that posts it
-use Rattle.safety.proofs.LazyRuns.Words.{[], ◌≡◌, ◌+◌, ◌∷◌, ◌++◌, ◌∙◌, true, false, List, reverse, Some, arith, refl, sym, ap, subst, inl, reverse-append, Block, IsBlock, block_at, kind, same_words, address_of, Header, Read, Step, NextRow, TraceRow, Plain, IsHeader, event_shape, World, event_at, read_made, learned, Runs, words_itself, post_keeps, read_runs, Option, stored, stored_block, driver_event_read, row_done, can_post, posted as posts_posted, counted, made as steps_made, while_running, pointers_after, post_of, steps_before, ◌≢◌, ◌&&◌, ℕ, inr, cond-false, false≢true, code, slot, is_transfer_event, is_command_completion, Spot, is_open, Report, command_id, Known, command_at, next_command, lenient, event_facts, run_keeps, report_runs, report_is, transfer_kind, reported, made, brought, goals, is_placed, is_placed_by, ◌||◌, Bool, or_cases, BlockKind, is_other_event, None, rules, and_from, cond-true, Other, learned_read, says_nothing, other_runs, with_reads, other_posted, goals as lazy_goals}
-use Rattle.safety.proofs.UpperLaws.{step_reached, agrees_now, next_reached, Follows, Carries, Leads, Past, looks_for, StandsAt, IsActiveIfOpen, Traced, AreTimely, EventLaw, is_event_read, may_post}
+use Rattle.safety.proofs.UpperLaws.{[], ◌≡◌, ◌+◌, ◌∷◌, ◌++◌, ◌∙◌, true, false, List, reverse, Some, arith, refl, sym, ap, subst, inl, reverse-append, Block, IsBlock, block_at, kind, same_words, address_of, Header, Read, Step, NextRow, TraceRow, Plain, IsHeader, event_shape, World, read_made, learned, Runs, words_itself, post_keeps, read_runs, Option, stored, stored_block, driver_event_read, row_done, can_post, posts_posted, counted, steps_made, while_running, pointers_after, post_of, steps_before, ◌≢◌, ◌&&◌, ℕ, inr, cond-false, false≢true, code, slot, is_transfer_event, is_command_completion, Spot, is_open, Report, command_id, Known, command_at, next_command, lenient, event_facts, report_runs, report_is, transfer_kind, reported, made, brought, goals, is_placed_by, ◌||◌, Bool, or_cases, BlockKind, is_other_event, None, rules, and_from, cond-true, Other, learned_read, says_nothing, other_runs, with_reads, other_posted, lazy_goals, step_reached, agrees_now, next_reached, Follows, Carries, Leads, Past, looks_for, StandsAt, IsActiveIfOpen, Traced, AreTimely, EventLaw, is_event_read, may_post}
+use Rattle.world_state.specs.World.{event_at}
+use Rattle.safety.proofs.DriverHistories.{run_keeps}
+use Rattle.safety.specs.LazyRuns.Needs.{is_placed}
 
 module _ (h : Header) where
   -- a step that posts b leads from w to u

@@ -1,5 +1,5 @@
 -- How far the pointers of a driver's rings have come, and which positions are given, summed: looks move pointers on, by as many places as there are looks
-use Rattle.safety.proofs.LazyRuns.Words.{put_at, put_off, ◌≡◌, ◌≢◌, ◌+◌, ◌*◌, ◌<◌, ◌≤◌, ℕ, suc, zero, arith, sym, subst, inl, inr, cases_eq, cases_lt, ◌||◌, ◌∙◌, Bool, true, false, refl, ap, cases_Bool, false≢true, is_inside, RingView, Writes, changed, gives, IsShape, Shape, address_inside, gives_is, gives_one, ◌∷◌, List, filter, length, max, nat_lt, ltb-true, ltb-false, rules, cond_both, length-map, next, number, rank, spots_from, Spot, number-after, next_later, Header, RingSpot, behind_taken, further, looks_to, spots_before, [], ◌-◌, ◌==◌, if◌then◌else◌, map, eq-eqb, ne_eqb, length-append, cond-false, cond-true, flat_map, put, rank_least, rank_most, Step, Look, command_id, ring_with, shape_of, is_driver_ring, brought}
+use Rattle.safety.proofs.LowerLaws.{put_at, put_off, ◌≡◌, ◌≢◌, ◌+◌, ◌*◌, ◌<◌, ◌≤◌, ℕ, suc, zero, arith, sym, subst, inl, inr, cases_eq, cases_lt, ◌||◌, ◌∙◌, Bool, true, false, refl, ap, cases_Bool, false≢true, is_inside, RingView, Writes, changed, gives, IsShape, Shape, address_inside, gives_is, gives_one, ◌∷◌, List, filter, length, max, nat_lt, ltb-true, ltb-false, rules, cond_both, length-map, next, number, rank, spots_from, Spot, number-after, next_later, Header, RingSpot, behind_taken, further, looks_to, spots_before, [], ◌-◌, ◌==◌, if◌then◌else◌, map, eq-eqb, ne_eqb, length-append, cond-false, cond-true, flat_map, put, rank_least, rank_most, Step, Look, command_id, ring_with, shape_of, is_driver_ring, brought}
 
 -- Sums of a function over the numbers below a bound
 
@@ -24,14 +24,8 @@ unfolding total
 total_grows f g r d zero below others here = absurd (omega arith)
 total_grows f g r d (suc n) below others here =
     elim (cases_eq r n) [
-      | inl last ↦
-          let rest : total f n ≤ total g n = total_below f g n (λ i low. others i (λ same. omega arith)) in
-          let end : f n + d ≤ g n = subst (λ m. f m + d ≤ g m) last here in
-          omega arith
-      | inr other ↦
-          let rest : total f n + d ≤ total g n = total_grows f g r d n (omega arith) others here in
-          let end : f n ≤ g n = others n (λ same. other (sym same)) in
-          omega arith
+      | inl last ↦ omega (arith, total_below f g n (λ i low. others i (λ same. omega arith)), subst (λ m. f m + d ≤ g m) last here)
+      | inr other ↦ omega (arith, total_grows f g r d n (omega arith) others here, others n (λ same. other (sym same)))
     ]
 
 -- one grows by d at most, and no other does
@@ -40,14 +34,8 @@ unfolding total
 total_most f g r d zero others here = omega arith
 total_most f g r d (suc n) others here =
     elim (cases_eq r n) [
-      | inl last ↦
-          let rest : total g n ≤ total f n = total_below g f n (λ i low. others i (λ same. omega arith)) in
-          let end : g n ≤ f n + d = subst (λ m. g m ≤ f m + d) last here in
-          omega arith
-      | inr other ↦
-          let rest : total g n ≤ total f n + d = total_most f g r d n others here in
-          let end : g n ≤ f n = others n (λ same. other (sym same)) in
-          omega arith
+      | inl last ↦ omega (arith, total_below g f n (λ i low. others i (λ same. omega arith)), subst (λ m. g m ≤ f m + d) last here)
+      | inr other ↦ omega (arith, total_most f g r d n others here, others n (λ same. other (sym same)))
     ]
 
 -- each grows by one at most, and no two do
@@ -57,11 +45,8 @@ total_one f g zero near one = omega arith
 total_one f g (suc n) near one =
     elim (cases_lt (f n) (g n)) [
       | inl grows ↦
-          let still : (i : ℕ) → i < n → g i ≤ f i =
-          λ i low. elim (cases_lt (f i) (g i)) [ inl more ↦ let same = one i n more grows in absurd (omega arith) | inr none ↦ none ] in
-          let rest : total g n ≤ total f n = total_below g f n still in
-          omega arith
-      | inr none ↦ let rest : total g n ≤ total f n + 1 = total_one f g n near one in omega arith
+          omega (arith, near n, total_below g f n (λ i low. elim (cases_lt (f i) (g i)) [ inl more ↦ let same = one i n more grows in absurd (omega arith) | inr none ↦ none ]))
+      | inr none ↦ omega (arith, total_one f g n near one)
     ]
 
 pub total_ones : (f : ℕ → ℕ) (n : ℕ) → ((i : ℕ) → i < n → f i ≡ 1) → total f n ≡ n
@@ -87,30 +72,23 @@ bit false = 0
 
 pub bit_most : (b : Bool) → bit b ≤ 1
 unfolding bit
-bit_most true = omega arith
-bit_most false = omega arith
+bit_most b = grind arith
 
 pub bit_set : (b : Bool) → b ≡ true → bit b ≡ 1
 unfolding bit
-bit_set true set = refl
-bit_set false set = absurd (false≢true set)
+bit_set b set = grind arith
 
 pub bit_clear : (b : Bool) → b ≡ false → bit b ≡ 0
 unfolding bit
-bit_clear true set = absurd (false≢true (sym set))
-bit_clear false set = refl
+bit_clear b set = grind arith
 
 newly : (was now : Bool) → bit was < bit (was || now) → now ≡ true
 unfolding bit
-newly true now more = absurd (omega arith)
-newly false true more = refl
-newly false false more = absurd (omega arith)
+newly was now more = grind arith
 
 not_newly : (was now : Bool) → now ≡ false → bit (was || now) ≤ bit was
 unfolding bit
-not_newly true now none = omega arith
-not_newly false true none = absurd (false≢true (sym none))
-not_newly false false none = omega arith
+not_newly was now none = grind arith
 
 -- how many of the first n positions are given
 pub given_among : RingView → ℕ → ℕ
@@ -138,12 +116,7 @@ module _ (shape : Shape) (is : IsShape shape) (v : RingView) (a w n : ℕ) where
       (λ p q first second. gives_one shape is v.floor a w p q (newly (v.given p) (gives shape v.floor p a w) first) (newly (v.given q) (gives shape v.floor q a w) second))
 
   gives_none : is_inside shape a ≡ false → (p : ℕ) → gives shape v.floor p a w ≡ false
-  gives_none outside p =
-      elim (cases_Bool (gives shape v.floor p a w)) [
-        | inl now ↦
-            absurd (false≢true (sym outside ∙ ap (λ y. is_inside shape y) (gives_is shape v.floor p a w now).at ∙ address_inside shape is p 12 (omega arith)))
-        | inr none ↦ none
-      ]
+  gives_none outside p = grind (arith, cases_Bool (gives shape v.floor p a w), gives_is shape v.floor p a w, address_inside shape is p 12)
 
   pub no_more : is_inside shape a ≡ false → given_among (changed shape v (Writes a w)) n ≤ given_among v n
   unfolding given_among
@@ -153,13 +126,7 @@ module _ (shape : Shape) (is : IsShape shape) (v : RingView) (a w n : ℕ) where
 
 spots_few : (shape : Shape) (s t : Spot) (n : ℕ) → length (filter (λ u. nat_lt (rank u) (rank t)) (spots_from shape s n)) + rank s ≤ max (rank s) (rank t)
 spots_few shape s t zero = omega arith
-spots_few shape s t (suc n) =
-    let later : rank s < rank (next shape s) = next_later shape s in
-    let rest : List Spot = filter (λ u. nat_lt (rank u) (rank t)) (spots_from shape (next shape s) n) in
-    let few : length rest + rank (next shape s) ≤ max (rank (next shape s)) (rank t) = spots_few shape (next shape s) t n in
-    cond_both (nat_lt (rank s) (rank t)) (s ∷ rest) rest (λ l. length l + rank s ≤ max (rank s) (rank t))
-    (λ before. let lt : rank s < rank t = ltb-true (rank s) (rank t) before in omega arith)
-    (λ past. let le : rank t ≤ rank s = ltb-false (rank s) (rank t) past in omega arith)
+spots_few shape s t (suc n) = grind (arith, ltb-true (rank s) (rank t), ltb-false (rank s) (rank t), next_later shape s, spots_few shape (next shape s) t n)
 
 further_rank : (s t : Spot) → rank (further s t) ≡ max (rank s) (rank t)
 unfolding further
@@ -245,9 +212,7 @@ module _ (h : Header) where
 
     pub ring_looks : goal.ring ≢ command_id h → progress pointers + length (looks_to h pointers goal) ≤ progress (put pointers goal.ring (further (pointers goal.ring) goal.spot)) + 1
     unfolding there looked
-    ring_looks other =
-        let on : progress pointers + (looked - 1) ≤ progress (put pointers goal.ring there) = moves (looked - 1) (omega (arith, transfer_value, other, looks_few, rank_least, rank_most)) in
-        omega (arith, on)
+    ring_looks other = omega (arith, moves (looked - 1) (omega (arith, transfer_value, other, looks_few, rank_least, rank_most)))
 
   -- ---- the looks for an event
 

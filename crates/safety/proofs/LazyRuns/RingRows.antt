@@ -1,12 +1,10 @@
 -- What the schedule follows stays where a ring comes or goes, where a descriptor is withdrawn, and where a ring is restored: no pointer moves
-use Rattle.safety.proofs.LazyRuns.Words.{◌≡◌, ◌≢◌, ◌==◌, ◌∙◌, ℕ, true, false, Option, Some, None, refl, sym, ap, subst, ne_eqb, rules, none-some, put, put_off, Spot, Data, RingView, RingChange, changed, new_ring, is_open, Header, Ring, Row, IsHeader, shape_of, command_id, ring_with, World, counted, Known, on_ring, DriverKeeps, IsTransferRing, Runs, view_after, IsComing, forgotten, is_bad_free, is_bad_ring, emptied, with_ring, without_ring, without_descriptor, is_bad_withdraw, is_left, restored, restored_on, ring_restored, RingWithdraws, arith}
+use Rattle.safety.proofs.UpperLaws.{◌≡◌, ◌≢◌, ◌==◌, ◌∙◌, ℕ, true, false, Option, Some, None, refl, sym, ap, subst, ne_eqb, rules, none-some, put, put_off, Spot, Data, RingView, RingChange, changed, new_ring, is_open, Header, Ring, Row, IsHeader, shape_of, command_id, ring_with, World, counted, Known, on_ring, DriverKeeps, IsTransferRing, Runs, view_after, IsComing, forgotten, is_bad_free, is_bad_ring, emptied, with_ring, without_ring, without_descriptor, is_bad_withdraw, is_left, restored, restored_on, ring_restored, RingWithdraws, arith, StandsAt, IsActiveIfOpen, Follows, open_before}
 use Rattle.safety.proofs.RingChanges.GoneRings as gone
 use Rattle.safety.proofs.RingChanges.NewRings as new
 use Rattle.safety.proofs.RingChanges.Restored as restores
 use Rattle.safety.proofs.RingChanges.RingRuns as runs
 use Rattle.safety.proofs.RingChanges.Withdrawn as withdrawn
-use Rattle.safety.proofs.LazyRuns.Follows.{StandsAt, IsActiveIfOpen, Follows}
-use Rattle.safety.proofs.LazyRuns.RowsLearn.{open_before}
 
 -- what no row of these moves
 pub record StaysPut (w v : World) : Type 0 where

@@ -1,5 +1,5 @@
 -- What a row of the driver leaves as it was, in the world and in what is known: floors, and which ring an endpoint has. A ring that it opens is active then
-use Rattle.safety.proofs.LazyRuns.Words.{◌≡◌, ◌≢◌, ◌==◌, ◌&&◌, ◌||◌, ◌⊎◌, if◌then◌else◌, ◌∙◌, ℕ, not, Bool, true, false, List, Option, Some, None, refl, sym, ap, inl, inr, cases_eq, cond_both, false≢true, put, put_pair, Block, Running, is_running, is_stopped, position_from, erdp_address, is_event_place, Header, Row, Sub, Write, Reg, Bell, Read, Register, Usbcmd, Erdp, command_id, event_shape, register_or_zero, run_bit, reset_bit, base_address, ring_cycle_state, World, stored, IsDriverRow, put_at, put_off, activated, bell_row, driver_declared, endpoint_bell as driver_endpoint_bell, register_row, row_done, driver_run_or_stop, started_with, driver_valued, with_dequeue, [], nat_lt, is_none, subst, rules, cases_Bool, cond-true, cond-false, or_parts, not-false, RingView, Opens, is_open, Known, on_ring, run_or_stop, valued, register_written, endpoint_rung, rung, learned, is_bad_bell, lenient, BellFacts, bell_facts, declaration_leaves, write_leaves, register_leaves, bell_leaves, view_after, arith}
+use Rattle.safety.proofs.MiddleLaws.{◌≡◌, ◌≢◌, ◌==◌, ◌&&◌, ◌||◌, ◌⊎◌, if◌then◌else◌, ◌∙◌, ℕ, not, Bool, true, false, List, Option, Some, None, refl, sym, ap, inl, inr, cases_eq, cond_both, false≢true, put, put_pair, Block, is_running, is_stopped, position_from, erdp_address, is_event_place, Header, Row, Sub, Write, Reg, Bell, Read, Register, Usbcmd, Erdp, command_id, event_shape, register_or_zero, run_bit, reset_bit, base_address, ring_cycle_state, World, stored, IsDriverRow, put_at, put_off, activated, bell_row, driver_declared, driver_endpoint_bell, register_row, row_done, driver_run_or_stop, started_with, driver_valued, with_dequeue, [], nat_lt, is_none, subst, rules, cases_Bool, cond-true, cond-false, or_parts, not-false, RingView, Opens, is_open, Known, on_ring, run_or_stop, valued, register_written, endpoint_rung, rung, learned, is_bad_bell, lenient, BellFacts, bell_facts, declaration_leaves, write_leaves, register_leaves, bell_leaves, view_after, arith}
 
 -- What a row of the driver leaves as it is in the world: only the start moves a pointer, and that of the command ring alone
 
@@ -12,8 +12,7 @@ pub stays_still : (w : World) (r : ℕ) → PointerStays w w r
 stays_still w r = record { pointer = refl; cycle = refl }
 
 not_back : (b : Bool) → not b ≡ true → b ≡ false
-not_back true off = absurd (false≢true off)
-not_back false off = refl
+not_back b off = grind arith
 
 module _ (h : Header) where
   pub record RowLeaves (w v : World) : Type 0 where
@@ -32,34 +31,22 @@ module _ (h : Header) where
   unfolding started_with
   starts w off = search (rules, put_off, command_id, base_address, register_or_zero, ring_cycle_state, false≢true)
 
-  runs_or_stops : (w : World) (x : ℕ) → RowLeaves w (driver_run_or_stop h w x)
-  unfolding driver_run_or_stop
-  runs_or_stops w x = search (rules, true, not, run_bit, reset_bit, started_with, starts, not_back, w.started, leaves_all)
-
   -- a register's value is no part of it
   from_valued : (w v : World) (r : Register) (x : ℕ) → RowLeaves (driver_valued w r x) v → RowLeaves w v
   unfolding driver_valued
   from_valued w v r x l = search rules
 
-  dequeues : (w : World) (a : ℕ) → RowLeaves w (with_dequeue h w a)
-  unfolding with_dequeue
-  dequeues w a = search (rules, position_from, event_shape, cond_both, is_event_place, leaves_all)
-
   registers : (w : World) (r : Register) (x : ℕ) → RowLeaves w (register_row h w r x)
-  unfolding register_row
-  registers w Usbcmd x = from_valued w (driver_run_or_stop h (driver_valued w Usbcmd x) x) Usbcmd x (runs_or_stops (driver_valued w Usbcmd x) x)
-  registers w Erdp x = from_valued w (with_dequeue h (driver_valued w Erdp x) (erdp_address x)) Erdp x (dequeues (driver_valued w Erdp x) (erdp_address x))
+  unfolding register_row driver_run_or_stop with_dequeue
+  registers w Usbcmd x = from_valued w (driver_run_or_stop h (driver_valued w Usbcmd x) x) Usbcmd x (search (rules, true, not, run_bit, reset_bit, started_with, starts, not_back, (driver_valued w Usbcmd x).started, leaves_all))
+  registers w Erdp x = from_valued w (with_dequeue h (driver_valued w Erdp x) (erdp_address x)) Erdp x (search (rules, position_from, event_shape, cond_both, is_event_place, leaves_all))
   registers w r x = from_valued w (driver_valued w r x) r x (leaves_all (driver_valued w r x))
 
   -- ---- the doorbells
 
-  still_active : (w : World) (r q : ℕ) → w.is_active q ≡ true → (activated h w r).is_active q ≡ true
-  unfolding activated
-  still_active w r q on = search (rules, cases_eq, put, put_at, put_off)
-
   rings : (w : World) (s t : ℕ) → RowLeaves w (bell_row h w s t)
   unfolding bell_row activated driver_endpoint_bell
-  rings w s t = search (rules, w.started, activated, command_id, driver_endpoint_bell, w.ring_of, still_active, leaves_all, put_pair, is_running, is_stopped)
+  rings w s t = search (rules, w.started, activated, command_id, driver_endpoint_bell, w.ring_of, cases_eq, put, put_at, put_off, leaves_all, put_pair, is_running, is_stopped)
 
   -- ---- all of them
 
@@ -104,14 +91,11 @@ module _ (h : Header) where
       view_after h (λ v. v.floor ≡ (k.ring q).floor) k r Opens q
       (λ same. ap (λ n. (k.ring n).floor) (sym same)) (λ other. refl)
 
-  bell_floor : (k : Known) (s t q : ℕ) → ((learned h k (Bell s t)).ring q).floor ≡ (k.ring q).floor
-  unfolding learned rung endpoint_rung
-  bell_floor k s t q = search (rules, cond_both, on_ring, command_id, endpoint_rung, opens_floor)
-
   -- ---- any row of the driver
 
   pub row_learns : (k : Known) (row : Row) → IsDriverRow row → RowLearns k (learned h k row)
-  row_learns k o driver_row = grind (arith, declaration_leaves, write_leaves, register_leaves, bell_leaves, bell_floor)
+  unfolding learned rung endpoint_rung
+  row_learns k o driver_row = grind (arith, declaration_leaves, write_leaves, register_leaves, bell_leaves, cond_both, on_ring, command_id, endpoint_rung, opens_floor)
 
   -- ---- the rings that are open
 
@@ -138,10 +122,7 @@ module _ (h : Header) where
   unfolding driver_endpoint_bell activated endpoint_rung
   endpoint_bell k w s t q None may still was opened = still (was opened)
   endpoint_bell k w s t q (Some r) may still was opened =
-      let runs : World = record (activated h w r) { endpoint_state = put_pair w.endpoint_state s t Running } in
-      let v : World = if is_running (w.endpoint_state s t) || is_stopped (w.endpoint_state s t) then runs else w in
-      let here : v ≡ runs = cond-true (is_running (w.endpoint_state s t) || is_stopped (w.endpoint_state s t)) runs w may in
-      opens_one k w v r q (ap (λ (u : World). u.is_active r) here ∙ put_at w.is_active r true) still was opened
+      opens_one k w (driver_endpoint_bell h w s t (Some r)) r q (simp may (put_at w.is_active r true)) still was opened
 
   may_ring : (k : Known) (s t : ℕ) → is_bad_bell h k s t ≡ false → (is_running (k.endpoint_state s t) || is_stopped (k.endpoint_state s t)) ≡ true
   unfolding is_bad_bell
@@ -178,21 +159,11 @@ module _ (h : Header) where
     -- a ring that is open behind a row is active then, if it was so before
     pub row_active : (row : Row) (q : ℕ) → IsDriverRow row → lenient h k row ≡ [] → WasActive k w q → is_open ((learned h k row).ring q) ≡ true → (done h w row).is_active q ≡ true
     unfolding done
-    row_active (Sub r blocks) q driver_row clean was opened =
-        (row_leaves h w (Sub r blocks)).active q (was (open_before (k.ring q) ((learned h k (Sub r blocks)).ring q) ((declaration_leaves h k r blocks).pointers q).held opened))
-    row_active (Write a x) q driver_row clean was opened =
-        (row_leaves h w (Write a x)).active q (was (open_before (k.ring q) ((learned h k (Write a x)).ring q) ((write_leaves h k a x).pointers q).held opened))
-    row_active (Reg r x) q driver_row clean was opened =
-        (row_leaves h w (Reg r x)).active q (was (open_before (k.ring q) ((learned h k (Reg r x)).ring q) (ap (λ f. (f q).held) (register_leaves h k r x).ring) opened))
-    row_active (Bell s t) q driver_row clean was opened = bell_active s t q clean (λ on. (row_leaves h w (Bell s t)).active q on) was opened
-    row_active (Read e) q driver_row clean was opened = absurd driver_row
+    row_active o q driver_row clean was opened = grind (arith, row_leaves, open_before, declaration_leaves, write_leaves, register_leaves, bell_active)
 
   -- ---- the start
 
-  register_started : (k : Known) (r : Register) (x : ℕ) → k.started ≡ true → (learned h k (Reg r x)).started ≡ true
-  unfolding learned register_written valued run_or_stop
-  register_started k r x on = grind arith
-
   -- no row takes the start back
   pub row_starts : (k : Known) (row : Row) → IsDriverRow row → k.started ≡ true → (learned h k row).started ≡ true
-  row_starts k o driver_row on = grind (arith, declaration_leaves, write_leaves, register_started, bell_leaves)
+  unfolding learned register_written valued run_or_stop
+  row_starts k o driver_row on = grind (arith, declaration_leaves, write_leaves, bell_leaves)

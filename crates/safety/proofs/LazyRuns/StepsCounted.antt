@@ -1,11 +1,13 @@
 -- A clean trace has at most three steps for each row, and three more: rows, events posted, and looks, each of which moves a pointer on
-use Rattle.safety.proofs.LazyRuns.Words.{[], ◌≡◌, ◌≢◌, ◌+◌, ◌*◌, ◌≤◌, ◌==◌, ◌∷◌, ◌∙◌, if◌then◌else◌, ℕ, true, false, List, All, length, reverse, Option, Some, None, arith, refl, sym, ap, subst, inl, inr, ne_eqb, length-append, rules, FewSteps, none-some, driver_ring, length-reverse, flat_map, cases_Bool, cond_both, false≢true, and_parts, or_from, put_off, Block, kind, slot, completion_kind, Spot, number, rank_most, floor_number, Command, Change, Places, changes, is_off, Header, Read, IsHeader, command_id, is_ring, ring_having, Known, RingSpot, learned, IsDriverRow, DriverKeeps, transfer_not_command, need, further, brought, goals, looks_to, EndpointsKeep, endpoints_of, transfer_ring, floors_grow, having_transfer, ring_with, is_driver_ring, Row, TraceRow, Comes, Goes, Plain, Withdraws, Data, rank, put, lenient, All-head, All-tail, AreKept, FitsFields, header_now, known_now, restored, restored_on, ring_restored, with_ring, without_ring, pointers_at, pointers_after, pointers_for, steps_before, steps_for, lazy_run, max, eq-eqb, cases_eq, cond-true, put_at, Ring, IsKept, header_after, known_after, forgotten, begins_anew, ends_need, number_needed, number_reported, known_changed_by, command_taken, lazy_steps, post_of, stopped_goals, taken_up_to, is_placed, is_placed_by, is_placed_by_all, ring_placed}
-use Rattle.safety.proofs.Endpoints.{change_keeps}
+use Rattle.safety.proofs.UpperLaws.{[], ◌≡◌, ◌≢◌, ◌+◌, ◌*◌, ◌≤◌, ◌==◌, ◌∷◌, ◌∙◌, if◌then◌else◌, ℕ, true, false, List, All, length, reverse, Option, Some, None, arith, refl, sym, subst, ne_eqb, length-append, rules, FewSteps, driver_ring, length-reverse, flat_map, cases_Bool, cond_both, false≢true, and_parts, put_off, Block, kind, completion_kind, Spot, number, rank_most, floor_number, Command, Change, Places, changes, is_off, Header, Read, IsHeader, command_id, is_ring, ring_having, Known, RingSpot, learned, IsDriverRow, DriverKeeps, transfer_not_command, need, further, brought, goals, looks_to, EndpointsKeep, endpoints_of, transfer_ring, floors_grow, having_transfer, ring_with, is_driver_ring, Row, TraceRow, Comes, Goes, Plain, Data, rank, put, lenient, All-head, All-tail, AreKept, FitsFields, header_now, known_now, restored, restored_on, ring_restored, with_ring, without_ring, pointers_at, pointers_after, pointers_for, steps_before, steps_for, lazy_run, max, eq-eqb, cases_eq, cond-true, put_at, Ring, IsKept, header_after, known_after, forgotten, begins_anew, ends_need, number_needed, number_reported, known_changed_by, command_taken, lazy_steps, post_of, stopped_goals, taken_up_to, is_placed_by, is_placed_by_all, ring_placed, change_keeps, bit, bit_clear, bit_most, no_steps, pointers_same, whole, come_to, driver_le, of_driver, on_driver, off_driver, place_value, command_value, transfer_value, progress, total, total_le, total_most, total_twice, further_most, row_learns}
+use Rattle.traces.specs.declared.trace_row.TraceRow.TheVariants.{Withdraws}
+use Rattle.safety.specs.LazyRuns.Needs.{is_placed}
 use Rattle.safety.proofs.RingChanges.RingRuns.{no_ring}
-use Rattle.safety.proofs.UpperLaws.{bit, bit_clear, bit_most, no_steps, pointers_same, whole, come_to, driver_le, of_driver, on_driver, off_driver, place_value, command_value, transfer_value, progress, OthersStay, comes_stay, goes_stay, total, total_le, total_most, total_twice, Keeps, now_keeps, further_most, restored_learns, withdrawn_learns, row_learns}
+use Rattle.safety.proofs.LazyRuns.RingRows.{OthersStay, comes_stay, goes_stay, restored_learns, withdrawn_learns}
+use Rattle.safety.proofs.RingChanges.RingsHeadline.{Keeps, kept_on, now_keeps}
 use Rattle.safety.proofs.LazyRuns.EventGoals.{goals_few, AreWithin, top, reported_most, goals_within}
 use Rattle.safety.proofs.LazyRuns.GivenCounted.{events, floors, floors_most, gone, kept_before}
-use Rattle.safety.proofs.LazyRuns.Induction.{rows_of, kept_on}
+use Rattle.safety.proofs.LazyRuns.Induction.{rows_of}
 
 -- Behind each row of a clean trace no pointer is past its floor, or past what is needed later; the command ring's by one place
 module _ (h : Header) where
@@ -14,24 +16,13 @@ module _ (h : Header) where
   unfolding brought
   brought_within most [] pointers low within r = low r
   brought_within most (goal ∷ rest) pointers low within r =
-      let there : Spot = further (pointers goal.ring) goal.spot in
-      brought_within most rest (put pointers goal.ring there)
-      (λ q. elim (cases_eq q goal.ring) [
-        | inl same ↦
-            subst (λ n. number (put pointers goal.ring there n) ≤ most n) (sym same)
-            (let at = ap (λ t. number t) (put_at pointers goal.ring there) in omega (arith, at, further_most (pointers goal.ring) goal.spot (most goal.ring) (low goal.ring) within.0))
-        | inr other ↦ let at = ap (λ t. number t) (put_off pointers goal.ring there q other) in omega (arith, at, low q)
-      ]) within.1 r
+      brought_within most rest (put pointers goal.ring (further (pointers goal.ring) goal.spot)) (λ q. search (rules, cases_eq, put_at, put_off, further_most)) within.1 r
 
   -- ---- what is needed before a row
 
   need_by : (k : Known) (r : ℕ) (row : TraceRow) (later : List TraceRow) → need h k r (row ∷ later) ≤ max (number_needed h k r row) (need (header_after h row) (known_after h k row) r later)
   unfolding need
   need_by k r row later = search (rules, arith, max, number_needed, need, header_after, known_after, cond_both, ends_need)
-
-  reports_none : (k : Known) (r : ℕ) (row : Row) → IsDriverRow row → number_reported h k r row ≡ 0
-  unfolding number_reported
-  reports_none k r o is = grind arith
 
   comes_none : (k : Known) (r : ℕ) (ring : Ring) → number_needed h k r (Comes ring) ≡ 0
   unfolding number_needed
@@ -62,8 +53,8 @@ module _ (h : Header) where
 
   row_near : (k : Known) (pointers : ℕ → Spot) (later : List TraceRow) (row : Row) → IsDriverRow row → (r : ℕ) → IsNear k pointers (Plain row ∷ later) r →
       IsNear (learned h (restored h k row) row) (pointers_after h (restored h k row) pointers row later) later r
-  unfolding number_needed
-  row_near k pointers later row is r near = search (rules, pointers_same, row_learns, restored_learns, need_by, reports_none)
+  unfolding number_needed number_reported
+  row_near k pointers later row is r near = search (rules, pointers_same, row_learns, restored_learns, need_by)
 
   module _ (is : IsHeader h) (k : Known) (pointers : ℕ → Spot) (later : List TraceRow) (b : Block) (d : DriverKeeps h k) (clean : lenient h k (Read b) ≡ [])
       (near : (r : ℕ) → IsNear k pointers (Plain (Read b) ∷ later) r) where
@@ -134,27 +125,17 @@ module _ (h : Header) where
   unfolding is_placed_by_all
   all_other is c k [] endpoints = refl
   all_other is c k (change ∷ rest) endpoints =
-      let l : Known = known_changed_by h c k change in
-      or_from (is_ring (command_id h) (ring_placed h k change)) (is_placed_by_all h c l (command_id h) rest) (ring_other is k endpoints change)
-      (all_other is c l rest (change_keeps h is c k change endpoints))
-
-  never_placed : IsHeader h → (k : Known) (n : ℕ) (o : Option Command) → EndpointsKeep h k → is_placed_by h k (command_id h) n o ≡ false
-  unfolding is_placed_by
-  never_placed is k n o endpoints = grind (arith, all_other, changes, h.context_size, k.memory)
+      grind (arith, ring_other is k endpoints change, all_other is c (known_changed_by h c k change) rest (change_keeps h is c k change endpoints))
 
   -- ---- an event that binds or moves a ring asks for no look at it
-
-  no_stop : (k : Known) (later : List TraceRow) (b : Block) (r : ℕ) (o : Option Command) → is_placed_by h k r (slot b) o ≡ true → stopped_goals h k later b o ≡ []
-  unfolding is_placed_by is_placed_by_all ring_placed changes stopped_goals
-  no_stop k later b r o placed = grind (arith, false≢true)
 
   record IsPlacedSo (k : Known) (later : List TraceRow) (b : Block) (r : ℕ) : Type 0 where
     other : r ≢ command_id h
     goals_are : goals h k later (kind b) b ≡ command_taken h k ∷ []
 
   placed_so : IsHeader h → (k : Known) (later : List TraceRow) (b : Block) (r : ℕ) → EndpointsKeep h k → is_placed h k r b ≡ true → IsPlacedSo k later b r
-  unfolding is_placed goals
-  placed_so is k later b r endpoints placed = search (rules, and_parts, false≢true, never_placed, completion_kind, no_stop)
+  unfolding is_placed goals is_placed_by is_placed_by_all ring_placed changes stopped_goals
+  placed_so is k later b r endpoints placed = search (rules, and_parts, false≢true, all_other, changes, h.context_size, completion_kind)
 
   command_off : (k : Known) (pointers : ℕ → Spot) (r : ℕ) → r ≢ command_id h → brought h pointers (command_taken h k ∷ []) r ≡ pointers r
   unfolding brought command_taken taken_up_to
@@ -174,14 +155,9 @@ module _ (h : Header) where
     placed_on : (r : ℕ) → is_placed h k r b ≡ true → come_to h r (now r) ≤ come_to h r ((learned h k (Read b)).ring r).floor
     placed_on r placed = search (rules, come_to, now, placed_so, endpoints_of, command_off, come_le, need_placed, bit_clear, ne_eqb, floors_grow)
 
-    -- no ring's pointer goes back
-    goes_on : progress h now ≤ progress h (pointers_after h k before (Read b) later)
-    unfolding progress
-    goes_on = search (rules, arith, total_le, come_to, now, pointers_after, event_pointer, cond_both, is_placed, learned, placed_on)
-
     event_few : length (steps_before h k before (Read b) later) + progress h before ≤ progress h (pointers_after h k before (Read b) later) + 2
-    unfolding steps_before
-    event_few = search (rules, arith, length-append, flat_map, looks_to, goals, kind, post_of, goes_on, goals_few)
+    unfolding steps_before progress
+    event_few = search (rules, arith, length-append, flat_map, looks_to, goals, kind, post_of, total_le, come_to, now, pointers_after, event_pointer, cond_both, is_placed, learned, placed_on, goals_few)
 
   row_few : (k : Known) (before : ℕ → Spot) (later : List TraceRow) (row : Row) → IsDriverRow row → length (steps_before h k before row later) + progress h before ≤ progress h (pointers_after h k before row later)
   unfolding progress
@@ -215,11 +191,7 @@ module _ (h g : Header) (k : Known) (id : ℕ) (o : OthersStay h g k id) (before
 
 -- a ring that isn't there is none of the driver's
 none_absent : (h : Header) (r : ℕ) → ring_with h r ≡ None → is_driver_ring (ring_with h r) ≡ false
-none_absent h r none =
-    elim (cases_Bool (is_driver_ring (ring_with h r))) [
-      | inl driver ↦ let ring = driver_ring h r driver in absurd (none-some ring.ring (sym none ∙ ring.found))
-      | inr other ↦ other
-    ]
+none_absent h r none = grind (arith, cases_Bool (is_driver_ring (ring_with h r)), driver_ring h r)
 
 -- ---- behind each row
 

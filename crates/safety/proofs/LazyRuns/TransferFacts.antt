@@ -1,6 +1,7 @@
 -- What a Transfer Event says that breaks no rule, by its code: the spot that it names, and what the controller did there
-use Rattle.safety.proofs.LazyRuns.Words.{[], ◌≡◌, ◌<◌, ◌&&◌, ◌||◌, ◌∙◌, ℕ, not, Bool, true, false, Option, Some, None, option_map, sym, ap, ltb-true, rules, and_cases, and_parts, or_parts, or_cases, or_from, not-false, not-true, false≢true, none-some, same_Some, Block, is_set, word, kind, code, pointer, slot, endpoint, is_transfer_event, is_success, is_halting, is_trb_error, is_transfer_code, Spot, Data, ceiling, named, is_data_below, is_open, is_stop_spot, is_running, Header, Read, shape_of, Known, RingSpot, spot_on, is_in_profile, is_working, is_stopping_now, can_report, can_report_at, is_impossible_by_kind, is_impossible_transfer, lenient, event_facts, transfer_kind, StopCode, chain, spot_is, arith}
-use Rattle.ring_knowledge.specs.Rings.{event_at}
+use Rattle.safety.proofs.MiddleLaws.{[], ◌≡◌, ◌<◌, ◌&&◌, ◌||◌, ◌∙◌, ℕ, not, Bool, true, false, Option, Some, None, sym, ap, ltb-true, rules, and_cases, and_parts, or_parts, or_cases, or_from, not-false, not-true, false≢true, none-some, same_Some, Block, is_set, word, kind, code, pointer, slot, endpoint, is_transfer_event, is_success, is_halting, is_trb_error, is_transfer_code, Spot, Data, ceiling, named, is_data_below, is_open, is_stop_spot, is_running, Header, Read, shape_of, Known, RingSpot, spot_on, is_in_profile, is_working, is_stopping_now, can_report, can_report_at, is_impossible_by_kind, is_impossible_transfer, lenient, event_facts, transfer_kind, chain, spot_is, arith, event_at}
+use Rattle.std.proofs.Common.{option_map}
+use Rattle.safety.proofs.StopRead.{StopCode}
 
 module _ (h : Header) where
   -- the ring of its endpoint, and the spot there that it names
@@ -14,14 +15,10 @@ module _ (h : Header) where
     pub code_is : is_transfer_code (code b) ≡ true
     pub may : can_report h k (code b) (slot b) (endpoint b) ring spot ≡ true
 
-  ring_named : (k : Known) (a : ℕ) (o : Option ℕ) (at : RingSpot) → spot_on h k a o ≡ Some at → o ≡ Some at.ring
-  unfolding spot_on
-  ring_named k a o at e = grind (arith, none-some, option_map, same_Some)
-
   named_by : (k : Known) (b : Block) (o : Option RingSpot) → event_at h k b ≡ o → can_report_at h k b o ≡ true → is_set (word b 3) 2 ≡ false → is_transfer_code (code b) ≡ true → TransferFacts k b
-  unfolding can_report_at event_at
+  unfolding can_report_at event_at spot_on
   named_by k b None found can no_data code_is = search rules
-  named_by k b (Some at) found can no_data code_is = search (rules, ring_named, spot_is)
+  named_by k b (Some at) found can no_data code_is = search (rules, none-some, option_map, same_Some, spot_is)
 
   by_kind : (k : Known) (b : Block) → is_transfer_event (kind b) ≡ true → is_impossible_by_kind h k (kind b) b ≡ is_impossible_transfer h k b
   unfolding is_impossible_by_kind

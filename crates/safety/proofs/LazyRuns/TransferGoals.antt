@@ -1,7 +1,7 @@
 -- What a Transfer Event asks for and teaches, and that the controller can report it
-use Rattle.safety.proofs.LazyRuns.Words.{[], ◌≡◌, ◌≢◌, ◌+◌, ◌≤◌, ◌==◌, ◌||◌, ◌∷◌, ◌∙◌, ℕ, suc, nat_lt, true, false, List, Some, arith, refl, sym, ap, subst, inl, inr, lt-ltb, le-ltb, eqb-true, rules, cases_lt, cond-true, cond-false, or_cases, false≢true, Block, kind, code, slot, endpoint, is_transfer_event, is_success, is_halting, is_trb_error, is_stopping, Spot, Shape, number, rank, after, Reaches, Holds, is_open, same_rank, Header, TraceRow, Read, shape_of, Known, RingSpot, on_ring, event_read, learned, passed, broken_off, stopped_at, transferred, transferred_at, transfer_read, ring_here, learned_read, put_at, put_off, transfer_kind, TransferLeaves, transferred_leaves, with_reads, behind_taken, further, taken_up_to, report_goals, goals, brought, ◌-◌, ◌<◌, ◌&&◌, zero, Bool, length, map, Option, None, position, option_map, get_or, eq-eqb, range_with_len, cases_Bool, and_from, not_from_false, length-map-range_with_len, get_or-map-range_with_len, put, put_pair, IsBlock, pointer, address_of, spot_address, declared, floor_number, named, RingKeeps, named_ahead, position-None, IsNamed, named_spot-Some, EndpointState, Halted, Error, is_running, IsHeader, command_id, World, unreported, lenient, IsDriverRing, DriverKeeps, state_of, BoundRing, Agrees, transfer_driver, transfer_not_command, number_after, PostKeeps, post_keeps, open_takes, stored, stored_block, can_post, is_last, posted as posts_posted, report_code, report_error, report_success, reported, reported_on, with_reported}
+use Rattle.safety.proofs.UpperLaws.{[], ◌≡◌, ◌≢◌, ◌+◌, ◌≤◌, ◌==◌, ◌||◌, ◌∷◌, ◌∙◌, ℕ, suc, nat_lt, true, false, List, Some, arith, refl, sym, ap, subst, inl, inr, lt-ltb, le-ltb, eqb-true, rules, cases_lt, cond-true, cond-false, or_cases, false≢true, Block, kind, code, slot, endpoint, is_transfer_event, is_success, is_halting, is_trb_error, is_stopping, Spot, Shape, number, rank, after, Reaches, Holds, is_open, same_rank, Header, TraceRow, Read, shape_of, Known, RingSpot, on_ring, event_read, learned, passed, broken_off, stopped_at, transferred, transferred_at, transfer_read, ring_here, learned_read, put_at, put_off, transfer_kind, TransferLeaves, transferred_leaves, with_reads, behind_taken, further, taken_up_to, report_goals, goals, brought, ◌-◌, ◌<◌, ◌&&◌, zero, Bool, length, map, Option, None, position, get_or, eq-eqb, range_with_len, cases_Bool, and_from, not_from_false, length-map-range_with_len, get_or-map-range_with_len, put, put_pair, IsBlock, pointer, address_of, spot_address, declared, floor_number, named, RingKeeps, named_ahead, position-None, IsNamed, named_spot-Some, EndpointState, Halted, Error, is_running, IsHeader, command_id, World, unreported, lenient, IsDriverRing, DriverKeeps, state_of, BoundRing, Agrees, transfer_driver, transfer_not_command, number_after, PostKeeps, post_keeps, open_takes, stored, stored_block, can_post, is_last, posts_posted, report_code, report_error, report_success, reported, reported_on, with_reported, TransferFacts, NamesBlock, StandsAt, may_post}
+use Rattle.std.proofs.Common.{option_map}
 use Rattle.safety.proofs.LazyRuns.PostStep.{EventLearns, ReportLeaves}
-use Rattle.safety.proofs.UpperLaws.{TransferFacts, NamesBlock, StandsAt, may_post}
 
 -- For a Transfer Event the schedule brings its ring behind the block that it names, and what is known of the ring then
 
@@ -59,18 +59,15 @@ module _ (h : Header) where
         learned_read h k b ∙ ap (λ m. with_reads m (k.reads + 1))
         (ap (λ t. event_read h k t b) (transfer_kind (kind b) transfer) ∙ ap (λ o. transferred_at h k b o) f.at)
 
-    started_still : (c s i r : ℕ) (t : Spot) → (transferred h k c s i r t).started ≡ k.started
-    unfolding transferred passed broken_off stopped_at on_ring
-    started_still c s i r t = search rules
-
     learns_at : (t : Spot) (l : Known) → learned h k (Read b) ≡ with_reads l (k.reads + 1) → l.started ≡ k.started → TransferLeaves k l (slot b) (endpoint b) f.ring → (l.ring f.ring).floor ≡ t →
         EventLearns h k (learned h k (Read b)) f.ring t
     learns_at t l same started leaves floor =
         subst (λ m. EventLearns h k m f.ring t) (sym same) (record { ring_of = leaves.ring_of; started = started; floor = floor; others = leaves.others })
 
     pub learns : (t : Spot) → ((transferred h k (code b) (slot b) (endpoint b) f.ring f.spot).ring f.ring).floor ≡ t → EventLearns h k (learned h k (Read b)) f.ring t
+    unfolding transferred passed broken_off stopped_at on_ring
     learns t floor =
-        learns_at t (transferred h k (code b) (slot b) (endpoint b) f.ring f.spot) read_is (started_still (code b) (slot b) (endpoint b) f.ring f.spot)
+        learns_at t (transferred h k (code b) (slot b) (endpoint b) f.ring f.spot) read_is (search rules)
         (transferred_leaves h k (slot b) (endpoint b) f.ring (code b) f.spot f.may) floor
 
     -- by the code: where the floor is then, and whether the ring is held

@@ -1,8 +1,7 @@
 -- A Transfer Event, whatever its code: the lazy run brings its ring to where the event says, reports it, and reads it; and with that the lazy law
-use Rattle.safety.proofs.LazyRuns.Words.{Header, LazyLaw, AllAreRead, [], ◌||◌, inl, inr, cases_Bool, code, is_success, is_halting, is_trb_error, is_transfer_event, ◌≡◌, ◌≢◌, ◌≤◌, ◌&&◌, ◌∷◌, ◌∙◌, ℕ, true, false, List, Option, Some, arith, sym, ap, subst, false≢true, not-false, and_from, Block, IsBlock, kind, slot, endpoint, is_stopping, Spot, Data, is_open, floor_number, MayReach, rank, number, after, ceiling_within, after_reached, next_later, Read, TraceRow, Plain, IsHeader, shape_of, command_id, World, Known, learned, lenient, RingSpot, transferred, IsDriverRing, DriverKeeps, Agrees, transfer_driver, ring_shape, is_held_ring, is_late, brought, ◌+◌, ◌-◌, ◌<◌, ◌==◌, not, length, None, refl, ltb-true, eq-eqb, rules, and_parts, cond-true, cond-false, not_from_true, pointer, ceiling, cycle_of_bit, command_of, is_stop_of, is_running, UnderWay, unreported, command_at, next_command, is_stopping_now, may_be_taken, UnderWayMatches, CommandMatches, event_facts, put_off, at_floor, command_is_ring, command_at_is, command_of-with_cycle, StopCode, stored, stored_block, is_last, is_stop_under_way, posted as posts_posted, report_code, report_stop, stopped_with, with_reported, ne_eqb, cases_lt, put, number-after, stop_spot_reached, rank_least, rank_most, transfer_not_command, put_at, next_is, goals, further, report_goals, command_taken, taken_up_to, stop_goal, need, ◌++◌, reverse, flat_map, looks_to}
+use Rattle.safety.proofs.UpperLaws.{Header, LazyLaw, AllAreRead, [], ◌||◌, inl, inr, cases_Bool, code, is_success, is_halting, is_trb_error, is_transfer_event, ◌≡◌, ◌≢◌, ◌≤◌, ◌&&◌, ◌∷◌, ◌∙◌, ℕ, true, false, List, Option, Some, arith, sym, ap, subst, false≢true, not-false, and_from, Block, IsBlock, kind, slot, endpoint, is_stopping, Spot, Data, is_open, floor_number, MayReach, rank, number, after, ceiling_within, after_reached, next_later, Read, TraceRow, Plain, IsHeader, shape_of, command_id, World, Known, learned, lenient, RingSpot, transferred, IsDriverRing, DriverKeeps, Agrees, transfer_driver, ring_shape, is_held_ring, is_late, brought, ◌+◌, ◌-◌, ◌<◌, ◌==◌, not, length, None, refl, ltb-true, eq-eqb, rules, and_parts, cond-true, cond-false, not_from_true, pointer, ceiling, cycle_of_bit, command_of, is_stop_of, is_running, UnderWay, unreported, command_at, next_command, is_stopping_now, may_be_taken, UnderWayMatches, CommandMatches, event_facts, put_off, at_floor, command_is_ring, command_at_is, command_of-with_cycle, StopCode, stored, stored_block, is_last, is_stop_under_way, posts_posted, report_code, report_stop, stopped_with, with_reported, ne_eqb, cases_lt, put, number-after, stop_spot_reached, rank_least, rank_most, transfer_not_command, put_at, next_is, goals, further, report_goals, command_taken, taken_up_to, stop_goal, need, ◌++◌, reverse, flat_map, looks_to, EventLaw, StandsAt, IsActiveIfOpen, Follows, Carries, Leads, Past, Traced, traced_behind, TransferFacts, NamesBlock, success_names, error_names, commands_open, CommandsOpen, AreTimely, IsHeld, need_of_held, timely_then, StopsThere, stop_names, stop_code, agrees_now, transfer_facts}
 use Rattle.safety.proofs.LazyRuns.Completions.{completion_law}
 use Rattle.safety.proofs.LazyRuns.PostStep.{event_law, EventLawOf, EventLearns, pointers_transfer, report_step}
-use Rattle.safety.proofs.UpperLaws.{EventLaw, StandsAt, IsActiveIfOpen, Follows, Carries, Leads, Past, Traced, traced_behind, TransferFacts, NamesBlock, success_names, error_names, commands_open, CommandsOpen, AreTimely, IsHeld, need_of_held, timely_then, StopsThere, stop_names, stop_code, agrees_now, transfer_facts}
 use Rattle.safety.proofs.LazyRuns.Induction.{lazy_from_events, all_read_from_events}
 use Rattle.safety.proofs.LazyRuns.LooksRun.{AllFit, further_then, further_not, Fits, AreApart, AllBrought, goals_reached}
 use Rattle.safety.proofs.LazyRuns.TransferGoals.{Reports, names, ahead, success_reports, error_reports, success_goes_on, error_goes_on, block_goal, brought_here, brought_off, read_is, learns, success_floor, error_ring, report_at, IsHeldAt, further_is, taken_behind, goals_are, stop_ring, no_command as off_command}
@@ -252,14 +251,6 @@ module _ (h : Header) where
       at_command : Spot
       at_command = further (at_first (command_id h)) (after (shape_of h (command_id h)) (next_command h past.known))
 
-      beyond : next_command h past.known + 1 ≤ number at_command
-      unfolding at_command
-      beyond = search (rules, at_command, cases_lt, further_then, further_not, at_first, rank_least, rank_most, number-after)
-
-      stop_near : rank (at_first e.ring) ≤ rank e.spot
-      stop_near =
-          omega (arith, ((names h is past.known w b block past.keeps now clean transfer e).from), (ap rank (f.traced (slot b) (endpoint b) e.ring e.bound)))
-
       abbrev behind_command : Spot
       behind_command = further (at_first (command_id h)) (after (shape_of h (command_id h)) (next_command h past.known))
 
@@ -274,7 +265,7 @@ module _ (h : Header) where
       unfolding brought command place
       ring_brought =
           put_at taken e.ring (further (taken e.ring) e.spot) ∙ ap (λ t. further t e.spot) (put_off at_first (command_id h) behind_command e.ring no_command)
-          ∙ further_is (at_first e.ring) e.spot stop_near
+          ∙ further_is (at_first e.ring) e.spot (omega (arith, ((names h is past.known w b block past.keeps now clean transfer e).from), (ap rank (f.traced (slot b) (endpoint b) e.ring e.bound))))
 
       command_brought : brought h at_first (command ∷ place ∷ []) (command_id h) ≡ at_command
       unfolding brought command place at_command
@@ -311,12 +302,13 @@ module _ (h : Header) where
       -- ---- the report
 
       reports : (u : World) → Traced h past.known (brought h at_first (command ∷ place ∷ [])) u → (x : Reports h u b e.ring) × IsActiveIfOpen (learned h past.known (Read b)) x.world e.ring
+      unfolding at_command
       reports u stop_learns =
           let agree = agrees (brought h at_first (command ∷ place ∷ [])) u stop_learns in
           let commands : StandsAt h u (command_id h) at_command = subst (λ t. StandsAt h u (command_id h) t) command_brought (stop_learns.command started) in
           let ring : StandsAt h u e.ring e.spot = subst (λ t. StandsAt h u e.ring t) ring_brought (stop_learns.rings (slot b) (endpoint b) e.ring e.bound) in
           let x : Reports h u b e.ring =
-          stop_reports h is past.known u b block past.keeps agree clean transfer e next at_command commands beyond coded stops.work.runs
+          stop_reports h is past.known u b block past.keeps agree clean transfer e next at_command commands (search (rules, at_command, cases_lt, further_then, further_not, at_first, rank_least, rank_most, number-after)) coded stops.work.runs
           (stop_learns.active (slot b) (endpoint b) e.ring e.bound stops.work.opened) (sym (names h is past.known w b block past.keeps now clean transfer e).at ∙ sym ring.pointer) in
           (x, λ opened. absurd (false≢true (sym held ∙ opened)))
 

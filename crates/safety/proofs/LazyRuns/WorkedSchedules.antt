@@ -1,11 +1,5 @@
 -- Lazy schedules of two traces, and how they end, by evaluation; tests/schedules has more for the program
-use Rattle.safety.proofs.Words.{[], ◌≡◌, ◌∷◌, ◌++◌, ℕ, suc, zero, List, map, refl, Cmd, Evt, Xfer, Block, Bytes32, Header, Row, Sub, Write, Reg, Bell, Read, TraceRow, Usbcmd, Crcr, Dcbaap, Config, Erstsz, Erstba, Erdp, Step, NextRow, Look, Report, Finish}
-use Rattle.safety.proofs.LazyRuns.Words.{Plain, lazy_steps}
-use Rattle.traces.specs.declared.version.Version.TheVariants.{One}
-use Rattle.controller_model.specs.Scenes.{scene_replayed}
-use Rattle.controller_model.specs.Steps.{NoHarm}
-use Rattle.controller_model.specs.OnLiterals.{model_on_literals}
-use Rattle.safety.specs.LazyRuns.OnLiterals.{lazy_on_literals}
+use Rattle.safety.proofs.Words.{[], ◌≡◌, ◌∷◌, ◌++◌, ℕ, suc, zero, List, map, refl, Cmd, Evt, Xfer, Block, Bytes32, Header, Row, Sub, Write, Reg, Bell, Read, TraceRow, Usbcmd, Crcr, Dcbaap, Config, Erstsz, Erstba, Erdp, Step, NextRow, Look, Report, Finish, Plain, lazy_steps, One, scene_replayed, NoHarm, model_on_literals, lazy_on_literals}
 
 abbrev block : ℕ → ℕ → ℕ → Block
 block at status control = record { w = at ∷ 0 ∷ status ∷ control ∷ [] }

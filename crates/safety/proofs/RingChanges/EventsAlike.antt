@@ -1,6 +1,6 @@
 -- An event says the same where other rings are there, so long as those that endpoints have and commands bind are as they were
+use Rattle.safety.proofs.Words.{[], ◌≡◌, if◌then◌else◌, ◌∷◌, ◌∙◌, ℕ, Bool, true, false, List, Option, Some, None, refl, ap, rules, put, put_pair, cond_both, none-some, same_Some, option_map, Block, slot, endpoint, pointer, is_success, is_halting, is_trb_error, is_stopping, Spot, number, after, RingView, RingChange, Reaches, Holds, changed, ceiling, named, target, Command, Stopped, is_off, Change, Places, Stops, Header, Ring, shape_of, command_id, event_shape, event_size, ring_having, Known, RingSpot, on_ring, spot_on, event_at, passed, broken_off, stopped_at, transferred, transferred_at, transfer_read, set_to, bound_to, moved_to, moved, pointed, disabled, in_state, held_at_ceiling, changed_by, changed_by_all, arith}
 use Rattle.safety.proofs.Endpoints.{moved_rings, held_rings}
-use Rattle.safety.proofs.Words.{[], ◌≡◌, if◌then◌else◌, ◌∷◌, ◌∙◌, ℕ, Bool, true, false, List, Option, Some, None, refl, ap, rules, put, put_pair, cond_both, none-some, same_Some, option_map, Block, slot, endpoint, pointer, is_success, is_halting, is_trb_error, is_stopping, Spot, number, after, RingView, RingChange, Reaches, Holds, changed, ceiling, named, target, Command, EndpointState, Stopped, is_off, Change, Places, Stops, Header, Ring, shape_of, command_id, event_shape, event_size, ring_having, Known, RingSpot, on_ring, spot_on, event_at, passed, broken_off, stopped_at, transferred, transferred_at, transfer_read, set_to, bound_to, moved_to, moved, pointed, disabled, in_state, held_at_ceiling, changed_by, changed_by_all, arith}
 
 module _ (h : Header) (rings : List Ring) (over : (ℕ → RingView) → ℕ → RingView) (Kept : ℕ → Type 0) where
   abbrev g : Header
@@ -55,14 +55,6 @@ module _ (h : Header) (rings : List Ring) (over : (ℕ → RingView) → ℕ →
     unfolding passed
     passed_alike k r t kept = search (rules, on_ring, g, other, after, number, on_alike, shape_of)
 
-    broken_alike : (k : Known) (s i r : ℕ) (t : Spot) (state : EndpointState) → Kept r → broken_off g (other k) s i r t state ≡ other (broken_off h k s i r t state)
-    unfolding broken_off
-    broken_alike k s i r t state kept = search (rules, g, other, passed_alike, on_alike)
-
-    stopped_alike : (k : Known) (s i r : ℕ) (t : Spot) → Kept r → stopped_at g (other k) s i r t ≡ other (stopped_at h k s i r t)
-    unfolding stopped_at
-    stopped_alike k s i r t kept = search (rules, g, other, on_alike)
-
     spot_alike : (k : Known) (a : ℕ) (q : Option ℕ) → IsKept q → spot_on g (other k) a q ≡ spot_on h k a q
     unfolding spot_on
     spot_alike k a None kept = refl
@@ -72,18 +64,14 @@ module _ (h : Header) (rings : List Ring) (over : (ℕ → RingView) → ℕ →
     unfolding event_at
     event_at_alike k b kept = spot_alike k (pointer b) (k.ring_of (slot b) (endpoint b)) (kept (slot b) (endpoint b))
 
-    spot_kept : (k : Known) (a : ℕ) (q : Option ℕ) (at : RingSpot) → IsKept q → spot_on h k a q ≡ Some at → Kept at.ring
-    unfolding spot_on
-    spot_kept k a o at kept is = grind (arith, none-some, same_Some)
-
     pub event_kept : (k : Known) (b : Block) (at : RingSpot) → HasKept k → event_at h k b ≡ Some at → Kept at.ring
-    unfolding event_at
-    event_kept k b at kept is = spot_kept k (pointer b) (k.ring_of (slot b) (endpoint b)) at (kept (slot b) (endpoint b)) is
+    unfolding event_at spot_on
+    event_kept k b at kept is = grind (arith, none-some, same_Some)
 
     at_alike : (k : Known) (b : Block) (q : Option RingSpot) → ((at : RingSpot) → q ≡ Some at → Kept at.ring) → transferred_at g (other k) b q ≡ other (transferred_at h k b q)
-    unfolding transferred_at transferred
+    unfolding transferred_at transferred broken_off stopped_at
     at_alike k b None kept = refl
-    at_alike k b (Some at) kept = search (rules, either, is_success, passed_alike, is_halting, broken_alike, put_pair, is_trb_error, is_stopping, stopped_alike)
+    at_alike k b (Some at) kept = search (rules, either, is_success, passed_alike, is_halting, g, other, on_alike, put_pair, is_trb_error, is_stopping)
 
     pub transfer_alike : (k : Known) (b : Block) → HasKept k → transfer_read g (other k) b ≡ other (transfer_read h k b)
     unfolding transfer_read
@@ -128,22 +116,14 @@ module _ (h : Header) (rings : List Ring) (over : (ℕ → RingView) → ℕ →
 
     -- ---- endpoints have kept rings still
 
-    bound_has : (k : Known) (s i : ℕ) (q : Option ℕ) (p : ℕ) (cycle : Bool) → HasKept k → IsKept q → HasKept (bound_to h k s i q p cycle)
-    unfolding bound_to
-    bound_has k s i o p cycle kept one = grind arith
-
     pointed_has : (k : Known) (s i p : ℕ) (cycle : Bool) → HasKept k → (is_off (k.endpoint_state s i) ≡ true → HavesAlike p) → HasKept (pointed h k s i p cycle)
-    unfolding pointed
-    pointed_has k s i p cycle kept haves = search (rules, cond_both, is_off, bound_to, ring_having, moved, bound_has, moved_rings)
-
-    change_has : (c : Command) (k : Known) (change : Change) → HasKept k → ChangeAlike k change → HasKept (changed_by h c k change)
-    unfolding changed_by disabled in_state
-    change_has c k o kept may = grind (arith, none-some, pointed_has, held_rings, in_state)
+    unfolding pointed bound_to
+    pointed_has k s i p cycle kept haves = search (rules, cond_both, is_off, bound_to, ring_having, moved, moved_rings)
 
     pub changes_alike : (c : Command) (changes : List Change) (k : Known) → HasKept k → ChangesAlike c k changes →
         (changed_by_all g c (other k) changes ≡ other (changed_by_all h c k changes)) × HasKept (changed_by_all h c k changes)
-    unfolding changed_by_all
+    unfolding changed_by_all changed_by disabled in_state
     changes_alike c [] k kept may = (refl, kept)
     changes_alike c (change ∷ rest) k kept may =
-        let later = changes_alike c rest (changed_by h c k change) (change_has c k change kept may.0) may.1 in
+        let later = changes_alike c rest (changed_by h c k change) (grind (arith, none-some, pointed_has, held_rings, in_state)) may.1 in
         (ap (λ x. changed_by_all g c x rest) (change_alike c k change kept may.0) ∙ later.0, later.1)

@@ -1,8 +1,6 @@
 -- Worked examples of rings that come and go, and of descriptors that are withdrawn
-use Rattle.safety.proofs.Words.{[], ◌≡◌, ℕ, true, false, List, ◌∷◌, refl, Some, nat_lt, Xfer, Bytes32, Header, Ring, Write, Bell, forgotten, is_bad_free, is_bad_ring, is_bad_segment, is_had, shows_first_lap, with_ring, without_ring, restored_on, ring_moved, ring_restored, has_stopped, is_bad_withdraw, is_left, rests_with, TraceRow, header_now, known_now, known_after, put, put_pair, Block, Data, RingView, EndpointState, Running, Stopped, Known, nothing}
-use Rattle.traces.specs.declared.version.Version.TheVariants.{Three}
-use Rattle.ownership_rules.specs.OnLiterals.{rules_on_literals}
-use Rattle.traces.specs.declared.trace_row.TraceRow.TheVariants.{Comes, Goes, Plain, Withdraws}
+use Rattle.safety.proofs.Words.{[], ◌≡◌, ℕ, true, false, List, ◌∷◌, refl, Some, nat_lt, Xfer, Bytes32, Header, Ring, Write, Bell, forgotten, is_bad_free, is_bad_ring, is_bad_segment, is_had, shows_first_lap, with_ring, without_ring, restored_on, ring_moved, ring_restored, has_stopped, is_bad_withdraw, is_left, rests_with, TraceRow, header_now, known_now, known_after, put, put_pair, Block, Data, RingView, EndpointState, Running, Stopped, Known, nothing, Three, rules_on_literals, Comes, Goes, Plain}
+use Rattle.traces.specs.declared.trace_row.TraceRow.TheVariants.{Withdraws}
 
 -- Worked examples of rings that come and go
 

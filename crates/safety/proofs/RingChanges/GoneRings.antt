@@ -1,7 +1,7 @@
 -- A ring that goes: what a driver keeps it keeps still
-use Rattle.safety.proofs.Words.{[], ◌≡◌, ◌≢◌, ◌<◌, ◌==◌, ◌∷◌, ◌∙◌, ℕ, not, Bool, true, false, List, Option, Some, find, filter, get_or, length, nat_lt, arith, refl, sym, ap, subst, inl, inr, eqb-true, eq-eqb, ne_eqb, rules, put, new_ring, emptied, forgotten, is_bad_free, is_had, without_ring, list_all, and_from, is_shape, may_stand_together, Block, World, Agrees, Evt, Xfer, RingKind, same_Some, cases_Bool, cases_eq, list_any, list_any_at, range_with_len, cond-true, cond-false, false≢true, false_from_ne_true, none-some, not-false, not_from_false, not-true, or_parts, is_inside, place_count, RingView, RingKeeps, Command, device_context_bytes, input_context_bytes, Header, Ring, IsHeader, is_command_kind, is_event_kind, is_transfer_kind, is_ring, ring_with, shape_of, shape_or, command_ring, command_id, event_ring, event_shape, event_size, ring_having, id_of, id_or_none, touches_ring, Known, entry_of, Binding, binds, ring_bound, binds_ring, is_being_bound, any_of, from_filter, IsIn, is_transfer_ring, IsDriverRing, IsTransferRing, IsUnfinished, DriverKeeps}
-use Rattle.segments.specs.Places.{touches}
-use Rattle.safety.proofs.LowerLaws.{forgetting_agrees, none_kept, context_lies, transfer_ring, found_in, header_parts, together, transfer_not_command, having_transfer, other_ids, in_range, unfinished_fails, all_kept, together_kept, OtherRings, IsAsBefore, BindsAsBefore, other_rings_keep}
+use Rattle.safety.proofs.LowerLaws.{[], ◌≡◌, ◌≢◌, ◌<◌, ◌==◌, ◌∷◌, ◌∙◌, ℕ, not, Bool, true, false, List, Some, find, filter, get_or, length, nat_lt, arith, refl, sym, ap, subst, inl, inr, eqb-true, eq-eqb, ne_eqb, rules, put, new_ring, emptied, forgotten, is_bad_free, is_had, without_ring, list_all, and_from, is_shape, may_stand_together, Block, World, Agrees, Evt, Xfer, RingKind, same_Some, cases_Bool, cases_eq, list_any, list_any_at, range_with_len, cond-true, cond-false, false≢true, false_from_ne_true, none-some, not-false, not_from_false, not-true, or_parts, is_inside, place_count, RingView, RingKeeps, Command, device_context_bytes, input_context_bytes, Header, Ring, IsHeader, is_command_kind, is_event_kind, is_transfer_kind, is_ring, ring_with, shape_of, shape_or, command_ring, command_id, event_ring, event_shape, event_size, ring_having, id_of, id_or_none, touches_ring, Known, entry_of, Binding, binds, ring_bound, binds_ring, is_being_bound, any_of, from_filter, IsIn, is_transfer_ring, IsDriverRing, IsTransferRing, IsUnfinished, DriverKeeps, touches, context_lies, transfer_ring, found_in, header_parts, together, transfer_not_command, having_transfer, other_ids, in_range, unfinished_fails}
+use Rattle.safety.proofs.RingChanges.OtherRings.{forgetting_agrees, OtherRings, IsAsBefore, BindsAsBefore, other_rings_keep}
+use Rattle.safety.proofs.RingChanges.ListedRings.{none_kept, all_kept, together_kept}
 
 -- ---- some rings of a list
 
@@ -9,25 +9,12 @@ module _ (p keep : Ring → Bool) where
   -- what passes is among them, so the same one is found
   find_kept : (rs : List Ring) → ((q : Ring) → IsIn q rs → p q ≡ true → keep q ≡ true) → find p (filter keep rs) ≡ find p rs
   find_kept [] kept = refl
-  find_kept (y ∷ ys) kept =
-      let rest = find_kept ys (λ q at. kept q (inr at)) in
-      elim (cases_Bool (p y)) [
-        | inl passes ↦ simp (kept y (inl refl) passes, passes)
-        | inr fails ↦ elim (cases_Bool (keep y)) [ inl stays ↦ simp (stays, fails) rest | inr goes ↦ simp (goes, fails) rest ]
-      ]
+  find_kept (y ∷ ys) kept = grind (arith, cases_Bool (p y), cases_Bool (keep y), kept y (inl refl), find_kept ys (λ q at. kept q (inr at)))
 
   -- the one that is found is among them
   found_kept : (rs : List Ring) (q : Ring) → find p rs ≡ Some q → keep q ≡ true → find p (filter keep rs) ≡ Some q
   found_kept [] q found kept = absurd (none-some q found)
-  found_kept (y ∷ ys) q found kept =
-      elim (cases_Bool (p y)) [
-        | inl passes ↦
-            let same : Some y ≡ Some q = sym (cond-true (p y) (Some y) (find p ys) passes) ∙ found in
-            let stays : keep y ≡ true = ap keep (same_Some y q same) ∙ kept in simp (stays, passes) same
-        | inr fails ↦
-            let rest = found_kept ys q (sym (cond-false (p y) (Some y) (find p ys) fails) ∙ found) kept in
-            elim (cases_Bool (keep y)) [ inl stays ↦ simp (stays, fails) rest | inr goes ↦ simp goes rest ]
-      ]
+  found_kept (y ∷ ys) q found kept = grind (arith, cases_Bool (p y), cases_Bool (keep y), found_kept ys q, same_Some)
 
 transfer_no_command : (kind : RingKind) → is_transfer_kind kind ≡ true → is_command_kind kind ≡ false
 transfer_no_command o t = grind (arith, false≢true)
@@ -125,21 +112,15 @@ module _ (h : Header) (is : IsHeader h) (k : Known) (d : DriverKeeps h k) (id : 
   unfolding is_had
   not_had s i r has same =
       let low = d.numbered s i r has in
-      let some_slot : 0 < s = positive s (λ zero. none-some r (sym (d.states.no_endpoint s i (inl zero)) ∙ has)) in
-      let some_index : 0 < i = positive i (λ zero. none-some r (sym (d.states.no_endpoint s i (inr zero)) ∙ has)) in
+      let some_slot : 0 < s = grind (arith, d.states.no_endpoint s i, none-some r) in
+      let some_index : 0 < i = grind (arith, d.states.no_endpoint s i, none-some r) in
       let row : ℕ → Bool = λ t. list_any (λ j. is_ring id (k.ring_of t j)) (range_with_len 1 31) in
       let inner : row s ≡ true = any_of (λ j. is_ring id (k.ring_of s j)) (range_with_len 1 31) i (in_range 1 31 i (omega arith) (omega (arith, low.1))) (ap (is_ring id) has ∙ eq-eqb r id same) in
       false≢true (sym parts.1 ∙ any_of row (range_with_len 1 255) s (in_range 1 255 s (omega arith) (omega (arith, low.0))) inner)
-    where
-      positive : (n : ℕ) → (n ≡ 0 → ⊥) → 0 < n
-      positive n some = elim (cases_eq n 0) [ inl zero ↦ absurd (some zero) | inr other ↦ omega (arith, other) ]
-
-  having_still : (test : Ring → Bool) (o : Option Ring) (s : ℕ) → find test h.rings ≡ o → s ≢ id → id_of o ≡ Some s → id_of (find test (filter keep h.rings)) ≡ Some s
-  having_still test o s found other names = grind (arith, none-some, id_of, found_kept, h.rings, stays, same_Some)
 
   pub having_same : (p s : ℕ) → s ≢ id → ring_having h p ≡ Some s → ring_having g p ≡ Some s
   unfolding ring_having
-  having_same p s other names = search (rules, having_still, is_transfer_kind, is_inside, find)
+  having_same p s other names = search (rules, none-some, id_of, found_kept, h.rings, stays, same_Some, is_transfer_kind, is_inside, find)
 
   bound_same : (b : Binding) → is_ring id (ring_bound h b) ≡ false → BindsAsBefore h (filter keep h.rings) k views b
   unfolding ring_bound
@@ -170,10 +151,7 @@ module _ (h : Header) (is : IsHeader h) (k : Known) (d : DriverKeeps h k) (id : 
         subst (λ v. RingKeeps (shape_of g s) k.memory v) (sym (view_same s other)) (subst (λ x. RingKeeps x k.memory (k.ring s)) (sym (shape_same s other)) (d.rings s (driver_before s ring)));
     clean = λ s a ring word inside. d.clean s a (driver_before s ring) word (ap (λ x. is_inside x a) (sym (shape_same s (not_there s ring.ring ring.found))) ∙ inside);
     had = λ s i r at. transfer_still r (not_had s i r at) (d.states.transfer s i r at);
-    each = λ s. elim (cases_eq s id) [
-      | inl here ↦ inr (cond-true (s == id) new_ring (k.ring s) (eq-eqb s id here))
-      | inr other ↦ inl (view_same s other)
-    ];
+    each = λ s. elim (cases_eq s id) [ inl here ↦ inr (cond-true (s == id) new_ring (k.ring s) (eq-eqb s id here)) | inr other ↦ inl (view_same s other) ];
     devices = λ s e at. let device = d.devices s e at in (area_apart e (device_context_bytes h.context_size) device.rings, area_apart (entry_of k s) 8 device.entry_rings);
     contexts = λ p n c u at. area_apart n (input_context_bytes h.context_size) (context_lies h k d p n c u at).rings;
     binds = λ p c u i b low. bound_same (get_or (binds h k c) i b) (none_binds p c u i b low);

@@ -1,7 +1,6 @@
 -- What a driver keeps is kept where other rings are there, so long as those that endpoints and commands speak of are as they were
-use Rattle.safety.proofs.Words.{Erstba, arith, put, cases_eq, [], ◌≡◌, ◌≢◌, ◌≤◌, ◌+◌, ◌%◌, ◌^◌, ◌<◌, ◌&&◌, ◌||◌, ◌⊎◌, ◌∷◌, ◌∙◌, ℕ, not, Bool, true, false, List, map, All, Option, Some, None, nat_lt, option_and_then, slice_get, is_none, refl, sym, ap, subst, inl, inr, rules, IsRestored, new_ring, Dcbaap, device_named, is_soiled, overlap, list_any-append, is_at_rest, drops, context_pointer, context_cycle, base_address, table_bytes, list_any, flat_map, false≢true, or_parts, or_from, cases_option, All-head, All-tail, All-cons, All-nil, RingView, is_inside, ceiling, floor_number, is_move, RingKeeps, Command, AddressDevice, ConfigureEndpoint, SetTrDequeue, command_of, is_stop_of, named_slot, named_endpoint, named_context, device_context_bytes, input_context_bytes, Header, Ring, shape_of, command_id, event_shape, event_size, touches_ring, is_ring, Known, entry_of, command_at, next_command, may_be_taken, is_stopping_now, device_ranges, range_of_device, slots, covers, lease_start, lease_bytes, is_bad_area, Binding, binds, binding_in, ring_bound, binds_ring, has_repeats, is_placed, is_bad_dequeue, is_bad_move, IsDriverRing, IsTransferRing, IsUnfinished, was_stop_seen, CommandRingKeeps, CommandRingNamed, StatesKeep, Unstarted, DeviceKeeps, Stays, StaysIf, MovesIf, CommandKeeps, DriverKeeps, adds_streams, has_bad_content, has_bad_context, has_bad_entry, is_bad_added, is_bad_command, is_bad_device, names_disabled_endpoint, names_disabled_slot, streams_in, takes_bad_device, type_in, next_take, Block, block_at, address_of, Spot, Shape, World, RingEvent, UnderWay, Stands, EventsStand, RingState, state_of, RingMatches, BoundRing, FreeRing, EndpointRing, UnderWayMatches, IsUnchanged, Matches, Agrees, has_other_words, is_out_of_order}
+use Rattle.safety.proofs.LowerLaws.{Erstba, arith, put, cases_eq, [], ◌≡◌, ◌≢◌, ◌≤◌, ◌+◌, ◌%◌, ◌^◌, ◌<◌, ◌&&◌, ◌||◌, ◌⊎◌, ◌∷◌, ◌∙◌, ℕ, not, Bool, true, false, List, map, All, Option, Some, None, nat_lt, option_and_then, slice_get, refl, sym, ap, subst, inl, inr, rules, IsRestored, new_ring, device_named, is_soiled, overlap, list_any-append, is_at_rest, drops, context_pointer, context_cycle, base_address, table_bytes, list_any, flat_map, false≢true, or_parts, or_from, cases_option, All-head, All-tail, All-cons, All-nil, RingView, is_inside, ceiling, floor_number, is_move, RingKeeps, Command, AddressDevice, ConfigureEndpoint, SetTrDequeue, command_of, is_stop_of, named_slot, named_endpoint, named_context, device_context_bytes, input_context_bytes, Header, Ring, shape_of, command_id, event_shape, event_size, touches_ring, is_ring, Known, entry_of, command_at, next_command, may_be_taken, is_stopping_now, device_ranges, range_of_device, slots, covers, lease_start, lease_bytes, is_bad_area, Binding, binds, binding_in, ring_bound, binds_ring, has_repeats, is_placed, is_bad_dequeue, is_bad_move, IsDriverRing, IsTransferRing, IsUnfinished, was_stop_seen, CommandRingNamed, StatesKeep, DeviceKeeps, Stays, StaysIf, MovesIf, CommandKeeps, DriverKeeps, adds_streams, has_bad_content, has_bad_context, is_bad_added, is_bad_command, names_disabled_endpoint, names_disabled_slot, streams_in, takes_bad_device, type_in, next_take, Block, block_at, address_of, Spot, Shape, World, RingEvent, UnderWay, RingState, state_of, RingMatches, BoundRing, FreeRing, EndpointRing, UnderWayMatches, IsUnchanged, Matches, Agrees, has_other_words, is_out_of_order, put_at, put_off}
 use Rattle.world_state.specs.World.{event_at}
-use Rattle.safety.proofs.LookKinds.{put_at, put_off}
 
 -- where a list is mapped alike, what passes of it is the same
 any_map : {X Y : Type 0} (f : X → Y) (t : Y → Bool) (xs : List X) → list_any (λ x. t (f x)) xs ≡ list_any t (map f xs)
@@ -59,34 +58,9 @@ module _ (h : Header) (rings : List Ring) (k : Known) (views : ℕ → RingView)
   module _ (d : DriverKeeps h k) (o : OtherRings) where
     -- ---- the command ring and endpoints
 
-    command_ring_keeps : CommandRingKeeps g l
-    command_ring_keeps = search (rules, g, l, slice_get)
-
-    stopping_same : (s i : ℕ) → is_stopping_now g l s i ≡ is_stopping_now h k s i
-    unfolding is_stopping_now may_be_taken next_command command_at
-    stopping_same s i = search (rules, nat_lt, floor_number, ceiling, is_stop_of, option_and_then, command_of, slice_get)
-
     states_keep : StatesKeep g l
-    states_keep =
-        let old = d.states in
-        record {
-          no_slot = old.no_slot;
-          no_endpoint = old.no_endpoint;
-          off = old.off;
-          on = old.on;
-          transfer = λ s i r at. (o.had s i r at).transfer;
-          one_endpoint = old.one_endpoint;
-          open_runs = λ s i r at none. old.open_runs s i r at (ap (λ (v : RingView). v.held) (sym (o.had s i r at).view) ∙ none);
-          seen_command = λ s i seen. stopping_same s i ∙ old.seen_command s i seen;
-          seen_runs = old.seen_runs;
-          seen_held = λ s i r seen at none. old.seen_held s i r seen at (ap (λ (v : RingView). v.held) (sym (o.had s i r at).view) ∙ none);
-          slots = old.slots;
-          first = old.first;
-          no_device = old.no_device;
-        }
-
-    unstarted_keeps : Unstarted h k → Unstarted g l
-    unstarted_keeps old = search (rules, g, l)
+    unfolding is_stopping_now may_be_taken next_command command_at
+    states_keep = search (rules, d.states, o.had, nat_lt, floor_number, ceiling, is_stop_of, option_and_then, command_of, slice_get)
 
     named : (v : ℕ) → CommandRingNamed h v → CommandRingNamed g v
     named v old = search (rules, g)
@@ -115,10 +89,7 @@ module _ (h : Header) (rings : List Ring) (k : Known) (views : ℕ → RingView)
     devices_cover : (from len : ℕ) (ss : List ℕ) →
         list_any (covers g from len) (flat_map (λ s. range_of_device g s (k.device s)) ss) ≡ list_any (covers h from len) (flat_map (λ s. range_of_device h s (k.device s)) ss)
     devices_cover from len [] = refl
-    devices_cover from len (s ∷ ss) =
-        list_any-append (covers g from len) (range_of_device g s (k.device s)) (flat_map (λ s. range_of_device g s (k.device s)) ss)
-        ∙ (λ j. device_covers from len s (k.device s) j || devices_cover from len ss j)
-        ∙ sym (list_any-append (covers h from len) (range_of_device h s (k.device s)) (flat_map (λ s. range_of_device h s (k.device s)) ss))
+    devices_cover from len (s ∷ ss) = grind (arith, list_any-append, device_covers, devices_cover from len ss)
 
     area_same : (from len : ℕ) → touches_ring g from len ≡ false → is_bad_area h k from len ≡ false → is_bad_area g l from len ≡ false
     unfolding is_bad_area device_ranges
@@ -137,25 +108,16 @@ module _ (h : Header) (rings : List Ring) (k : Known) (views : ℕ → RingView)
     content_good : (c : Command) → ((s n : ℕ) (bsr : Bool) → c ≡ AddressDevice s bsr n → k.device s ≢ None) → has_bad_content h k c ≡ false →
         has_bad_content g l c ≡ false
     unfolding has_bad_content is_bad_added type_in takes_bad_device device_named
-    content_good (AddressDevice s bsr n) device good =
-        or_from _ (takes_bad_device g l s n) (or_parts _ (takes_bad_device h k s n) good).0
-        (elim (cases_option (k.device s)) [
-          | inl none ↦ absurd (device s n bsr refl none)
-          | inr some ↦ ap (λ (a : Option ℕ). is_none a && (is_none (k.register Dcbaap) || has_bad_entry g l s || is_bad_device g l s n (device_named k s))) some.1
-        ])
+    content_good (AddressDevice s bsr n) device good = grind (arith, or_parts, or_from, cases_option (k.device s), device s n bsr refl)
     content_good (ConfigureEndpoint s false n) device good = good
     content_good _ device good = refl
-
-    slot_same : (n : Option ℕ) → names_disabled_slot l n ≡ names_disabled_slot k n
-    unfolding names_disabled_slot
-    slot_same o = grind arith
 
     endpoint_same : (n : Option (ℕ × ℕ)) → names_disabled_endpoint l n ≡ names_disabled_endpoint k n
     unfolding names_disabled_endpoint
     endpoint_same o = grind arith
 
     good_still : (p : ℕ) (c : Command) → IsUnfinished h k p c → CommandKeeps h k p c → is_bad_command g l c ≡ false
-    unfolding is_bad_command
+    unfolding is_bad_command names_disabled_slot
     good_still p c u keeps =
         let content = or_parts _ (has_bad_content h k c) keeps.good in
         let context = or_parts _ (has_bad_context h k (named_context c)) content.0 in
@@ -163,7 +125,7 @@ module _ (h : Header) (rings : List Ring) (k : Known) (views : ℕ → RingView)
         or_from _ (has_bad_content g l c)
         (or_from _ (has_bad_context g l (named_context c))
         (or_from (names_disabled_slot l (named_slot c)) (names_disabled_endpoint l (named_endpoint c))
-        (slot_same (named_slot c) ∙ names.0) (endpoint_same (named_endpoint c) ∙ names.1))
+        ((grind arith) ∙ names.0) (endpoint_same (named_endpoint c) ∙ names.1))
         (context_good (named_context c) (λ a at. o.contexts p a c u at) context.1))
         (content_good c keeps.device content.1)
 
@@ -223,26 +185,19 @@ module _ (h : Header) (rings : List Ring) (k : Known) (views : ℕ → RingView)
         }
     stays_still _ stays = tt
 
-    drops_same : (c : Command) (s i : ℕ) → drops l c s i ≡ drops k c s i
-    unfolding drops
-    drops_same o s i = grind (arith, false)
-
-    streams_same : (c : Command) → adds_streams g l c ≡ adds_streams h k c
-    unfolding adds_streams streams_in
-    streams_same o = grind arith
-
     command_keeps : (p : ℕ) (c : Command) → IsUnfinished h k p c → CommandKeeps g l p c
+    unfolding drops adds_streams streams_in
     command_keeps p c u =
         let old : CommandKeeps h k p c = d.unfinished p c u in
         let bound : BoundStill c = bound_still p c u in
         record {
           alone = λ q e v other. old.alone q e (unfinished_before q e v) other;
           good = good_still p c u old;
-          in_profile = streams_same c ∙ old.in_profile;
+          in_profile = (grind arith) ∙ old.in_profile;
           device = old.device;
           binds = bound.placed;
           repeats = ap (λ bs. has_repeats (map (ring_bound g) bs)) (binds_same c) ∙ ap has_repeats bound.same ∙ old.repeats;
-          unkept = λ r s i binds has. drops_same c s i ∙ old.unkept r s i (sym (bound.names r) ∙ binds) has;
+          unkept = λ r s i binds has. (grind (arith, false)) ∙ old.unkept r s i (sym (bound.names r) ∙ binds) has;
           unshared = λ r q e binds v other.
               (bound_still q e (unfinished_before q e v)).names r ∙ old.unshared r q e (sym (bound.names r) ∙ binds) (unfinished_before q e v) other;
           moves_on = moves_still c old.moves_on;
@@ -255,10 +210,10 @@ module _ (h : Header) (rings : List Ring) (k : Known) (views : ℕ → RingView)
       rings = o.keeps;
       commands_stay = subst IsRestored (sym o.command_view) d.commands_stay;
       clean = o.clean;
-      command_ring = command_ring_keeps;
+      command_ring = search (rules, g, l, slice_get);
       states = states_keep;
       numbered = d.numbered;
-      unstarted = λ before. unstarted_keeps (d.unstarted before);
+      unstarted = λ before. search (rules, g, l);
       crcr = λ v at. named v (d.crcr v at);
       crcr_written = d.crcr_written;
       sized = λ written. subst (λ n. 0 < n) (sym o.size) (d.sized written);
@@ -290,10 +245,6 @@ module _ (h : Header) (rings : List Ring) (k : Known) (views : ℕ → RingView)
 
       command_state : state_of v (command_id g) ≡ state_of w (command_id h)
       command_state = ap (λ n. state_of v n) o.command ∙ state_same (command_id h) x.command.0 x.command.1
-
-      events_stand_still : (unread : List Block) → EventsStand h w unread → EventsStand g v unread
-      unfolding event_at
-      events_stand_still unread e = search (rules, block_at, w.memory, address_of, e.places, e.ring)
 
       ring_still : (r : ℕ) → r ≢ command_id h → EndpointRing h k w r → EndpointRing g l v r
       ring_still r other (inl bound) =
@@ -341,7 +292,8 @@ module _ (h : Header) (rings : List Ring) (k : Known) (views : ℕ → RingView)
       }
 
       pub other_worlds_agree : (unread : List Block) → Agrees h k unread w → Agrees g l unread v
-      other_worlds_agree unread a = search (rules, g, l, v, events_stand_still, matches_still)
+      unfolding event_at
+      other_worlds_agree unread a = search (rules, g, l, v, block_at, w.memory, address_of, matches_still)
 
 -- ---- a world that forgets a ring, of which nothing is known any more
 
@@ -364,9 +316,6 @@ module _ (h : Header) (rings : List Ring) (k : Known) (id : ℕ) (shapes : (s : 
         (subst (λ y. FreeRing (shape_of (record h { rings = rings }) s) k.ring_of y (state_of w s) s) (sym (put_off k.ring id new_ring s other)) (subst (λ y. FreeRing y k.ring_of (k.ring s) (state_of w s) s) (sym (shapes s other)) free))
   ]
 
-  takes : Stands h k w → OtherTakes h rings k views_left w forgets.queue forgets.lengths forgets.events forgets.reported
-  takes stands = search (rules, cases_eq, there, new_ring, put_off, command_id, free_still)
-
   pub forgetting_agrees : DriverKeeps h k → OtherRings h rings k views_left → (unread : List Block) → Agrees h k unread w →
       Agrees (record h { rings = rings }) (record k { ring = views_left }) unread forgets
-  forgetting_agrees d o unread a = other_worlds_agree h rings k views_left w forgets.queue forgets.lengths forgets.events forgets.reported d o (takes a.stands) unread a
+  forgetting_agrees d o unread a = other_worlds_agree h rings k views_left w forgets.queue forgets.lengths forgets.events forgets.reported d o (search (rules, cases_eq, there, new_ring, put_off, command_id, free_still)) unread a

@@ -1,11 +1,9 @@
 -- A descriptor that is withdrawn, or a ring that is restored: what a driver keeps stays, events stay possible, and the world still agrees
-use Rattle.safety.proofs.Words.{◌≡◌, ◌≤◌, ℕ, true, arith, refl, sym, ap, rules, Withdraws, Restores, length-no_ops, split_border, number, Shape, RingView, RingChange, changed, declared, floor_number, ceiling, is_border, is_placement, move_more, GivesMore, [], ◌≢◌, ◌<◌, ◌∙◌, option_and_then, slice_get, subst, ltb-true, Block, command_of, Header, Read, IsHeader, shape_of, command_id, Known, on_ring, command_at, next_command, learned, may_be_taken, lenient, DriverKeeps, IsHeldMore, HeldMore, nat_lt, RingKeeps, IsRestored, is_stop_of, Command, device_named, entry_of, is_stopping_now, is_soiled, MovesRestored, IsDriverRing, IsUnfinished, CommandRingKeeps, StatesKeep, DeviceKeeps, List, Option, length_from, no_ops, split_at, without_descriptor, put, address_of, named_context, World, IsUnchanged, Matches, Agrees}
-use Rattle.safety.proofs.LowerLaws.{RingAlike, ceiling_more, held_same, Standing, PlacesStay, MovesAhead, RingGoesOn, SameGiven, transfer_driver, event_facts, ring_elsewhere, SameDriver, both_drivers, view_after, Alike, named_still, SameStates, RingsStay, same_stay, put_at, put_off, SameController, matches_go_on, same_controller}
+use Rattle.safety.proofs.MiddleLaws.{◌≡◌, ◌≤◌, ℕ, true, arith, refl, sym, ap, rules, Withdraws, Restores, length-no_ops, split_border, number, Shape, RingView, RingChange, changed, declared, floor_number, ceiling, is_border, is_placement, move_more, GivesMore, [], ◌≢◌, ◌<◌, ◌∙◌, option_and_then, slice_get, subst, ltb-true, Block, command_of, Header, Read, IsHeader, shape_of, command_id, Known, on_ring, command_at, next_command, learned, may_be_taken, lenient, DriverKeeps, IsHeldMore, HeldMore, nat_lt, RingKeeps, IsRestored, is_stop_of, Command, device_named, entry_of, is_stopping_now, is_soiled, MovesRestored, IsDriverRing, IsUnfinished, DeviceKeeps, List, Option, length_from, no_ops, split_at, without_descriptor, put, address_of, named_context, World, IsUnchanged, Matches, Agrees, RingAlike, ceiling_more, held_same, Standing, PlacesStay, MovesAhead, RingGoesOn, SameGiven, transfer_driver, event_facts, ring_elsewhere, SameDriver, both_drivers, view_after, Alike, named_still, SameStates, RingsStay, same_stay, put_at, put_off, SameController, matches_go_on, same_controller, unfinished_view}
 use Rattle.safety.proofs.KeptRings.{next_unfinished, command_holds}
 use Rattle.safety.proofs.AlikeEvents.{EventAlike, ReadAlike, read_alike}
 use Rattle.safety.proofs.PlacedTargets.{placed_targets}
-use Rattle.safety.proofs.HeldFurther.{EverySlot, SameStates as AlikeStates, states_from, held_more, counted, read_same, flip_driver}
-use Rattle.safety.proofs.MovesSame.{unfinished_view}
+use Rattle.safety.proofs.HeldFurther.{EverySlot, held_more, counted, read_same, flip_driver}
 use Rattle.world_state.specs.World as of_world
 
 -- A descriptor that is withdrawn, and a ring that is restored, change neither what is given of the ring nor where its pointer is
@@ -164,9 +162,6 @@ module _ (h : Header) (r : ℕ) (change : RingChange) (quiet : IsQuiet change) (
     held_is : (q : ℕ) → (l.ring q).held ≡ (k.ring q).held
     held_is q = quiet_held (k.ring q) (l.ring q) (quiet_rings h r change quiet k q)
 
-    command_ring_keeps : CommandRingKeeps h l
-    command_ring_keeps = search (rules, l, slice_get, same)
-
     device_keeps : (s e : ℕ) → DeviceKeeps h k s e → DeviceKeeps h l s e
     unfolding on_ring entry_of device_named is_soiled
     device_keeps s e old = search (rules, l)
@@ -180,9 +175,8 @@ module _ (h : Header) (r : ℕ) (change : RingChange) (quiet : IsQuiet change) (
     stays f moved = search (rules, l, quiet_ahead, quiet_rings, quiet_standing, quiet_places)
 
     ring_keeps : (IsDriverRing h r → RingKeeps (shape_of h r) k.memory (changed (shape_of h r) (k.ring r) change)) → (q : ℕ) → IsDriverRing h q → RingKeeps (shape_of h q) k.memory (l.ring q)
-    ring_keeps here q ring =
-        view_after h (λ v. RingKeeps (shape_of h q) k.memory v) k r change q
-        (λ at. subst (λ n. RingKeeps (shape_of h n) k.memory (changed (shape_of h r) (k.ring r) change)) (sym at) (here (subst (λ n. IsDriverRing h n) at ring))) (λ away. d.rings q ring)
+    unfolding on_ring
+    ring_keeps here q ring = search (rules, view_after, d.rings)
 
     pub quiet_keeps : (IsDriverRing h r → RingKeeps (shape_of h r) k.memory (changed (shape_of h r) (k.ring r) change)) →
         ((p : ℕ) (f : Command) → IsUnfinished h k p f → MovesRestored k f → MovesRestored (on_ring h k r change) f) → DriverKeeps h (on_ring h k r change)
@@ -191,7 +185,7 @@ module _ (h : Header) (r : ℕ) (change : RingChange) (quiet : IsQuiet change) (
       rings = ring_keeps here;
       commands_stay = subst IsRestored (sym same) d.commands_stay;
       clean = d.clean;
-      command_ring = command_ring_keeps;
+      command_ring = search (rules, l, slice_get, same);
       states = search (rules, l, held_is, nat_lt, floor_number, ceiling, shape_of, command_id, is_stop_of, option_and_then, command_of, slice_get, same);
       numbered = d.numbered;
       unstarted = λ off. (search (rules, l, floor_is, held_is));

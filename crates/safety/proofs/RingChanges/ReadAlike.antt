@@ -1,8 +1,6 @@
 -- What is read is possible, and learned, as it was where other rings are there
-use Rattle.safety.proofs.Words.{[], ◌≡◌, ◌+◌, ◌==◌, ◌&&◌, ◌||◌, if◌then◌else◌, ◌∷◌, ◌∙◌, ℕ, not, Bool, true, false, List, map, All, Option, Some, None, nat_lt, option_and_then, slice_get, refl, sym, ap, subst, rules, or_parts, false≢true, cond-true, All-head, All-tail, Block, BlockKind, TransferEvent, CommandCompletion, kind, code, slot, endpoint, pointer, is_success, is_halting, is_trb_error, is_command_completion, Spot, after, floor_number, address_of, RingView, Reaches, ceiling, is_data_below, is_open, is_stop_spot, Command, NoOp, DisableSlot, AddressDevice, ConfigureEndpoint, EvaluateContext, SetTrDequeue, ResetDevice, command_of, is_stop_of, is_off, is_running, may_answer_slot, can_succeed, register_or_zero, placed_by_context, changes, added_endpoints, Header, Read, IsHeader, Ring, shape_of, command_id, Known, RingSpot, on_ring, event_at, command_at, next_command, succeeded, stop_ended, finished, completed, event_read, learned, Binding, binding_in, binds, can_finish, may_be_taken, is_stopping_now, is_working, can_report, can_report_at, is_in_profile, is_impossible_transfer, is_impossible_completion, is_impossible_by_kind, is_past_room, is_impossible, event_tests, lenient_tests, lenient, changed_by, is_bad_command, names_disabled_endpoint, IsUnfinished, DriverKeeps, arith}
-use Rattle.safety.proofs.LowerLaws.{EventFacts, event_facts, transfer_slots, stop_seen_same, ChangesAlike, HasKept, HavesAlike, changes_alike, event_at_alike, event_kept, on_alike, other, transfer_alike}
+use Rattle.safety.proofs.MiddleLaws.{[], ◌≡◌, ◌+◌, ◌==◌, ◌&&◌, ◌||◌, if◌then◌else◌, ◌∷◌, ◌∙◌, ℕ, not, Bool, true, false, List, map, All, Option, Some, None, nat_lt, option_and_then, slice_get, refl, sym, ap, subst, rules, or_parts, false≢true, cond-true, All-head, All-tail, Block, BlockKind, TransferEvent, CommandCompletion, kind, code, slot, endpoint, pointer, is_success, is_halting, is_trb_error, is_command_completion, Spot, after, floor_number, address_of, RingView, Reaches, ceiling, is_data_below, is_open, is_stop_spot, Command, NoOp, DisableSlot, AddressDevice, ConfigureEndpoint, EvaluateContext, SetTrDequeue, ResetDevice, command_of, is_stop_of, is_off, is_running, may_answer_slot, can_succeed, register_or_zero, placed_by_context, changes, added_endpoints, Header, Read, IsHeader, Ring, shape_of, command_id, Known, RingSpot, on_ring, event_at, command_at, next_command, succeeded, stop_ended, finished, completed, event_read, learned, Binding, binding_in, binds, can_finish, may_be_taken, is_stopping_now, is_working, can_report, can_report_at, is_in_profile, is_impossible_transfer, is_impossible_completion, is_impossible_by_kind, is_past_room, is_impossible, event_tests, lenient_tests, lenient, changed_by, is_bad_command, names_disabled_endpoint, IsUnfinished, DriverKeeps, arith, EventFacts, event_facts, transfer_slots, stop_seen_same, ChangesAlike, HasKept, HavesAlike, changes_alike, event_at_alike, event_kept, on_alike, other, transfer_alike, KeepsRings}
 use Rattle.safety.proofs.KeptRings.{completion_facts, next_unfinished}
-use Rattle.safety.proofs.RingChanges.EventsAlike.{KeepsRings}
 
 module _ (h : Header) (rings : List Ring) (over : (ℕ → RingView) → ℕ → RingView) (Kept : ℕ → Type 0) (o : KeepsRings h rings over Kept) where
   abbrev g : Header
@@ -64,21 +62,13 @@ module _ (h : Header) (rings : List Ring) (over : (ℕ → RingView) → ℕ →
       let same = ap (can_report_at g (l k) b) (event_at_alike h rings over Kept o k b kept) ∙ report_at_alike k b (event_at h k b) (λ at is. event_kept h rings over Kept o k b at kept is) in
       λ j. is_in_profile b && (is_off (k.endpoint_state (slot b) (endpoint b)) || not (same j))
 
-  finish_alike : (k : Known) (b : Block) (q : Option Command) → can_finish (l k) b q ≡ can_finish k b q
-  unfolding can_finish
-  finish_alike k b o = grind (arith, may_answer_slot, slot, code, can_succeed, register_or_zero, not, stop_seen_same)
-
   completion_possible : (k : Known) (b : Block) → is_impossible_completion g (l k) b ≡ is_impossible_completion h k b
-  unfolding is_impossible_completion
-  completion_possible k b = search (rules, can_finish, l, next_is, finish_alike, command_at, next_command, not, taken_alike, pointer, address_of, command_shape, next_alike, code)
-
-  kind_possible : (k : Known) (n : BlockKind) (b : Block) → Has k → is_impossible_by_kind g (l k) n b ≡ is_impossible_by_kind h k n b
-  unfolding is_impossible_by_kind
-  kind_possible k o b kept = grind (arith, transfer_possible, completion_possible)
+  unfolding is_impossible_completion can_finish
+  completion_possible k b = search (rules, can_finish, l, next_is, may_answer_slot, slot, can_succeed, register_or_zero, stop_seen_same, command_at, next_command, not, taken_alike, pointer, address_of, command_shape, next_alike, code)
 
   pub read_possible : (k : Known) (b : Block) → Has k → lenient g (l k) (Read b) ≡ lenient h k (Read b)
-  unfolding lenient lenient_tests event_tests is_impossible is_past_room
-  read_possible k b kept = search (rules, g, l, nat_lt, kind_possible)
+  unfolding lenient lenient_tests event_tests is_impossible is_past_room is_impossible_by_kind
+  read_possible k b kept = search (rules, g, l, nat_lt, transfer_possible, completion_possible)
 
   -- ---- what is learned
 
@@ -116,10 +106,6 @@ module _ (h : Header) (rings : List Ring) (over : (ℕ → RingView) → ℕ →
     success_alike n p (ResetDevice s) u = (tt, (tt, tt))
     success_alike n p _ u = (tt, tt)
 
-    ended_alike : (x : Known) (c : Command) → stop_ended g (l x) c ≡ l (stop_ended h x c)
-    unfolding stop_ended
-    ended_alike x o = grind arith
-
     ended_has : (x : Known) (c : Command) → (stop_ended h x c).ring_of ≡ x.ring_of
     unfolding stop_ended
     ended_has x o = grind arith
@@ -133,13 +119,13 @@ module _ (h : Header) (rings : List Ring) (over : (ℕ → RingView) → ℕ →
     by_code n p c false u = (refl, kept)
 
     finished_alike : (b : Block) (q : Option Command) → ((c : Command) → q ≡ Some c → (p : ℕ) × IsUnfinished h k p c) → Alike (finished h k b q) (finished g (l k) b q)
-    unfolding finished
+    unfolding finished stop_ended
     finished_alike b None u = (refl, kept)
     finished_alike b (Some c) u =
         let its = u c refl in
         let both = by_code (slot b) its.0 c (code b == 1) its.1 in
         let x : Known = if code b == 1 then succeeded h k (slot b) c else k in
-        (ap (λ y. stop_ended g y c) both.0 ∙ ended_alike x c, λ s i r at. both.1 s i r (ap (λ f. f s i) (sym (ended_has x c)) ∙ at))
+        (ap (λ y. stop_ended g y c) both.0 ∙ (grind arith), λ s i r at. both.1 s i r (ap (λ f. f s i) (sym (ended_has x c)) ∙ at))
 
     completed_alike : (b : Block) → ((c : Command) → command_at h k (next_command h k) ≡ Some c → (p : ℕ) × IsUnfinished h k p c) → Alike (completed h k b) (completed g (l k) b)
     unfolding completed on_ring

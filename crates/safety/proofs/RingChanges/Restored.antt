@@ -1,10 +1,6 @@
 -- A ring that a row starts or moves is restored first: all of it stands as declared, and nothing of it is free any more
-use Rattle.safety.proofs.Words.{[], ◌≡◌, ◌∷◌, ◌∙◌, ℕ, ◌≢◌, false, List, refl, sym, ap, Block, RingChange, Header, Read, IsHeader, command_id, World, Known, on_ring, learned, lenient, DriverKeeps, HeldMore, Agrees, ArePossible, Runs, all_read, ◌||◌, not, Bool, Option, None, Some, option_and_then, slice_get, inl, inr, rules, is_not_restored, Restores, restores_keeps, is_left, restored, restored_on, ring_moved, ring_restored, some_flips, command_of, flat_map, or_parts, Ring, list_any, none-some, same_Some, block_at, IsRestored, address_of, cycle_of, positions_given, flips_passed, unrestored, is_declared_as, Command, Row, Write, Bell, shape_of, driver_rings, command_at, command_given, MayCome, MovesRestored, KeepsPassed, IsTransferRing, arith}
+use Rattle.safety.proofs.UpperLaws.{[], ◌≡◌, ◌∷◌, ◌∙◌, ℕ, ◌≢◌, false, List, refl, sym, ap, Block, RingChange, Header, Read, IsHeader, command_id, World, Known, on_ring, learned, lenient, DriverKeeps, HeldMore, Agrees, ArePossible, Runs, all_read, ◌||◌, not, Bool, Option, None, Some, option_and_then, slice_get, inl, inr, rules, is_not_restored, Restores, restores_keeps, is_left, restored, restored_on, ring_moved, ring_restored, some_flips, command_of, flat_map, or_parts, Ring, list_any, none-some, same_Some, block_at, IsRestored, address_of, cycle_of, positions_given, flips_passed, unrestored, is_declared_as, Command, Row, Write, Bell, shape_of, driver_rings, command_at, command_given, MayCome, MovesRestored, KeepsPassed, IsTransferRing, arith, more_law, read_on, behind_kept, event_behind, read_same, none_fewer, quiet_keeps, restored_agrees, held_more_same, held_more_twice, weaker, driver_test, ring_elsewhere, ring_here, ring_shape, transfer_driver, transfer_not_command, HasRing, has_ring, none_of_ring, QuietSquare, quiet_square, IsQuiet, unrestored_before}
 use Rattle.safety.proofs.DriverHistories.{kept_driver}
-use Rattle.safety.proofs.MiddleLaws.{more_law, read_on, behind_kept, event_behind, read_same, none_fewer, quiet_keeps, restored_agrees}
-use Rattle.safety.proofs.LowerLaws.{held_more_same, held_more_twice, weaker, driver_test, ring_elsewhere, ring_here, ring_shape, transfer_driver, transfer_not_command, HasRing, has_ring, none_of_ring}
-use Rattle.safety.proofs.RingChanges.QuietKeeps.{QuietSquare, quiet_square, IsQuiet}
-use Rattle.safety.proofs.PassedBehind.{unrestored_before}
 
 -- A descriptor that is withdrawn, or a ring that is restored, beneath all events that aren't read yet: the run goes on
 
@@ -117,14 +113,10 @@ module _ (h : Header) (is : IsHeader h) (k : Known) (d : DriverKeeps h k) where
     pub index : ℕ
     pub has : k.ring_of slot index ≡ Some r
 
-  moved_of : (o : Option Command) (r : ℕ) → ring_moved k o ≡ Some r → OfEndpoint r
-  unfolding ring_moved
-  moved_of o r at = grind (arith, none-some)
-
   restored_of : (row : Row) (r : ℕ) → ring_restored h k row ≡ Some r → OfEndpoint r
-  unfolding ring_restored
+  unfolding ring_restored ring_moved
   restored_of (Bell s t) r at = record { slot = s; index = t; has = at }
-  restored_of (Write a w) r at = moved_of (command_given h k a w) r at
+  restored_of (Write a w) r at = (grind (arith, none-some))
   restored_of _ r at = absurd (none-some r at)
 
   transfer : (r : ℕ) → OfEndpoint r → IsTransferRing h r
@@ -134,19 +126,11 @@ module _ (h : Header) (is : IsHeader h) (k : Known) (d : DriverKeeps h k) where
 
   pub row_keeps : (row : Row) → is_left h k (ring_restored h k row) ≡ false → DriverKeeps h (restored h k row)
   unfolding restored_on is_left
-  row_keeps row good = by (ring_restored h k row) refl good
-    where
-      by : (o : Option ℕ) → ring_restored h k row ≡ o → is_left h k o ≡ false → DriverKeeps h (restored_on h k o)
-      by None at good = d
-      by (Some r) at good = restored_keeps h is r (transfer r (restored_of row r at)) k d good
+  row_keeps row good = grind (arith, restored_keeps h is, transfer, restored_of row)
 
   pub row_runs : (row : Row) (w : World) → is_left h k (ring_restored h k row) ≡ false → Runs h k w → Runs h (restored h k row) w
   unfolding restored_on is_left
-  row_runs row w good run = by (ring_restored h k row) refl good
-    where
-      by : (o : Option ℕ) → ring_restored h k row ≡ o → is_left h k o ≡ false → Runs h (restored_on h k o) w
-      by None at good = run
-      by (Some r) at good = restored_runs h is r (transfer r (restored_of row r at)) k w d good run
+  row_runs row w good run = grind (arith, restored_runs h is, transfer, restored_of row)
 
   -- ---- the row may come there
 
@@ -167,14 +151,6 @@ module _ (h : Header) (is : IsHeader h) (k : Known) (d : DriverKeeps h k) where
       by None at = refl
       by (Some r) at = ring_elsewhere h k r (command_id h) Restores (λ same. transfer_not_command h is r (transfer r (restored_of row r at)) (sym same))
 
-  given_same : (row : Row) (a w : ℕ) → command_given h (restored h k row) a w ≡ command_given h k a w
-  unfolding command_given command_at
-  given_same row a w = search (rules, option_and_then, command_of, slice_get, positions_given, shape_of, command_id, command_ring_same)
-
-  moved_restored : (a w : ℕ) (c : Command) → command_given h k a w ≡ Some c → MovesRestored (restored h k (Write a w)) c
-  unfolding ring_restored ring_moved
-  moved_restored a w c given s i p cycle at r has = search (rules, none_free, ring_restored, ring_moved, ring_of_same)
-
   bell_restored : (s t r : ℕ) → (restored h k (Bell s t)).ring_of s t ≡ Some r → IsRestored ((restored h k (Bell s t)).ring r)
   unfolding ring_restored
   bell_restored s t r has = none_free (ring_restored h k (Bell s t)) r (sym (ap (λ f. f s t) (ring_of_same (ring_restored h k (Bell s t)))) ∙ has)
@@ -188,4 +164,5 @@ module _ (h : Header) (is : IsHeader h) (k : Known) (d : DriverKeeps h k) where
       ap (λ s. flips_passed s (m.ring r) a w) has.shape ∙ ap (λ n. flips_passed has.ring.shape (m.ring n) a w) (sym has.id) ∙ here
 
   pub row_comes : (row : Row) → lenient h (restored h k row) row ≡ [] → some_flips h (restored h k row) row ≡ false → MayCome h (restored h k row) row
-  row_comes row clean none = search (rules, passed_kept, moved_restored, given_same, bell_restored)
+  unfolding command_given command_at ring_restored ring_moved
+  row_comes row clean none = search (rules, passed_kept, none_free, ring_restored, ring_moved, ring_of_same, option_and_then, command_of, slice_get, positions_given, shape_of, command_id, command_ring_same, bell_restored)

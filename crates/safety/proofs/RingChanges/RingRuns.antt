@@ -1,12 +1,9 @@
 -- Behind a ring that comes or goes the run goes on, whatever is unread
-use Rattle.safety.proofs.Words.{rules, [], ◌≡◌, ◌∷◌, ◌∙◌, ℕ, false, List, filter, Option, None, option_and_then, slice_get, is_some, refl, sym, ap, subst, ◌||◌, ◌==◌, ◌*◌, eq-eqb, new_ring, IsComing, emptied, forgotten, is_bad_free, is_bad_ring, is_bad_segment, shows_first_lap, with_ring, without_ring, fun_ext, range_of_entry, entry_of, slots, cond-true, segment_ranges, table_range, entry_ranges, device_ranges, touches_ring, is_soiled, cases_option, false≢true, flat_map, list_any, or_parts, Block, RingView, due_positions, shape_of, command_of, Header, Read, Ring, IsHeader, ring_with, command_id, World, counted, Known, command_at, unfinished_positions, learned, lenient, open_ranges, context_ranges, range_of_command, covers, is_in_range_lease, DriverKeeps, Agrees, ArePossible, Runs, all_read, arith}
+use Rattle.safety.proofs.UpperLaws.{rules, [], ◌≡◌, ◌∷◌, ◌∙◌, ℕ, false, List, filter, None, option_and_then, slice_get, is_some, refl, sym, ap, subst, ◌||◌, ◌==◌, ◌*◌, eq-eqb, new_ring, IsComing, emptied, forgotten, is_bad_free, is_bad_ring, is_bad_segment, shows_first_lap, with_ring, without_ring, fun_ext, range_of_entry, entry_of, slots, cond-true, segment_ranges, table_range, entry_ranges, device_ranges, touches_ring, is_soiled, cases_option, false≢true, flat_map, list_any, or_parts, Block, RingView, due_positions, shape_of, command_of, Header, Read, Ring, IsHeader, ring_with, command_id, World, counted, Known, command_at, unfinished_positions, learned, lenient, open_ranges, context_ranges, range_of_command, covers, is_in_range_lease, DriverKeeps, Agrees, ArePossible, Runs, all_read, arith, read_on, gone_ring_agrees, new_ring_agrees, new_ring_kept, new_ring_header, agrees_once_counted}
 use Rattle.safety.proofs.DriverHistories.{kept_driver}
-use Rattle.safety.proofs.MiddleLaws.{read_on, gone_ring_agrees}
 use Rattle.safety.proofs.RingChanges.Forgotten.{forgotten_agrees, forgotten_keeps, forgotten_learned, forgotten_read}
-use Rattle.safety.proofs.RingChanges.NewRings.{new_ring_agrees, new_ring_kept, new_ring_header}
 use Rattle.safety.proofs.RingChanges.Squares.{cleared, cleared_apart, cleared_here, learned_with, learned_without, read_with, read_without, still_comes, still_goes}
 use Rattle.safety.proofs.RingChanges.Forgotten as forgets
-use Rattle.safety.proofs.RowRegister.{agrees_once_counted}
 
 -- ---- a ring that comes
 
@@ -36,15 +33,11 @@ module _ (h : Header) (is : IsHeader h) (r : Ring) (coming : IsComing r) where
     unfolding entry_ranges forgotten range_of_entry entry_of
     entries_same = ap (λ e. flat_map e slots) (fun_ext (λ s. (grind arith)))
 
-    ranges_same : open_ranges h f ≡ open_ranges h k
-    unfolding open_ranges forgotten device_ranges
-    ranges_same = search (rules, cleared, command_id, cleared_apart, forgets.no_command, context_ranges, f, contexts_same, forgotten, segment_ranges, table_range, entries_same, device_ranges)
-
     pub bad_same : is_bad_ring h f r ≡ is_bad_ring h k r
-    unfolding is_bad_ring is_bad_segment is_in_range_lease is_soiled shows_first_lap forgotten
+    unfolding is_bad_ring is_bad_segment is_in_range_lease is_soiled shows_first_lap forgotten open_ranges device_ranges
     bad_same =
         ap (λ ls. is_some (ring_with h r.id) || list_any (λ s. touches_ring h s.base (16 * s.count) || list_any (covers h s.base (16 * s.count)) ls || is_soiled k s.base (16 * s.count) || shows_first_lap k s) r.shape.segments)
-        ranges_same
+        (search (rules, cleared, command_id, cleared_apart, forgets.no_command, context_ranges, f, contexts_same, forgotten, segment_ranges, table_range, entries_same, device_ranges))
 
   record Came (k : Known) (unread : List Block) : Type 0 where
     pub possible : ArePossible (with_ring h r) (forgotten k r.id) unread

@@ -1,19 +1,17 @@
 -- The headline where rings come and go: behind each step of each run beside rows that break no rule the world is safe
-use Rattle.std.proofs.Common.{[], ◌≡◌, ◌∷◌, ◌++◌, ◌∙◌, false, List, Some, All, reverse, option_map, refl, sym, ap, subst, inl, inr, append_assoc, append-nil, rules}
-use Rattle.safety.proofs.Words.{opening, TraceRow, AreKept, IsKept, FitsFields, RingsHeadline, Scene, header_after, header_now, known_after, known_now, row_made, row_next, scene_reached, step_made, restored, ring_restored, Row, false≢true, reverse-append, All-cons, All-head, All-tail, none-some, same_Some, Header, Step, NextRow, IsHeader, IsStep, World, IsSafe, Known, DriverKeeps, Runs}
-use Rattle.controller_model.specs.Steps as steps
+use Rattle.safety.proofs.UpperLaws.{[], ◌≡◌, ◌∷◌, ◌++◌, ◌∙◌, false, List, Some, All, reverse, refl, sym, ap, subst, inl, inr, append_assoc, append-nil, rules, opening, TraceRow, AreKept, IsKept, FitsFields, RingsHeadline, Scene, header_after, header_now, known_after, known_now, row_made, row_next, scene_reached, step_made, restored, ring_restored, false≢true, reverse-append, All-cons, All-head, All-tail, none-some, same_Some, Header, Step, NextRow, IsHeader, IsStep, World, IsSafe, Known, DriverKeeps, Runs, more_law, nothing_kept, gone_ring_header, gone_ring_kept, mapped, some_then, opens, safe, clean_tests, Comes, Goes, Plain}
+use Rattle.std.proofs.Common.{option_map}
 use Rattle.safety.specs.Invariant.{Holds}
 use Rattle.safety.proofs.DriverHistories.{kept_driver, run_keeps}
-use Rattle.safety.proofs.MiddleLaws.{more_law, nothing_kept, gone_ring_header, gone_ring_kept, mapped, some_then}
 use Rattle.safety.proofs.HeadlineFrom.{RowLaw, row_holds, step_goes, runs_on}
-use Rattle.safety.proofs.LowerLaws.{opens, safe, clean_tests}
 use Rattle.safety.proofs.RowRuns.{row_runs}
 use Rattle.safety.proofs.Squares.{square_law}
 use Rattle.safety.proofs.StillRings.{still_rings}
-use Rattle.traces.specs.declared.trace_row.TraceRow.TheVariants.{Comes, Goes, Plain, Withdraws}
+use Rattle.traces.specs.declared.trace_row.TraceRow.TheVariants.{Withdraws}
 use Rattle.safety.proofs.RingChanges.Restored.{row_comes, row_keeps, row_runs as restored_row_runs, stopped_still}
 use Rattle.safety.proofs.RingChanges.Withdrawn.{withdraw_keeps, withdraw_runs}
 use Rattle.safety.proofs.RingChanges.RingRuns.{comes_header, comes_keeps, comes_runs, goes_runs}
+use Rattle.controller_model.specs.Steps as steps
 
 -- ---- one row, one step, where the header is that of the rings that are there
 
@@ -26,10 +24,19 @@ module _ (h : Header) (is : IsHeader h) (k : Known) (keeps : DriverKeeps h k) wh
   row_goes _ w v is_row run kept at = search (rules, row_holds, law, row_keeps, restored_row_runs, row_comes, same_Some, withdraw_runs, comes_runs, goes_runs)
 
 -- a row that is kept isn't behind a stop
-row_off : (h : Header) (k : Known) (row : Row) → IsKept h k (Plain row) → k.stopped ≡ false
-row_off h k row kept = sym (stopped_still h k (ring_restored h k row)) ∙ (clean_tests h (restored h k row) row kept.0).0
+pub kept_on : (h : Header) (k : Known) (row : TraceRow) → IsKept h k row → k.stopped ≡ false
+kept_on h k (Plain row) kept = sym (stopped_still h k (ring_restored h k row)) ∙ (clean_tests h (restored h k row) row kept.0).0
+kept_on h k _ kept = kept.0
 
 -- ---- whole runs
+
+-- rows told from their history
+pub one_more : (row : TraceRow) (rest past : List TraceRow) → reverse (row ∷ rest) ++ past ≡ reverse rest ++ (row ∷ past)
+one_more row rest past = ap (λ l. l ++ past) (reverse-append (row ∷ []) rest) ∙ append_assoc (reverse rest) (row ∷ []) past
+
+pub later_kept : (h : Header) (xs ys : List TraceRow) → AreKept h (xs ++ ys) → AreKept h ys
+later_kept h [] ys kept = kept
+later_kept h (x ∷ xs) ys kept = later_kept h xs ys kept.0
 
 module _ (h : Header) (is : IsHeader h) where
   -- what holds behind rows that break no rule
@@ -42,7 +49,7 @@ module _ (h : Header) (is : IsHeader h) where
   now_keeps (Plain row ∷ past) are kept on =
       let g : Header = header_now h past in
       let k : Known = known_now h past in
-      let p = now_keeps past (All-tail FitsFields (Plain row) past are) kept.0 (row_off (header_now h past) (known_now h past) row kept.1) in
+      let p = now_keeps past (All-tail FitsFields (Plain row) past are) kept.0 (kept_on (header_now h past) (known_now h past) (Plain row) kept.1) in
       record {
         headed = p.headed;
         keeps = kept_driver g p.headed (restored g k row) row (row_keeps g p.headed k p.keeps row kept.1.1) (row_comes g p.headed k p.keeps row kept.1.0 kept.1.2) on;
@@ -64,13 +71,6 @@ module _ (h : Header) (is : IsHeader h) where
         keeps = gone_ring_kept (header_now h past) p.headed (known_now h past) p.keeps id kept.1.1;
       }
 
-  later_kept : (xs ys : List TraceRow) → AreKept h (xs ++ ys) → AreKept h ys
-  later_kept [] ys kept = kept
-  later_kept (x ∷ xs) ys kept = later_kept xs ys kept.0
-
-  one_more : (row : TraceRow) (rest past : List TraceRow) → reverse (row ∷ rest) ++ past ≡ reverse rest ++ (row ∷ past)
-  one_more row rest past = ap (λ l. l ++ past) (reverse-append (row ∷ []) rest) ∙ append_assoc (reverse rest) (row ∷ []) past
-
   -- a run has come to a scene, with `past` the rows that were made, the newest first
   record CameTo (past : List TraceRow) (x : Scene) : Type 0 where
     made : All FitsFields past
@@ -80,7 +80,7 @@ module _ (h : Header) (is : IsHeader h) where
     holds : Holds (header_now h past) (known_now h past) x.world
 
   here : (past : List TraceRow) (x : Scene) → CameTo past x → Runs (header_now h past) (known_now h past) x.world → Keeps past
-  here past x c run = now_keeps past c.made (later_kept (reverse x.rows) past c.kept) run.on
+  here past x c run = now_keeps past c.made (later_kept h (reverse x.rows) past c.kept) run.on
 
   -- ---- a row
 
@@ -90,7 +90,7 @@ module _ (h : Header) (is : IsHeader h) where
   next past x y (row ∷ rest) same c at =
       let there = mapped (λ w. let z : Scene = record { header = header_after (header_now h past) row; rows = rest; world = steps.counted (header_now h past) w } in z) (row_made (header_now h past) x.world row) y at in
       let kept : AreKept h (reverse rest ++ (row ∷ past)) = subst (AreKept h) (one_more row rest past) (subst (λ l. AreKept h (reverse l ++ past)) same c.kept) in
-      let own : AreKept h (row ∷ past) = later_kept (reverse rest) (row ∷ past) kept in
+      let own : AreKept h (row ∷ past) = later_kept h (reverse rest) (row ∷ past) kept in
       let left : All FitsFields (row ∷ rest) = subst (All FitsFields) same c.left in
       let is_row : FitsFields row = All-head FitsFields row rest left in (
         row,
@@ -102,16 +102,10 @@ module _ (h : Header) (is : IsHeader h) where
               header = refl;
               holds = elim c.holds [
                 | inl run ↦ let p = here past x c run in row_goes (header_now h past) p.headed (known_now h past) p.keeps row x.world there.0 is_row run own.1 there.1
-                | inr over ↦ absurd (false≢true (sym (off row own.1) ∙ over.stopped))
+                | inr over ↦ absurd (false≢true (sym (kept_on (header_now h past) (known_now h past) row own.1) ∙ over.stopped))
               ];
             }),
       )
-    where
-      off : (row : TraceRow) → IsKept (header_now h past) (known_now h past) row → (known_now h past).stopped ≡ false
-      off (Plain row) kept = row_off (header_now h past) (known_now h past) row kept
-      off (Withdraws r p) kept = kept.0
-      off (Comes r) kept = kept.0
-      off (Goes id) kept = kept.0
 
   -- ---- a controller's step: the same rows stay
 
@@ -129,12 +123,9 @@ module _ (h : Header) (is : IsHeader h) where
       by NextRow is_step at = let n = next past x y x.rows refl c at in (n.0 ∷ past, n.1)
       by s is_step at = (past, stays past x y s is_step (λ e. cc) c at)
 
-  first : (rows : List TraceRow) → All FitsFields rows → AreKept h (reverse rows) → CameTo [] (record { header = h; rows = rows; world = opening [] })
-  first rows are kept = search (rules, reverse, append-nil, opens)
-
   came : (rows : List TraceRow) → All FitsFields rows → AreKept h (reverse rows) → (made : List Step) (x : Scene) → All IsStep made → scene_reached h rows made ≡ Some x →
       (past : List TraceRow) × CameTo past x
-  came rows are kept [] x all at = ([], subst (CameTo []) (same_Some (record { header = h; rows = rows; world = opening [] }) x at) (first rows are kept))
+  came rows are kept [] x all at = ([], subst (CameTo []) (same_Some (record { header = h; rows = rows; world = opening [] }) x at) (search (rules, reverse, append-nil, opens)))
   came rows are kept (s ∷ older) x all at =
       let before = some_then (λ z. step_made z s) (scene_reached h rows older) x at in
       let came_before = came rows are kept older before.0 (All-tail IsStep s older all) before.1 in

@@ -1,10 +1,6 @@
 -- What is said of each segment of a ring holds of each of its blocks and words
-use Rattle.safety.proofs.Words.{◌≡◌, ◌+◌, ◌-◌, ◌*◌, ◌/◌, ◌%◌, length, ◌<◌, ◌≤◌, ◌==◌, ◌∙◌, ℕ, true, false, nat_le, nat_lt, arith, sym, ap, leb-true, ltb-true, eqb-true, rules, Segment, is_bad_segment, shows_first_lap, list_any, range_with_len, and_parts, or_parts, false_from_ne_true, false≢true, some_of, IsIn, is_inside, overlap, segment_has, Shape, IsShape, Xfer, Header, touches_ring, Known, is_in_range_lease, is_soiled, open_ranges, covers}
-use Rattle.segments.specs.Places.{touches}
-use Rattle.safety.proofs.Areas.{clean_word}
+use Rattle.safety.proofs.LowerLaws.{◌≡◌, ◌+◌, ◌-◌, ◌*◌, ◌/◌, ◌%◌, length, ◌<◌, ◌≤◌, ◌==◌, ◌∙◌, ℕ, true, false, nat_le, nat_lt, arith, sym, ap, leb-true, ltb-true, eqb-true, rules, Segment, is_bad_segment, shows_first_lap, list_any, range_with_len, and_parts, or_parts, false_from_ne_true, false≢true, some_of, IsIn, is_inside, overlap, segment_has, Shape, IsShape, Xfer, Header, touches_ring, Known, is_in_range_lease, is_soiled, open_ranges, covers, touches, clean_word, each_passes, fails_in, in_range}
 use Rattle.safety.proofs.AreaFacts.{overlap_turned}
-use Rattle.safety.proofs.Headers.{each_passes}
-use Rattle.safety.proofs.UnfinishedLists.{fails_in, in_range}
 
 -- a segment of a transfer ring lies on a boundary of 16 bytes, and isn't empty
 segment_lies : (shape : Shape) → IsShape shape → shape.kind ≡ Xfer → (s : Segment) → IsIn s shape.segments → (s.base % 16 ≡ 0) × (0 < s.count)

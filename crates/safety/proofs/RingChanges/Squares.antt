@@ -1,9 +1,6 @@
 -- A ring that comes or goes beneath an event that isn't read yet: the two may change places
-use Rattle.safety.proofs.Words.{[], ◌≡◌, ◌≢◌, ◌*◌, ◌==◌, ◌||◌, ◌++◌, ◌∷◌, ◌∙◌, ℕ, not, Bool, true, false, Some, filter, get_or, is_some, refl, sym, ap, inl, inr, eq-eqb, ne_eqb, rules, put, Segment, new_ring, IsComing, forgotten, is_bad_free, is_bad_ring, is_bad_segment, is_had, shows_first_lap, with_ring, without_ring, cases_eq, cases_option, cond-true, cond-false, false≢true, false_from_ne_true, or_from, fun_ext, All-weaker, All-get_or, some_of, range_with_len, list_any, Block, RingView, Header, Read, IsHeader, Ring, ring_with, ring_having, touches_ring, is_in_range_lease, is_soiled, open_ranges, covers, is_ring, is_being_bound, Known, learned, lenient, Binding, binds, ring_bound, is_placed, DriverKeeps, is_transfer_ring}
+use Rattle.safety.proofs.UpperLaws.{[], ◌≡◌, ◌≢◌, ◌*◌, ◌==◌, ◌||◌, ◌++◌, ◌∷◌, ◌∙◌, ℕ, not, Bool, true, false, Some, filter, get_or, is_some, refl, sym, ap, inl, inr, eq-eqb, ne_eqb, rules, put, Segment, new_ring, IsComing, forgotten, is_bad_free, is_bad_ring, is_bad_segment, is_had, shows_first_lap, with_ring, without_ring, cases_eq, cases_option, cond-true, cond-false, false≢true, false_from_ne_true, or_from, fun_ext, All-weaker, All-get_or, some_of, range_with_len, list_any, Block, RingView, Header, Read, IsHeader, Ring, ring_with, ring_having, touches_ring, is_in_range_lease, is_soiled, open_ranges, covers, is_ring, is_being_bound, Known, learned, lenient, Binding, binds, ring_bound, is_placed, DriverKeeps, is_transfer_ring, ring_is, transfer_ring, having_transfer, HasKept, HavesAlike, IsGood, each_good, event_behind, Behind, none_fewer, ranges_fewer, BindsAlike, read_possible, KeepsRings}
 use Rattle.safety.proofs.BoundBehind.{bound_before}
-use Rattle.safety.proofs.LowerLaws.{ring_is, transfer_ring, having_transfer, HasKept, HavesAlike, IsGood, each_good}
-use Rattle.safety.proofs.MiddleLaws.{event_behind, Behind, none_fewer, ranges_fewer, BindsAlike, read_possible}
-use Rattle.safety.proofs.RingChanges.EventsAlike.{KeepsRings}
 use Rattle.safety.proofs.RingChanges.ReadAlike.{read_alike}
 use Rattle.safety.proofs.RingChanges.NewRings as new
 use Rattle.safety.proofs.RingChanges.GoneRings as gone
@@ -118,13 +115,7 @@ module _ (h : Header) (is : IsHeader h) (k : Known) (d : DriverKeeps h k) (id : 
 
   haves_gone : (b : Binding) → is_placed h k (ring_bound h b) b ≡ true → is_ring id (ring_bound h b) ≡ false → HavesAlike h (filter keep h.rings) (cleared id) (Other id) b.pointer
   unfolding is_placed ring_bound
-  haves_gone b placed unbound =
-      elim (cases_option (ring_having h b.pointer)) [
-        | inl none ↦ absurd (false≢true (sym (ap (λ q. is_placed h k q b) none) ∙ placed))
-        | inr some ↦
-            let other : (s : ℕ) → ring_having h b.pointer ≡ Some s → s ≢ id = λ s names same. false≢true (sym unbound ∙ ap (is_ring id) names ∙ eq-eqb s id same) in
-            (gone.having_same h is k d id good b.pointer some.0 (other some.0 some.1) some.1 ∙ sym some.1, other)
-      ]
+  haves_gone b placed unbound = search (rules, cases_option, false≢true, gone.having_same, eq-eqb)
 
   binds_gone : BindsAlike h (filter keep h.rings) (cleared id) (Other id) rings_gone k
   binds_gone p c u i b low =

@@ -30,11 +30,4 @@ moved items done end within fits =
 -- a piece was put behind the bytes
 pub come_behind : (done end count len : ℕ) (items old piece post more ahead : List ℕ) → done ≡ 0 → items ≡ old → end ≤ length old → count ≤ length piece → end + count ≤ len → drop done (take end old) ≡ ahead →
     drop done (take (end + count) (take len ((take end items ++ (piece ++ post)) ++ more))) ≡ ahead ++ take count piece
-come_behind done end count len items old piece post more ahead front is fits some room before =
-    let joined : (take end items ++ (piece ++ post)) ++ more ≡ take end old ++ (piece ++ (post ++ more)) =
-    append_assoc (take end items) (piece ++ post) more ∙ ap (λ l. take end items ++ l) (append_assoc piece post more) ∙ ap (λ l. take end l ++ (piece ++ (post ++ more))) is in
-    ap (λ d. drop d (take (end + count) (take len ((take end items ++ (piece ++ post)) ++ more)))) front
-    ∙ take-take (end + count) len ((take end items ++ (piece ++ post)) ++ more) room ∙ ap (take (end + count)) joined
-    ∙ ap (λ n. take n (take end old ++ (piece ++ (post ++ more)))) (ap (λ n. n + count) (sym (length-take-le end old fits)))
-    ∙ take-append-add (take end old) (piece ++ (post ++ more)) count ∙ ap (λ l. take end old ++ l) (take-append-le count piece (post ++ more) some)
-    ∙ ap (λ l. l ++ take count piece) (sym (ap (λ d. drop d (take end old)) front) ∙ before)
+come_behind done end count len items old piece post more ahead front is fits some room before = grind (arith, append_assoc, take-take, length-take-le, take-append-add, take-append-le)

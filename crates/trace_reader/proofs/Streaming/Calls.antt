@@ -1,8 +1,5 @@
 -- What one call answers, by the first line of the bytes that stand ahead
-use Rattle.trace_reader.proofs.Words.{rules, ◌≡◌, ◌≤◌, ◌<◌, ◌∷◌, ◌++◌, ◌∙◌, ℕ, List, [], Bool, true, false, Option, Some, None, Result, Ok, Err, refl, ap, sym, subst, append-nil, append_assoc, drop, length, length-append, arith, lt-ltb, Consumes-nil, drop_at, IsAtEnd, most_bytes, ids_with, Row, TraceRow, Plain, lines_of-ended, lines_of-nothing, TextLine, behind_content, lines_of, LineFault, LineError, Fault, Memory, AnswersRow, State, behind_row, most_of, next_number, read_line, BeginsWithRow, is_too_long, StreamFault, IsFilled, IsHeld, OfText, IsCall, behind_answer, fault_of, Call, call_in, call_on, next_row}
-use Rattle.trace_reader.specs.declared.row_reader.fault.StreamFault.TheVariants.{Line}
-use Rattle.trace_reader.specs.Streaming.Ahead.{Comes}
-use Rattle.trace_reader.proofs.Streaming.FirstLines.{IsCut, NoFeed, ended_behind, ended_lines, long_line, no_feed_in, unended_whole}
+use Rattle.trace_reader.proofs.MiddleLaws.{rules, ◌≡◌, ◌≤◌, ◌<◌, ◌∷◌, ◌++◌, ◌∙◌, ℕ, List, [], Bool, true, false, Option, Some, None, Result, Ok, Err, refl, ap, sym, subst, append-nil, append_assoc, drop, length, length-append, arith, lt-ltb, Consumes-nil, drop_at, IsAtEnd, most_bytes, ids_with, Row, TraceRow, Plain, lines_of-ended, lines_of-nothing, TextLine, behind_content, lines_of, LineFault, LineError, Fault, Memory, AnswersRow, State, behind_row, most_of, next_number, read_line, BeginsWithRow, is_too_long, StreamFault, IsFilled, IsHeld, OfText, IsCall, behind_answer, fault_of, Call, call_in, call_on, next_row, Line, IsCut, NoFeed, ended_behind, ended_lines, long_line, no_feed_in, unended_whole, Comes}
 use Rattle.trace_reader.proofs.Streaming.LineEnds.{ended_if_read, long_alike}
 
 -- ---- the bytes that came, and those that may still come
@@ -65,17 +62,7 @@ module _ (st : State) (held : Option (List ℕ)) (ahead rest : List ℕ) (line :
     same = unended_whole ahead rest line cut unended ∙ append-nil line.content
 
     long_bad : 0 < length ahead → most_bytes < length ahead → IsBadAhead st held ahead fault
-    long_bad some many =
-        let later = some_held held in
-        let first = long_line ahead later.0 some (subst NoFeed (sym same) cut.one) in
-        record {
-          later = later.0;
-          is = later.1;
-          first = first.line;
-          others = first.lines;
-          are = first.are;
-          bad = long_alike st line first.line fault (long_is line (omega (arith, ap length same, many))) (long_is first.line (omega (arith, first.long, many))) is;
-        }
+    long_bad some many = grind (arith, some_held, long_line, NoFeed, same, long_alike, long_is, some_held held, long_line ahead (some_held held).0 some (subst NoFeed (sym same) cut.one))
 
     no_feed : (content more : List ℕ) → ahead ≡ content ++ 10 ∷ more → ⊥
     no_feed content more feed = no_feed_in content more (subst NoFeed (sym same ∙ feed) cut.one)

@@ -1,12 +1,7 @@
 -- All calls on a text say what is read of the whole text
-use Rattle.trace_reader.proofs.Words.{rules, ◌≡◌, inl, inr, ◌+◌, ◌-◌, ◌≤◌, ◌∷◌, ◌∙◌, ℕ, List, [], Bool, true, false, cond, Option, Some, None, Result, Ok, Err, refl, ap, sym, subst, length, map, nat_lt, arith, has_ring_rows, TraceRow, lines_of-ended, lines_of-nothing, TextLine, lines_of, LineFault, taken, with_taken, take_lines, text_taken, State, behind_row, go_on, next_number, read_line, start, trace_of, whole, with_said, Said, SaysRing, SaysRow, Call, behind_line, call_in, call_on, opened_by, with_rows, next_row, opened, opened_in, GivenOf, answered, given_taken, joined, joined_behind, read_by_calls, rows_given, with_given, taken_by_calls}
-use Rattle.trace_reader.specs.declared.fault.LineFault.TheVariants.{Header as BadHeader}
+use Rattle.trace_reader.proofs.UpperLaws.{rules, ◌≡◌, inl, inr, ◌+◌, ◌-◌, ◌≤◌, ◌∷◌, ◌∙◌, ℕ, List, [], Bool, true, false, Option, Some, None, Result, Ok, Err, refl, ap, sym, length, map, arith, TraceRow, lines_of-ended, lines_of-nothing, TextLine, lines_of, LineFault, taken, with_taken, take_lines, text_taken, State, behind_row, go_on, next_number, read_line, start, trace_of, whole, with_said, Said, SaysRing, SaysRow, behind_line, call_on, opened_by, next_row, opened, opened_in, GivenOf, answered, given_taken, joined, joined_behind, read_by_calls, rows_given, with_given, taken_by_calls, IsGood, read_from_good, step_from_read, cut, dropped, ended_if_read}
 use Rattle.trace_reader.proofs.DriverTraces.{all_taken}
-use Rattle.trace_reader.proofs.SpelledSaid.{stands}
-use Rattle.trace_reader.proofs.SpelledLines.{IsGood, read_from_good, step_from_read}
-use Rattle.trace_reader.proofs.Streaming.Calls.{call_of}
-use Rattle.trace_reader.proofs.Streaming.FirstLines.{alone, cut, dropped}
-use Rattle.trace_reader.proofs.Streaming.LineEnds.{ended_if_read}
+use Rattle.trace_reader.proofs.Streaming.FirstLines.{alone}
 use Rattle.trace_reader.proofs.Streaming.Openings.{step_of}
 
 -- ---- the lines that are left
@@ -29,22 +24,15 @@ lines_left (byte ∷ text) line lines are ended =
 
 -- ---- the rows
 
-ring_said : (st next : State) (line : TextLine) (said : Said) → st.begun ≡ true → IsGood st line said → with_said st (Some said) ≡ (next, None) → ⊥
-ring_said st next line said begun good is = search rules
-
 pub no_ring_read : (st next : State) (line : TextLine) → st.begun ≡ true → 2 ≤ st.lines → read_line st line ≡ Ok (next, None) → ⊥
-no_ring_read st next line begun behind is = let s = step_from_read st line (next, None) behind is in ring_said st next line s.0 begun s.1 s.2
-
--- a row that may stand where no row is may stand behind rows
-stands_behind : (ring_rows begun : Bool) (row : TraceRow) → stands ring_rows begun (SaysRow row) ≡ true → stands ring_rows true (SaysRow row) ≡ true
-stands_behind ring_rows begun row there = search rules
+no_ring_read st next line begun behind is = let s = step_from_read st line (next, None) behind is in search rules
 
 -- a row's line is read so too where rows have begun
 row_alike : (st next : State) (line : TextLine) (row : TraceRow) (said : Said) → 2 ≤ st.lines → IsGood st line said → with_said st (Some said) ≡ (next, Some row) →
     read_line (record st { begun = true }) line ≡ Ok (next, Some row)
 row_alike st next line row (SaysRow other) behind good is =
     let kept : IsGood (record st { begun = true }) line (SaysRow other) =
-    record { ended = good.ended; spelled = good.spelled; ordered = stands_behind (has_ring_rows st.version) st.begun other good.ordered; within = good.within; few = good.few; placed = good.placed } in
+    record { ended = good.ended; spelled = good.spelled; ordered = search rules; within = good.within; few = good.few; placed = good.placed } in
     read_from_good (record st { begun = true }) line (SaysRow other) behind kept ∙ ap (λ (p : State × Option TraceRow). Ok p) is
 row_alike st next line row (SaysRing ring) behind good is = let none : None ≡ Some row = ap (λ (p : State × Option TraceRow). p.1) is in cc none
 
@@ -71,9 +59,7 @@ module _ {R : Type 0} (take : TraceRow → Result R LineFault) where
         (go_on (next_number st) (taken take r) (λ next. take_lines take next lines))
     by_line (Ok (next, Some row)) is =
         let step = (step_of st line (next, Some row) is).row row refl in
-        let ended = ended_if_read st line (next, Some row) is in
-        taken_more st next row (take row) (given_taken take (rows_given lines (record { read = next; ended = false }) (behind_line text))) lines step.1
-        (later next (behind_line text) (lines_left text line lines are ended) (ap (λ (s : State). s.begun) step.1) (omega (arith, behind, ap (λ (s : State). s.lines) step.1)))
+        grind (arith, ended_if_read, taken_more, lines_left)
     by_line (Ok (next, None)) is = absurd (no_ring_read st next line begun behind is)
     by_line (Err fault) is = refl
 
@@ -106,15 +92,9 @@ module _ {R : Type 0} (take : TraceRow → Result R LineFault) where
         ∙ ap (λ r. whole (go_on (next_number st) (taken take r) (λ next. take_lines take next lines))) (row_alike st next line row said.0 step.0 said.1 said.2)
     opened_law (Err fault) is = refl
 
-  no_line_law : (st : State) (text : List ℕ) → lines_of text ≡ [] → (few : Bool) → nat_lt st.lines 2 ≡ few →
-      joined_behind take (cond few (Err (next_number st, BadHeader)) (Ok (with_rows st true, text)))
-      ≡ cond few (Err (next_number st, BadHeader)) (Ok (record { header = record { version = st.version; context_size = st.size; rings = st.rings }; first = next_number st - 0; rows = [] }))
-  unfolding next_row
-  no_line_law st text are few is = search rules
-
   open_law : (lines : List TextLine) → OpenLaw lines
-  unfolding take_lines opened_in
-  open_law [] = λ st text are. no_line_law st text are (nat_lt st.lines 2) refl
+  unfolding take_lines opened_in next_row
+  open_law [] = λ st text are. (search rules)
   open_law (line ∷ lines) = λ st text are. opened_law st text line lines are (open_law lines) (read_line st line) refl
 
   -- where the whole text says a trace, opening and the calls give its header and rows; where it has a bad line, they tell this one

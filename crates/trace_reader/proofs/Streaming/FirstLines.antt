@@ -1,5 +1,5 @@
 -- The first line of a text of which a part stands ahead
-use Rattle.trace_reader.proofs.Words.{rules, common_steps, ◌≡◌, ◌⊎◌, inl, inr, ◌<◌, ◌≤◌, ◌==◌, ◌∷◌, ◌++◌, ◌∙◌, ℕ, List, [], true, false, All, refl, ap, sym, append_assoc, length, length-append, arith, eqb-true, cases_Bool, All-append, All-cons, All-head, All-nil, All-tail, slice_split_none, drop_through, lines_of-ended, TextLine, behind_content, is_line_feed, last_line, lines_between, lines_of, behind_line}
+use Rattle.trace_reader.proofs.Words.{rules, common_steps, ◌≡◌, ◌⊎◌, inl, inr, ◌<◌, ◌≤◌, ◌==◌, ◌∷◌, ◌++◌, ◌∙◌, ℕ, List, [], true, false, All, refl, ap, sym, append_assoc, length, length-append, arith, eqb-true, cases_Bool, All-append, All-cons, All-head, All-nil, All-tail, slice_split_none, drop_through, lines_of-ended, TextLine, behind_content, is_line_feed, lines_between, lines_of, behind_line}
 
 -- no byte is a line feed
 abbrev pub NoFeed : List ℕ → Type 0
@@ -54,12 +54,9 @@ cut (x ∷ xs) =
           ]
     ]
 
-last_is : (text : List ℕ) → 0 < length text → last_line text ≡ record { content = text; is_ended = false } ∷ []
-last_is text some = search rules
-
 pub alone : (text : List ℕ) → 0 < length text → NoFeed text → lines_of text ≡ record { content = text; is_ended = false } ∷ []
 unfolding lines_of
-alone text some none = ap lines_between (slice_split_none is_line_feed text none) ∙ last_is text some
+alone text some none = ap lines_between (slice_split_none is_line_feed text none) ∙ (search rules)
 
 -- it is at least as long
 pub record HasLongLine (text : List ℕ) (least : ℕ) : Type 0 where

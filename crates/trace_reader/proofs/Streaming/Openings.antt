@@ -1,13 +1,5 @@
 -- What is read of a line before the first row
-use Rattle.trace_reader.proofs.Words.{rules, ◌≡◌, inl, inr, ◌+◌, ◌<◌, ◌≤◌, ◌∷◌, ◌++◌, ◌∙◌, ℕ, List, [], Bool, true, false, Option, Some, None, Result, Ok, Err, refl, ap, sym, subst, append_assoc, ContextSize, TraceRow, Version, lines_of-nothing, TextLine, lines_of, Consumes, Consumes-nil, Consumes-trans, LineFault, LineError, Fault, Memory, TraceSoFar, IfFault, state_of, State, behind_row, next_number, read_line, size_of, start, version_of, with_said, Said, StreamFault, Device, RowReader, IsFilled, IsHeld, OfText, ahead_of, fault_of, IsOpened, IsTold, progress_of, behind_line, opened_by, with_rows, opened, opened_in}
-use Rattle.trace_reader.specs.declared.fault.LineFault.TheVariants.{Header as BadHeader}
-use Rattle.trace_reader.proofs.ReadSteps.{no_size, no_version, size_read, version_read}
-use Rattle.trace_reader.proofs.SpelledLines.{step_from_read}
-use Rattle.trace_reader.specs.declared.row_reader.fault.StreamFault.TheVariants.{Line, Memory as NoMemory}
-use Rattle.trace_reader.specs.Streaming.Ahead.{Comes}
-use Rattle.trace_reader.proofs.Streaming.Calls.{bad_ahead, none_held}
-use Rattle.trace_reader.proofs.Streaming.FirstLines.{IsCut, ended_behind, ended_lines}
-use Rattle.trace_reader.proofs.Streaming.LineEnds.{ended_if_read, three}
+use Rattle.trace_reader.proofs.UpperLaws.{rules, ◌≡◌, inl, inr, ◌+◌, ◌<◌, ◌≤◌, ◌∷◌, ◌++◌, ◌∙◌, ℕ, List, [], Bool, true, false, Option, Some, None, Result, Ok, Err, refl, ap, sym, append_assoc, TraceRow, lines_of-nothing, TextLine, lines_of, Consumes, Consumes-nil, Consumes-trans, LineFault, LineError, Fault, Memory, TraceSoFar, IfFault, state_of, State, behind_row, next_number, read_line, start, StreamFault, Device, RowReader, IsFilled, IsHeld, OfText, ahead_of, fault_of, IsOpened, IsTold, progress_of, behind_line, opened_by, with_rows, opened, opened_in, BadHeader, no_size, no_version, size_read, version_read, step_from_read, Line, NoMemory, bad_ahead, none_held, IsCut, ended_behind, ended_lines, ended_if_read, three, Comes}
 
 -- ---- one line more
 
@@ -37,13 +29,10 @@ no_row st next p lines later kept is = record {
   kept = λ none. sym (ap (λ (q : State × Option TraceRow). q.0.keeps) is) ∙ kept;
 }
 
-first_step : (st : State) (line : TextLine) (p : State × Option TraceRow) (version : Option Version) → st.lines ≡ 0 → version_of line ≡ version → read_line st line ≡ Ok p → IsStep st p
-first_step st line p version at of is = search (rules, no_row, same_step, version_read, no_version)
-
 pub step_of : (st : State) (line : TextLine) (p : State × Option TraceRow) → read_line st line ≡ Ok p → IsStep st p
 step_of st line p is =
     elim (three st.lines) [
-      | inl first ↦ first_step st line p (version_of line) first refl is
+      | inl first ↦ search (rules, no_row, same_step, version_read, no_version)
       | inr later ↦
           elim later [
             | inl second ↦ search (rules, no_row, same_step, size_read, no_size)

@@ -1,9 +1,7 @@
 -- The rows so far and what further calls give are what the whole text says
-use Rattle.trace_reader.proofs.Words.{arith, common_steps, rules, ◌≡◌, ◌+◌, ◌∷◌, ◌++◌, ◌∙◌, ℕ, List, [], Bool, true, false, Option, Some, None, Result, Ok, Err, refl, ap, sym, subst, append-nil, append_assoc, Consumes-trans, Header, TraceRow, TextLine, lines_of, LineFault, text_taken, State, TextOf, next_number, RowReader, OfLater, OfText, ahead_of, IsCall, IsSameTrace, IsOpened, progress_of, Call, Progress, opened, next_row, HasRead, IsBadTaken, IsReadTo, OfStream, read_with, GivenOf, GivenRows, answered, given_taken, joined, joined_behind, rows_given, with_given, taken_by_calls}
-use Rattle.trace_reader.specs.declared.row_reader.fault.StreamFault.TheVariants.{Line}
-use Rattle.trace_reader.proofs.Streaming.Calls.{call_of}
+use Rattle.trace_reader.proofs.UpperLaws.{arith, common_steps, rules, ◌≡◌, ◌+◌, ◌∷◌, ◌++◌, ◌∙◌, ℕ, List, [], Bool, true, false, Option, Some, None, Result, Ok, Err, refl, ap, sym, subst, append-nil, append_assoc, Consumes-trans, Header, TraceRow, TextLine, lines_of, LineFault, text_taken, State, TextOf, next_number, RowReader, OfLater, OfText, ahead_of, IsCall, IsSameTrace, IsOpened, progress_of, Call, Progress, opened, next_row, IsBadTaken, IsReadTo, OfStream, read_with, GivenRows, answered, given_taken, joined_behind, rows_given, with_given, taken_by_calls, Line, call_of, ended_if_read}
+use Rattle.trace_reader.specs.Streaming.Streams.{HasRead}
 use Rattle.trace_reader.proofs.Streaming.CallsJoined.{calls_say_what_is_taken, lines_left}
-use Rattle.trace_reader.proofs.Streaming.LineEnds.{ended_if_read}
 use Rattle.trace_reader.proofs.Streaming.Openings.{step_of}
 
 -- ---- of a text, what follows of it
@@ -69,34 +67,25 @@ module _ (st : State) (p' : Progress) (left left' : List ℕ) (row : ℕ × Trac
 
   row_given : GivesRow (next_row (record { read = st; ended = false }) left) →
       rows_given (lines_of left) (record { read = st; ended = false }) left ≡ answered (Ok (Some row)) (rows_given (lines_of left') p' left')
-  row_given gives =
-      let l = row_line (lines_of left) refl gives in
-      ap (λ ls. rows_given ls (record { read = st; ended = false }) left) l.2 ∙ ap (λ (c : Call). answered c.answer (rows_given l.1 c.progress c.left)) gives
-      ∙ ap (λ ls. answered (Ok (Some row)) (rows_given ls p' left')) (sym l.3.others)
+  row_given gives = grind (arith, row_line, Ok, row_line (lines_of left) refl gives)
 
 module _ {R : Type 0} (take : TraceRow → Result R LineFault) where
   -- ---- the rows so far
 
   module _ (h : Header) (first : ℕ) (done : List R) where
-    with_row_read : (number : ℕ) (one : R) (given : GivenOf R) → read_with h first done (with_given number (Ok one) given) ≡ read_with h first (done ++ one ∷ []) given
-    with_row_read number one given = grind (arith, common_steps)
-
     -- the row is taken
     row_taken : (row : ℕ × TraceRow) (one : R) (given : GivenRows) → take row.1 ≡ Ok one →
         read_with h first done (given_taken take (answered (Ok (Some row)) given)) ≡ read_with h first (done ++ one ∷ []) (given_taken take given)
-    row_taken row one given is = ap (λ o. read_with h first done (with_given row.0 o (given_taken take given))) is ∙ with_row_read row.0 one (given_taken take given)
+    row_taken row one given is = ap (λ o. read_with h first done (with_given row.0 o (given_taken take given))) is ∙ (grind (arith, common_steps))
 
     with_none : read_with h first done ([], None) ≡ Ok (record { header = h; first = first; rows = done })
     with_none = ap (λ (rs : List R). Ok (record { header = h; first = first; rows = rs })) (append-nil done)
-
-  joined_so : (st : State) (given : GivenOf R) → joined st given ≡ read_with (record { version = st.version; context_size = st.size; rings = st.rings }) (st.lines + 1) [] given
-  joined_so st given = search rules
 
   opened_so : (keeps : Bool) (st : State) (ended : Bool) (text left : List ℕ) → opened keeps text ≡ Ok (record { read = st; ended = ended }, left) →
       text_taken keeps take text ≡ read_with (record { version = st.version; context_size = st.size; rings = st.rings }) (st.lines + 1) [] (given_taken take (rows_given (lines_of left) (record { read = st; ended = ended }) left))
   unfolding taken_by_calls
   opened_so keeps st ended text left is =
-      sym (calls_say_what_is_taken take keeps text) ∙ ap (joined_behind take) is ∙ joined_so st (given_taken take (rows_given (lines_of left) (record { read = st; ended = ended }) left))
+      sym (calls_say_what_is_taken take keeps text) ∙ ap (joined_behind take) is ∙ (search rules)
 
   -- where the reading was opened no row was read
   pub opened_read : (keeps : Bool) (held held' : Option (List ℕ)) (r : RowReader) → IsOpened keeps held held' (Ok r) → HasRead take held held' (r.lines + 1) [] r

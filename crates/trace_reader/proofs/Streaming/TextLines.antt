@@ -1,9 +1,7 @@
 -- A text whose rows are kept, line by line
-use Rattle.trace_reader.proofs.Words.{rules, true, ◌≡◌, ◌∷◌, ◌∙◌, ◌-◌, ◌≤◌, ℕ, List, Option, Result, Ok, Err, All, ap, sym, length, arith, All-weaker, IsTraceRow, TraceRow, TextLine, lines_of, take_lines, taken, text_taken, IfBadLine, IfFault, at_line, took_in, State, TraceText, next_number, read_line, start, trace_of, whole, IsTrace, LineError, LineFault, ReadFault}
+use Rattle.trace_reader.proofs.UpperLaws.{rules, true, ◌≡◌, ◌∷◌, ◌∙◌, ◌-◌, ◌≤◌, ℕ, List, Option, Result, Ok, Err, All, ap, sym, length, arith, All-weaker, IsTraceRow, TraceRow, TextLine, lines_of, take_lines, taken, text_taken, IfBadLine, IfFault, at_line, took_in, State, TraceText, next_number, read_line, start, trace_of, whole, IsTrace, LineError, LineFault, ReadFault, ended, header_there, prepend, stopped, spelled_if_read, IsLineRow}
 use Rattle.trace_reader.proofs.DriverTraces.{all_taken}
-use Rattle.trace_reader.proofs.ReadSteps.{ended, header_there, prepend, read_on, stopped}
-use Rattle.trace_reader.proofs.Spelled.{spelled_if_read}
-use Rattle.trace_reader.proofs.SpelledTraces.{IsLineRow}
+use Rattle.trace_reader.proofs.ReadSteps.{read_on}
 
 -- each row is taken as it stands
 abbrev pub each : TraceRow → Result TraceRow LineFault

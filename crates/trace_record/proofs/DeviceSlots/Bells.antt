@@ -1,6 +1,5 @@
 -- A doorbell is rung
-use Rattle.trace_record.proofs.BaseWords.{rules, ◌≡◌, ◌==◌, ◌≤◌, ◌&&◌, if◌then◌else◌, ◌∙◌, ℕ, Bool, Option, None, ap, sym, subst, nat_lt, is_some, slice_index_or, eq-eqb, ne_eqb, le-ltb, cond-true, cond-false, put_pair, Opens, is_stopped, Running, Header, command_id, Known, on_ring, endpoint_rung, rung, Endpoint, DeviceRecord, rung_endpoint, FollowsDevices, IsWithEndpoint, endpoint_at, fresh_endpoint}
-use Rattle.trace_record.proofs.DeviceSlots.Steps.{follows_beside, follows_still, follows_state}
+use Rattle.trace_record.proofs.MiddleLaws.{rules, ◌≡◌, ◌==◌, ◌≤◌, ◌&&◌, if◌then◌else◌, ◌∙◌, ℕ, Option, None, ap, sym, subst, nat_lt, is_some, slice_index_or, eq-eqb, ne_eqb, le-ltb, cond-true, cond-false, put_pair, Opens, is_stopped, Running, Header, command_id, Known, on_ring, endpoint_rung, rung, Endpoint, DeviceRecord, rung_endpoint, FollowsDevices, IsWithEndpoint, endpoint_at, fresh_endpoint, follows_beside, follows_still, follows_state}
 
 module _ (h : Header) (k : Known) (s t : ℕ) where
   -- the host controller's doorbell
@@ -31,16 +30,10 @@ follows_beyond h k s t d f some far =
     subst (λ k'. FollowsDevices k' d) (sym (rung_later h k s t some ∙ rung_none h k s t (no_ring_beyond h k s t d f far))) f
 
 module _ (h : Header) (k : Known) (s t : ℕ) (old new : DeviceRecord) (f : FollowsDevices k old) (x : Endpoint) (w : IsWithEndpoint old new s t x) where
-  -- with a ring: b says whether the endpoint is Stopped
-  with_ring : (r : ℕ) (b : Bool) → x ≡ (if b then record (endpoint_at old.endpoints.items s t) { state = Running } else endpoint_at old.endpoints.items s t) →
-      FollowsDevices (record (on_ring h k r Opens) { endpoint_state = if b then put_pair k.endpoint_state s t Running else k.endpoint_state }) new
-  unfolding on_ring
-  with_ring r b h1 = search (rules, follows_beside, put_pair, on_ring, follows_state, follows_still)
-
   by_ring : (o : Option ℕ) → x ≡ (if is_some o && is_stopped (k.endpoint_state s t) then record (endpoint_at old.endpoints.items s t) { state = Running } else endpoint_at old.endpoints.items s t) →
       FollowsDevices (endpoint_rung h k s t o) new
-  unfolding endpoint_rung
-  by_ring o h1 = search (rules, follows_still, with_ring, is_stopped)
+  unfolding endpoint_rung on_ring
+  by_ring o h1 = search (rules, follows_still, follows_beside, put_pair, on_ring, follows_state, is_stopped)
 
   pub follows_rung : (s ≡ 0 → ⊥) → x ≡ rung_endpoint (endpoint_at old.endpoints.items s t) → FollowsDevices (rung h k s t) new
   follows_rung some is = search (rules, rung_later, by_ring, is_some, is_stopped, endpoint_at)

@@ -1,6 +1,5 @@
 -- How many endpoints of a slot have a command, where one is kept otherwise
-use Rattle.trace_record.proofs.BaseWords.{rules, ◌≡◌, ◌≢◌, ◌<◌, ◌≤◌, ◌+◌, ◌-◌, ◌*◌, ◌==◌, ◌&&◌, ◌∙◌, if◌then◌else◌, ℕ, zero, suc, true, false, List, ap, sym, refl, arith, inl, inr, length, replicate, nat_lt, slice_index_or, slice_set, is_some, get_or-set_same, get_or-set_other, eq-eqb, ne_eqb, lt-ltb, le-ltb, cases_eq, cases_lt, and_left, and_right, range_with_len, sum_by, sum_by-cons, KeptCommand, endpoint_count, kept_at, kept_count, no_command, get_or_default}
-use Rattle.trace_record.proofs.DeviceSlots.NewRecord.{alike}
+use Rattle.trace_record.proofs.UpperLaws.{rules, ◌≡◌, ◌≢◌, ◌<◌, ◌≤◌, ◌+◌, ◌-◌, ◌*◌, ◌==◌, ◌&&◌, ◌∙◌, if◌then◌else◌, ℕ, zero, suc, true, false, List, ap, sym, refl, arith, length, replicate, slice_index_or, slice_set, is_some, get_or-set_same, get_or-set_other, eq-eqb, ne_eqb, lt-ltb, le-ltb, cases_eq, cases_lt, and_left, and_right, range_with_len, sum_by, sum_by-cons, KeptCommand, endpoint_count, kept_at, kept_count, no_command, get_or_default, alike}
 use Rattle.trace_record.proofs.DeviceSlots.Placing.{set_at}
 
 -- ---- sums over a range
@@ -13,10 +12,7 @@ module _ (f g : ℕ → ℕ) where
   -- but for one number
   sum_but : (a n i : ℕ) → a ≤ i → i < a + n → ((j : ℕ) → j ≢ i → f j ≡ g j) → sum_by g (range_with_len a n) + f i ≡ sum_by f (range_with_len a n) + g i
   sum_but a zero i from below same = absurd (omega (arith, from, below))
-  sum_but a (suc n) i from below same = elim (cases_eq a i) [
-    | inl here ↦ search (rules, sum_by, range_with_len, sum_same, sum_by-cons)
-    | inr other ↦ search (rules, sum_by, range_with_len, sum_by-cons, sum_but (a + 1) n i (omega (arith, from, other)) (omega (arith, below)) same)
-  ]
+  sum_but a (suc n) i from below same = search (rules, cases_eq a i, sum_by, range_with_len, sum_same, sum_by-cons, sum_but (a + 1) n i)
 
 module _ (f : ℕ → ℕ) where
   sum_small : (a n : ℕ) → ((i : ℕ) → f i ≤ 1) → sum_by f (range_with_len a n) ≤ n
@@ -26,18 +22,12 @@ module _ (f : ℕ → ℕ) where
   -- one of them is part of the sum
   sum_has : (a n i : ℕ) → a ≤ i → i < a + n → f i ≤ sum_by f (range_with_len a n)
   sum_has a zero i from below = absurd (omega (arith, from, below))
-  sum_has a (suc n) i from below = elim (cases_eq a i) [
-    | inl here ↦ omega (arith, ap f here, sum_by-cons f a (range_with_len (a + 1) n))
-    | inr other ↦ omega (arith, sum_has (a + 1) n i (omega (arith, from, other)) (omega (arith, below)), sum_by-cons f a (range_with_len (a + 1) n))
-  ]
+  sum_has a (suc n) i from below = search (rules, cases_eq a i, sum_by-cons, sum_has (a + 1) n i)
 
   -- where there is a sum, one is counted
   sum_where : (a n : ℕ) → 0 < sum_by f (range_with_len a n) → (i : ℕ) × (a ≤ i) × (i < a + n) × (0 < f i)
   sum_where a zero some = absurd (omega (arith, some))
-  sum_where a (suc n) some = elim (cases_lt 0 (f a)) [
-    | inl here ↦ (a, omega arith, omega arith, here)
-    | inr none ↦ search (rules, sum_by-cons, range_with_len, sum_where (a + 1) n (omega (arith, some, none, sum_by-cons f a (range_with_len (a + 1) n))))
-  ]
+  sum_where a (suc n) some = search (rules, cases_lt 0 (f a), sum_by-cons, range_with_len, sum_where (a + 1) n)
 
 -- ---- what is kept of endpoints
 
@@ -46,9 +36,6 @@ one_at_most k = search (rules, is_some)
 
 counted : (k : KeptCommand) → 0 < kept_count k → is_some k.command ≡ true
 counted k some = search (rules, is_some)
-
-not_counted : (k : KeptCommand) → kept_count k ≤ 0 → is_some k.command ≡ false
-not_counted k none = search (rules, is_some)
 
 module _ (kept : List KeptCommand) (s : ℕ) where
   pub few_counted : endpoint_count kept s ≤ 31
@@ -62,18 +49,16 @@ module _ (kept : List KeptCommand) (s : ℕ) where
   -- one is counted: it is kept
   pub count_where : 0 < endpoint_count kept s → (i : ℕ) × (0 < i) × (is_some (kept_at kept s i).command ≡ true)
   unfolding endpoint_count
-  count_where some =
-      let there = sum_where (λ i. kept_count (kept_at kept s i)) 1 31 some in
-      (there.0, omega (arith, there.1), counted (kept_at kept s there.0) there.3)
+  count_where some = search (rules, counted, sum_where (λ i. kept_count (kept_at kept s i)) 1 31 some)
 
   -- none is counted: nothing is kept
   pub count_none : endpoint_count kept s ≡ 0 → (i : ℕ) → 0 < i → i < 32 → is_some (kept_at kept s i).command ≡ false
-  count_none none i some below = not_counted (kept_at kept s i) (omega (arith, none, count_has i some below))
+  count_none none i some below = grind (arith, none, count_has i some below, is_some, kept_count)
 
 -- at first none is
 pub count_first : (s : ℕ) → endpoint_count (replicate (256 * 32) no_command) s ≡ 0
 unfolding endpoint_count
-count_first s = search (rules, kept_count, kept_at, replicate, no_command, nat_lt, slice_index_or, alike)
+count_first s = search (rules, alike)
 
 -- ---- one is kept otherwise
 
@@ -81,16 +66,13 @@ module _ (kept : List KeptCommand) (many : length kept ≡ 256 * 32) (t j : ℕ)
   abbrev now : List KeptCommand
   now = slice_set kept (t * 32 + j) x
 
-  same_number : (s i : ℕ) → i < 32 → (s * 32 + i == t * 32 + j) ≡ (s == t && j == i)
-  same_number s i below = search (rules, eq-eqb, ne_eqb, and_right, and_left)
-
   pub kept_now : (s i : ℕ) → kept_at now s i ≡ (if s == t && j == i then x else kept_at kept s i)
-  kept_now s i = search (rules, lt-ltb, slice_index_or, no_command, set_at, same_number, le-ltb, and_right, ne_eqb)
+  kept_now s i = search (rules, lt-ltb, slice_index_or, no_command, set_at, eq-eqb, and_left, le-ltb, and_right, ne_eqb)
 
   -- of another slot
   count_apart : (s : ℕ) → s ≢ t → endpoint_count now s ≡ endpoint_count kept s
   unfolding endpoint_count
-  count_apart s other = search (rules, sum_same, kept_count, kept_at, kept_now, and_left, ne_eqb)
+  count_apart s other = search (rules, kept_count, kept_at, kept_now, and_left, ne_eqb)
 
   -- of this one
   count_here : 0 < j → endpoint_count now t + kept_count (kept_at kept t j) ≡ endpoint_count kept t + kept_count x
@@ -118,7 +100,4 @@ read_count counts t n x many slot here is = is ∙ ap (λ i. slice_index_or coun
 pub counts_set : (kept : List KeptCommand) (counts : List ℕ) (t j n m p v : ℕ) (x : KeptCommand) → length kept ≡ 256 * 32 → length counts ≡ 256 → t < 256 → 0 < j → j < 32 →
     n ≡ t → m ≡ j → p ≡ t → v ≡ slice_index_or counts t 0 - kept_count (kept_at kept t j) + kept_count x → ((s : ℕ) → s < 256 → slice_index_or counts s 0 ≡ endpoint_count kept s) →
     (s : ℕ) → s < 256 → slice_index_or (slice_set counts p v) s 0 ≡ endpoint_count (slice_set kept (n * 32 + m) x) s
-counts_set kept counts t j n m p v x many all slot some index first second third value right s below =
-    (λ i. slice_index_or (slice_set counts (third i) (value i)) s 0)
-    ∙ counts_now kept many t j slot index x some counts all right s below
-    ∙ sym (λ i. endpoint_count (slice_set kept (first i * 32 + second i) x) s)
+counts_set kept counts t j n m p v x many all slot some index first second third value right s below = grind (arith, slice_index_or, slice_set, counts_now, endpoint_count)

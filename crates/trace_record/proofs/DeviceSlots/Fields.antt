@@ -1,8 +1,5 @@
 -- One field of what is kept, where one slot or one endpoint is kept anew
-use Rattle.trace_record.proofs.BaseWords.{rules, ◌≡◌, ◌&&◌, ℕ, Bool, false, eq-eqb, ne_eqb, cond-true, cond-false, put, put_pair, Slot, Endpoint, DeviceRecord, IsWithSlot, IsWithEndpoint, slot_at, endpoint_at}
-
-and_false : (b : Bool) → (b && false) ≡ false
-and_false b = search rules
+use Rattle.trace_record.proofs.BaseWords.{rules, ◌≡◌, ℕ, eq-eqb, ne_eqb, cond-true, cond-false, put, put_pair, Slot, Endpoint, DeviceRecord, IsWithSlot, IsWithEndpoint, slot_at, endpoint_at}
 
 -- of endpoints: g is what is known, f that the old record follows it
 module _ {A : Type 0} (get : Endpoint → A) (old new : DeviceRecord) (s i : ℕ) (x : Endpoint) (w : IsWithEndpoint old new s i x)
@@ -13,7 +10,7 @@ module _ {A : Type 0} (get : Endpoint → A) (old new : DeviceRecord) (s i : ℕ
 
   -- it stays
   pub endpoint_kept : get (endpoint_at old.endpoints.items s i) ≡ get x → (t j : ℕ) → g t j ≡ get (endpoint_at new.endpoints.items t j)
-  endpoint_kept same t j = search (rules, cond-false, endpoint_at, ne_eqb, and_false, cond-true, eq-eqb)
+  endpoint_kept same t j = search (rules, cond-false, endpoint_at, ne_eqb, cond-true, eq-eqb)
 
 -- of slots
 module _ {A : Type 0} (get : Slot → A) (old new : DeviceRecord) (s : ℕ) (x : Slot) (w : IsWithSlot old new s x)

@@ -1,19 +1,12 @@
 -- The endpoints that have a ring are counted
-use Rattle.trace_record.proofs.BaseWords.{rules, ◌≡◌, ◌+◌, ◌*◌, ◌<◌, ◌≤◌, ◌∙◌, ◌∷◌, if◌then◌else◌, ℕ, suc, Bool, true, List, [], Option, Some, None, ap, sym, refl, arith, inl, inr, length, get_or, nat_lt, replicate, slice_index_or, sum_by, sum_by-le, lt-ltb, le-ltb, cond-true, cond-false, none-some, Known, DeviceRecord, FollowsDevices, endpoint_at, sum_by-cons, cases_Bool, eq-eqb, eqb-true, false≢true, Endpoint, fresh_endpoint, ◌/◌, ◌%◌, get_or_past, sum_by-replicate, get_or-le-sum_by, is_ring, Holders, AreCounted, HasEndpoint, IsCounted, HasRoom, count_of, one_of}
-use Rattle.trace_record.proofs.DeviceSlots.NewRecord.{alike}
-
-one_if : (b : Bool) → b ≡ true → ◌≡◌ {A = ℕ} (if b then 1 else 0) 1
-one_if b is = ap (λ c. let n : ℕ = if c then 1 else 0 in n) is
-
-at_most_one : (b : Bool) → (if b then 1 else 0) ≤ 1
-at_most_one b = search rules
+use Rattle.trace_record.proofs.LowerLaws.{rules, ◌≡◌, ◌+◌, ◌*◌, ◌<◌, ◌≤◌, ◌∙◌, ◌∷◌, ℕ, suc, true, List, [], Option, Some, ap, sym, refl, arith, inl, inr, length, get_or, nat_lt, replicate, slice_index_or, sum_by, sum_by-le, lt-ltb, le-ltb, cond-true, cond-false, none-some, Known, DeviceRecord, FollowsDevices, endpoint_at, sum_by-cons, cases_Bool, eq-eqb, eqb-true, false≢true, Endpoint, fresh_endpoint, ◌/◌, ◌%◌, get_or_past, sum_by-replicate, get_or-le-sum_by, is_ring, Holders, AreCounted, HasEndpoint, IsCounted, HasRoom, count_of, one_of, alike}
 
 pub is_same : (r : ℕ) (o : Option ℕ) → o ≡ Some r → is_ring r o ≡ true
 is_same r o same = ap (is_ring r) same ∙ eq-eqb r r refl
 
 -- one that has the ring counts
 sum_at : (r : ℕ) (xs : List Endpoint) (n : ℕ) (d : Endpoint) → n < length xs → (get_or xs n d).ring ≡ Some r → 0 < sum_by (λ e. one_of r e.ring) xs
-sum_at r xs n d below is = search (rules, get_or-le-sum_by, one_if, get_or, is_same)
+sum_at r xs n d below is = search (rules, get_or-le-sum_by, get_or, is_same)
 
 pub named : (r : ℕ) (o : Option ℕ) → is_ring r o ≡ true → o ≡ Some r
 named r o h1 = search (rules, false≢true, eqb-true)
@@ -24,14 +17,13 @@ sum_where r [] some = absurd (omega (arith, some))
 sum_where r (x ∷ xs) some = elim (cases_Bool (is_ring r x.ring)) [
   | inl here ↦ (0, omega arith, λ d. named r x.ring here)
   | inr later ↦
-      let none : one_of r x.ring ≡ 0 = ap (λ c. let n : ℕ = if c then 1 else 0 in n) later in
-      let rest = sum_where r xs (omega (arith, some, sum_by-cons (λ (e : Endpoint). one_of r e.ring) x xs, none)) in
+      let rest = sum_where r xs (grind (arith, some, later, sum_by-cons (λ (e : Endpoint). one_of r e.ring) x xs)) in
       (suc rest.0, omega (arith, rest.1), rest.2)
 ]
 
 -- not more are counted than there are
 few : (r : ℕ) (xs : List Endpoint) → sum_by (λ e. one_of r e.ring) xs ≤ length xs
-few r xs = omega (arith, sum_by-le (λ (e : Endpoint). one_of r e.ring) 1 xs (λ k d below. at_most_one (is_ring r (get_or xs k d).ring)))
+few r xs = omega (arith, sum_by-le (λ (e : Endpoint). one_of r e.ring) 1 xs (λ k d below. search rules))
 
 module _ (es : List Endpoint) (hs : Holders) (all : AreCounted es hs) where
   pub leaves : (o : Option ℕ) (n : ℕ) (d : Endpoint) → n < length es → (get_or es n d).ring ≡ o → IsCounted hs o
@@ -40,23 +32,16 @@ module _ (es : List Endpoint) (hs : Holders) (all : AreCounted es hs) where
   pub takes : (o : Option ℕ) → length es ≡ 256 * 32 → HasRoom hs o
   takes o h1 = search (rules, few)
 
--- before the first row no ring has an endpoint
-none_fresh : (n r : ℕ) → sum_by (λ (e : Endpoint). one_of r e.ring) (replicate n fresh_endpoint) ≡ 0
-none_fresh n r = omega (arith, sum_by-replicate (λ (e : Endpoint). one_of r e.ring) n fresh_endpoint)
-
 pub fresh_counted : (es : List Endpoint) (hs : Holders) (n : ℕ) → es ≡ replicate n fresh_endpoint → hs.counts.items ≡ replicate 256 0 → AreCounted es hs
 fresh_counted es hs n none zeros = λ r fits.
-    ap (λ xs. slice_index_or xs r 0) zeros ∙ alike 256 r 0 ∙ sym (ap (λ xs. sum_by (λ (e : Endpoint). one_of r e.ring) xs) none ∙ none_fresh n r)
+    ap (λ xs. slice_index_or xs r 0) zeros ∙ alike 256 r 0 ∙ sym (ap (λ xs. sum_by (λ (e : Endpoint). one_of r e.ring) xs) none ∙ (omega (arith, sum_by-replicate (λ (e : Endpoint). one_of r e.ring) n fresh_endpoint)))
 
 -- ---- whether an endpoint has a ring
 
 module _ (k : Known) (d : DeviceRecord) (f : FollowsDevices k d) (r : ℕ) where
-  none_beyond : (o : Option ℕ) → o ≡ None → o ≡ Some r → ⊥
-  none_beyond o none some = none-some r (sym none ∙ some)
-
   -- an endpoint that has the ring is kept so
   pub read_at : (s i : ℕ) → k.ring_of s i ≡ Some r → (i < 32) × (s * 32 + i < length d.endpoints.items) × ((get_or d.endpoints.items (s * 32 + i) fresh_endpoint).ring ≡ Some r)
-  read_at s i has = search (rules, endpoint_at, none_beyond, cond-false, nat_lt, slice_index_or, fresh_endpoint, le-ltb, cond-true, lt-ltb, length, get_or_past)
+  read_at s i has = search (rules, endpoint_at, none-some, cond-false, nat_lt, slice_index_or, fresh_endpoint, le-ltb, cond-true, lt-ltb, length, get_or_past)
 
 module _ (k : Known) (d : DeviceRecord) (f : FollowsDevices k d) (r : ℕ) (fits : r < 256) where
   counted : count_of d.holders r ≡ sum_by (λ (e : Endpoint). one_of r e.ring) d.endpoints.items
@@ -64,14 +49,9 @@ module _ (k : Known) (d : DeviceRecord) (f : FollowsDevices k d) (r : ℕ) (fits
 
   pub one_has : 0 < count_of d.holders r → HasEndpoint k r
   one_has some =
-      let there = sum_where r d.endpoints.items (omega (arith, some, counted)) in
+      let there = sum_where r d.endpoints.items (omega (arith, some)) in
       let at : there.0 / 32 * 32 + there.0 % 32 ≡ there.0 = omega arith in
-      let low : nat_lt (there.0 % 32) 32 ≡ true = lt-ltb (there.0 % 32) 32 (omega arith) in
-      record {
-        slot = there.0 / 32;
-        index = there.0 % 32;
-        has = search (rules, cond-true, nat_lt, slice_index_or, fresh_endpoint);
-      }
+      grind (arith, nat_lt, lt-ltb, cond-true, slice_index_or, fresh_endpoint)
 
   pub none_has : (0 < count_of d.holders r → ⊥) → (s i : ℕ) → k.ring_of s i ≡ Some r → ⊥
-  none_has none s i has = search (rules, read_at, counted, sum_at, fresh_endpoint)
+  none_has none s i has = search (rules, read_at, sum_at, fresh_endpoint)

@@ -1,10 +1,6 @@
 -- Where one endpoint alone has a ring, the sum of numbers that is kept of the ring is its number
-use Rattle.trace_record.proofs.BaseWords.{rules, common_steps, ◌≡◌, ◌≢◌, ◌+◌, ◌*◌, ◌<◌, ◌≤◌, ◌∙◌, ◌∷◌, if◌then◌else◌, ℕ, zero, suc, Bool, true, false, List, [], Option, Some, None, ap, sym, refl, arith, inl, inr, length, get_or, nat_lt, replicate, slice_index_or, lt-ltb, cond-true, Known, DeviceRecord, FollowsDevices, cases_Bool, eqb-true, false≢true, Endpoint, fresh_endpoint, ◌/◌, ◌%◌, nat_eq, option_eq, set, sum_by-set, is_ring, Holders, AreCounted, AreSummed, HasOneHolder, HasRoom, HasSumRoom, IsSummed, count_of, one_of, place_of, places_sum, sum_of}
-use Rattle.trace_record.proofs.DeviceSlots.HolderCounts.{is_same, named, read_at}
-use Rattle.trace_record.proofs.DeviceSlots.NewRecord.{alike}
-
-if_at_most : (b : Bool) (n : ℕ) → (if b then n else 0) ≤ n
-if_at_most b n = search rules
+use Rattle.trace_record.proofs.MiddleLaws.{rules, common_steps, ◌≡◌, ◌≢◌, ◌+◌, ◌*◌, ◌<◌, ◌≤◌, ◌∙◌, ◌∷◌, ℕ, zero, suc, true, false, List, [], Option, Some, None, ap, sym, refl, arith, length, get_or, nat_lt, replicate, slice_index_or, lt-ltb, cond-true, Known, DeviceRecord, FollowsDevices, eqb-true, false≢true, Endpoint, fresh_endpoint, ◌/◌, ◌%◌, nat_eq, option_eq, set, sum_by-set, is_ring, Holders, AreCounted, AreSummed, HasOneHolder, HasRoom, HasSumRoom, IsSummed, count_of, one_of, place_of, places_sum, sum_of, is_same, alike, named}
+use Rattle.trace_record.proofs.DeviceSlots.HolderCounts.{read_at}
 
 -- ---- the numbers of a list
 
@@ -27,30 +23,22 @@ sum_set r (y ∷ xs) start (suc n) x d below = search (rules, set, get_or, sum_s
 few : (r : ℕ) (xs : List Endpoint) (start most : ℕ) → start + length xs ≤ most → places_sum r xs start ≤ length xs * most
 unfolding places_sum
 few r [] start most fits = omega arith
-few r (x ∷ xs) start most fits = search (rules, if_at_most, length, few r xs (start + 1) most (omega arith))
+few r (x ∷ xs) start most fits = search (rules, length, few r xs (start + 1) most (omega arith))
 
 -- none has the ring
 none : (r : ℕ) (xs : List Endpoint) (start : ℕ) → ((m : ℕ) (d : Endpoint) → m < length xs → is_ring r (get_or xs m d).ring ≡ false) → places_sum r xs start ≡ 0
 unfolding places_sum
 none r [] start never = refl
-none r (x ∷ xs) start never =
-    let here : place_of r x.ring start ≡ 0 = ap (λ b. let n : ℕ = if b then start else 0 in n) (never 0 x (omega arith)) in
-    let rest = none r xs (start + 1) (λ m d below. never (suc m) d (omega arith)) in
-    omega (arith, here, rest)
+none r (x ∷ xs) start never = grind (arith, never 0 x (omega arith), none r xs (start + 1) (λ m d below. never (suc m) d (omega arith)))
 
 -- one alone has it
 alone : (r : ℕ) (xs : List Endpoint) (start n : ℕ) → n < length xs → ((d : Endpoint) → is_ring r (get_or xs n d).ring ≡ true) →
     ((m : ℕ) (d : Endpoint) → m < length xs → m ≢ n → is_ring r (get_or xs m d).ring ≡ false) → places_sum r xs start ≡ start + n
 unfolding places_sum
 alone r [] start n below has others = absurd (omega arith)
-alone r (x ∷ xs) start zero below has others =
-    let here : place_of r x.ring start ≡ start = ap (λ b. let n : ℕ = if b then start else 0 in n) (has x) in
-    let rest = none r xs (start + 1) (λ m d within. others (suc m) d (omega arith) (omega arith)) in
-    omega (arith, here, rest)
+alone r (x ∷ xs) start zero below has others = grind (arith, has x, none r xs (start + 1) (λ m d within. others (suc m) d (omega arith) (omega arith)))
 alone r (x ∷ xs) start (suc n) below has others =
-    let here : place_of r x.ring start ≡ 0 = ap (λ b. let n : ℕ = if b then start else 0 in n) (others 0 x (omega arith) (omega arith)) in
-    let rest = alone r xs (start + 1) n (omega arith) has (λ m d within other. others (suc m) d (omega arith) (omega arith)) in
-    omega (arith, here, rest)
+    grind (arith, others 0 x (omega arith) (omega arith), alone r xs (start + 1) n (omega arith) has (λ m d within other. others (suc m) d (omega arith) (omega arith)))
 
 none_fresh : (r n start : ℕ) → places_sum r (replicate n fresh_endpoint) start ≡ 0
 unfolding places_sum
@@ -72,9 +60,7 @@ module _ (es : List Endpoint) (hs : Holders) (counted : AreCounted es hs) (summe
 
   pub leaves_sum : (o : Option ℕ) → (get_or es n d).ring ≡ o → IsSummed hs o n
   leaves_sum None is = tt
-  leaves_sum (Some r) is = λ fits.
-      let here : place_of r (get_or es n d).ring n ≡ n = ap (λ b. let m : ℕ = if b then n else 0 in m) (is_same r (get_or es n d).ring is) in
-      omega (arith, here, among r, summed r fits)
+  leaves_sum (Some r) is = λ fits. grind (arith, among r, summed r fits, is_same r (get_or es n d).ring is)
 
   pub takes_sum : (o : Option ℕ) → length es ≡ 256 * 32 → HasSumRoom hs o n
   takes_sum o h1 = search (rules, length, few)
@@ -106,27 +92,12 @@ module _ (k : Known) (d : DeviceRecord) (f : FollowsDevices k d) (r : ℕ) (fits
   here : (i < 32) × (s * 32 + i < length d.endpoints.items) × ((get_or d.endpoints.items (s * 32 + i) fresh_endpoint).ring ≡ Some r)
   here = read_at k d f r s i has
 
-  known_at : (m : ℕ) → k.ring_of (m / 32) (m % 32) ≡ (get_or d.endpoints.items m fresh_endpoint).ring
-  known_at m = search (rules, nat_lt, lt-ltb, cond-true, slice_index_or, fresh_endpoint)
-
   other : (m : ℕ) (e : Endpoint) → m < length d.endpoints.items → m ≢ s * 32 + i → is_ring r (get_or d.endpoints.items m e).ring ≡ false
-  other m e below away = elim (cases_Bool (is_ring r (get_or d.endpoints.items m e).ring)) [
-    | inr out ↦ out
-    | inl same ↦
-        let read : get_or d.endpoints.items m e ≡ get_or d.endpoints.items m fresh_endpoint = get_or_within d.endpoints.items m e fresh_endpoint below in
-        let both = one (m / 32) (m % 32) s i (known_at m ∙ ap (λ (x : Endpoint). x.ring) (sym read) ∙ named r (get_or d.endpoints.items m e).ring same) has in
-        absurd (away (omega (arith, both.0, both.1)))
-  ]
+  other m e below away = grind (arith, one (m / 32) (m % 32) s i, nat_lt, lt-ltb, cond-true, slice_index_or, fresh_endpoint, get_or_within d.endpoints.items m e fresh_endpoint below, named r (get_or d.endpoints.items m e).ring)
 
   -- its number is the sum
   pub its_number : (sum_of d.holders r ≡ s * 32 + i) × (i < 32) × (s * 32 + i < 256 * 32)
-  its_number =
-      let at : places_sum r d.endpoints.items 0 ≡ 0 + (s * 32 + i) =
-      alone r d.endpoints.items 0 (s * 32 + i) here.1 (λ e. is_same r (get_or d.endpoints.items (s * 32 + i) e).ring (at_any e)) other in
-      (omega (arith, at, d.summed r fits), here.0, omega (arith, here.1, d.endpoints_many))
-    where
-      at_any : (e : Endpoint) → (get_or d.endpoints.items (s * 32 + i) e).ring ≡ Some r
-      at_any e = ap (λ (x : Endpoint). x.ring) (get_or_within d.endpoints.items (s * 32 + i) e fresh_endpoint here.1) ∙ here.2
+  its_number = search (rules, here, alone r d.endpoints.items 0 (s * 32 + i), is_same, get_or_within, other, d.summed r fits, d.endpoints_many)
 
 -- two rings that are found to be one
 pub same_ring : (a b : Option ℕ) → option_eq nat_eq a b ≡ true → a ≡ b

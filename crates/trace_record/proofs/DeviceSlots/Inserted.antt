@@ -1,5 +1,5 @@
 -- What passes a test of a list where one element more passes, or none
-use Rattle.trace_record.proofs.BaseWords.{rules, ◌≡◌, ◌++◌, ◌&&◌, ◌||◌, if◌then◌else◌, ◌∙◌, ◌∷◌, not, Bool, true, false, List, [], Option, Some, None, ap, sym, refl, filter, filter_map, cons_option, filter_map-append}
+use Rattle.trace_record.proofs.BaseWords.{rules, ◌≡◌, ◌++◌, ◌&&◌, ◌||◌, ◌∙◌, ◌∷◌, not, Bool, true, false, List, [], Option, Some, None, ap, sym, refl, filter, filter_map, cons_option, filter_map-append}
 
 -- the new list is the old one with x at some place
 pub record Inserted {X : Type 0} (x : X) (old new : List X) : Type 0 where
@@ -8,33 +8,19 @@ pub record Inserted {X : Type 0} (x : X) (old new : List X) : Type 0 where
   pub was : old ≡ front ++ back
   pub is : new ≡ front ++ x ∷ back
 
-heads : {X : Type 0} (x y : X) (xs ys : List X) → x ∷ xs ≡ y ∷ ys → x ≡ y
-heads x y xs ys e = cc
-
-tails : {X : Type 0} (x y : X) (xs ys : List X) → x ∷ xs ≡ y ∷ ys → xs ≡ ys
-tails x y xs ys e = cc
-
 module _ {X : Type 0} where
-  none_step : (x : X) (os ns ts : List X) (o w : Bool) → (if not o && w then x ∷ ts else ts) ≡ [] → (ts ≡ [] → ns ≡ os) →
-      (if o || w then x ∷ ns else ns) ≡ (if o then x ∷ os else os)
-  none_step x os ns ts o w h1 h2 = search rules
-
   -- of what didn't pass before nothing passes now
   pub filter_as_before : (old now : X → Bool) (xs : List X) → filter (λ x. not (old x) && now x) xs ≡ [] → filter (λ x. old x || now x) xs ≡ filter old xs
   filter_as_before old now [] none = refl
-  filter_as_before old now (x ∷ xs) none = search (rules, none_step, filter, not, filter_as_before old now xs)
+  filter_as_before old now (x ∷ xs) none = search (rules, filter, not, filter_as_before old now xs)
 
   further : (x p : X) (os ns : List X) → Inserted p os ns → Inserted p (x ∷ os) (x ∷ ns)
   further x p os ns i = record { front = x ∷ i.front; back = i.back; was = ap (λ l. x ∷ l) i.was; is = ap (λ l. x ∷ l) i.is }
 
-  one_step : (x p : X) (os ns ts : List X) (o w : Bool) → (if not o && w then x ∷ ts else ts) ≡ p ∷ [] → (ts ≡ [] → ns ≡ os) → (ts ≡ p ∷ [] → Inserted p os ns) →
-      Inserted p (if o then x ∷ os else os) (if o || w then x ∷ ns else ns)
-  one_step x p os ns ts o w h1 h2 h3 = search (rules, further, heads, tails)
-
   -- one does
   pub filter_with_one : (old now : X → Bool) (p : X) (xs : List X) → filter (λ x. not (old x) && now x) xs ≡ p ∷ [] → Inserted p (filter old xs) (filter (λ x. old x || now x) xs)
   filter_with_one old now p [] one = absurd (cc)
-  filter_with_one old now p (x ∷ xs) one = search (rules, one_step, filter, not, filter_as_before, filter_with_one old now p xs)
+  filter_with_one old now p (x ∷ xs) one = search (rules, further, filter, not, filter_as_before, filter_with_one old now p xs)
 
   module _ {Y : Type 0} (f : X → Option Y) (p : X) (os ns : List X) (i : Inserted p os ns) where
     old_parts : filter_map f os ≡ filter_map f i.front ++ filter_map f i.back
@@ -51,15 +37,11 @@ module _ {X : Type 0} where
     pub mapped_as_before : f p ≡ None → filter_map f ns ≡ filter_map f os
     mapped_as_before at = new_parts None at ∙ sym old_parts
 
-  mapped_step : {Y : Type 0} (f g : X → Option Y) (x : X) (xs : List X) (b : Bool) → (b ≡ true → f x ≡ g x) → filter_map f xs ≡ filter_map g xs →
-      filter_map f (if b then x ∷ xs else xs) ≡ filter_map g (if b then x ∷ xs else xs)
-  mapped_step f g x xs b h1 h2 = search (rules, cons_option)
-
   -- what all stand for that pass is the same
   pub mapped_same : {Y : Type 0} (f g : X → Option Y) (test : X → Bool) (xs : List X) → ((x : X) → test x ≡ true → f x ≡ g x) →
       filter_map f (filter test xs) ≡ filter_map g (filter test xs)
   mapped_same f g test [] same = refl
-  mapped_same f g test (x ∷ xs) same = mapped_step f g x (filter test xs) (test x) (same x) (mapped_same f g test xs same)
+  mapped_same f g test (x ∷ xs) same = search (rules, filter, filter_map, cons_option, same x, mapped_same f g test xs same)
 
   -- nothing passes the test that never holds
   pub filter_nothing : (xs : List X) → filter (λ x. false) xs ≡ []

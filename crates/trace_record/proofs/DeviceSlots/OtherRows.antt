@@ -1,14 +1,9 @@
 -- Rows by which nothing changes that the record speaks of
-use Rattle.trace_record.proofs.BaseWords.{rules, ◌≡◌, ◌&&◌, ◌||◌, if◌then◌else◌, ℕ, not, Bool, true, List, None, sym, subst, option_and_then, Block, Header, Register, Sub, Write, Reg, run_bit, reset_bit, Known, on_ring, taken_device, command_given, with_device, with_word, written, run_or_stop, valued, register_written, learned, DeviceRecord, FollowsDevices}
-use Rattle.trace_record.proofs.DeviceSlots.Steps.{follows_beside}
-
-started_or_not : (k : Known) (d : DeviceRecord) → FollowsDevices k d → (a b c : Bool) →
-    FollowsDevices (if a then (if b then record k { started = true } else k) else (if c then record k { stopped = true } else k)) d
-started_or_not k d h1 a b c = search (rules, follows_beside)
+use Rattle.trace_record.proofs.MiddleLaws.{rules, ◌≡◌, ℕ, List, None, sym, subst, option_and_then, Block, Header, Register, Sub, Write, Reg, Known, on_ring, taken_device, command_given, with_device, with_word, written, run_or_stop, valued, register_written, learned, DeviceRecord, FollowsDevices, follows_beside}
 
 pub after_run : (k : Known) (v : ℕ) (d : DeviceRecord) → FollowsDevices k d → FollowsDevices (run_or_stop k v) d
 unfolding run_or_stop
-after_run k v d f = started_or_not k d f (not k.started) (run_bit v && not (reset_bit v)) (not (run_bit v) || reset_bit v)
+after_run k v d f = search (rules, follows_beside)
 
 module _ (h : Header) (k : Known) (d : DeviceRecord) (f : FollowsDevices k d) where
   pub after_declaration : (r : ℕ) (blocks : List Block) → FollowsDevices (learned h k (Sub r blocks)) d

@@ -1,7 +1,5 @@
 -- An endpoint gets a ring, or keeps its own
-use Rattle.trace_record.proofs.BaseWords.{rules, ◌≡◌, ◌<◌, ◌==◌, if◌then◌else◌, ◌∙◌, ℕ, Bool, true, false, List, Option, Some, None, ap, sym, subst, length, get_or-set_same, get_or-set_other, slice_index_or, slice_set, eq-eqb, ne_eqb, cond-true, cond-false, put, put_pair, EndpointState, is_off, Spot, target, Header, ring_having, shape_of, Known, on_ring, bound_to, in_state, moved, moved_to, pointed, set_to, Endpoint, DeviceRecord, placed_endpoint, ring_got, FollowsDevices, IsWithBound, IsWithEndpoint, endpoint_at}
-use Rattle.trace_record.proofs.DeviceSlots.Moves.{follows_moved}
-use Rattle.trace_record.proofs.DeviceSlots.Steps.{endpoints_same, states_same, devices_same, follows_beside, follows_halt, follows_placed}
+use Rattle.trace_record.proofs.UpperLaws.{rules, ◌≡◌, ◌<◌, ◌==◌, if◌then◌else◌, ◌∙◌, ℕ, Bool, true, false, List, Option, Some, None, ap, sym, length, get_or-set_same, get_or-set_other, slice_index_or, slice_set, eq-eqb, ne_eqb, cond-true, cond-false, put, put_pair, EndpointState, is_off, Spot, target, Header, ring_having, shape_of, Known, on_ring, bound_to, in_state, moved, moved_to, pointed, set_to, Endpoint, DeviceRecord, placed_endpoint, ring_got, FollowsDevices, IsWithBound, IsWithEndpoint, endpoint_at, follows_moved, endpoints_same, states_same, devices_same, follows_beside, follows_halt, follows_placed}
 
 pub set_at : {X : Type 0} (xs : List X) (n m : ℕ) (x d : X) → n < length xs → slice_index_or (slice_set xs n x) m d ≡ (if m == n then x else slice_index_or xs m d)
 set_at xs n m x d below = search (rules, slice_index_or, slice_set, get_or-set_same, cond-true, eq-eqb, get_or-set_other, cond-false, ne_eqb)
@@ -25,22 +23,13 @@ module _ (h : Header) (k : Known) (s i p : ℕ) (cycle : Bool) (state : Endpoint
       FollowsDevices (record k' { endpoint_state = put_pair k'.endpoint_state s i state; must_move = put_pair k'.must_move s i false }) new
   stays k' f' is = follows_halt k' mid new f' s i x state false w (is ∙ ap (λ (y : Endpoint). placed_endpoint y None state) was)
 
-  gets_still : (r : ℕ) → IsWithBound old mid (Some r) → x ≡ placed_endpoint e (Some r) state →
-      FollowsDevices (record k {
-        was_bound = put k.was_bound r true;
-        endpoint_state = put_pair k.endpoint_state s i state;
-        ring_of = put_pair k.ring_of s i (Some r);
-        must_move = put_pair k.must_move s i false;
-      }) new
-  gets_still r b is = search (rules, follows_placed, put, follows_bound, placed_endpoint)
-
   -- the ring that it gets is moved to a spot, if one is named
   gets_at : (r : ℕ) (o : Option Spot) → IsWithBound old mid (Some r) → x ≡ placed_endpoint e (Some r) state →
       FollowsDevices (record (in_state h (record (moved_to h k r o) { ring_of = put_pair k.ring_of s i (Some r); was_bound = put k.was_bound r true }) s i state) {
         must_move = put_pair k.must_move s i false;
       }) new
   unfolding in_state moved_to set_to on_ring
-  gets_at r o h1 h2 = search (rules, gets_still, follows_beside, put, put_pair, set_to)
+  gets_at r o h1 h2 = search (rules, follows_placed, follows_bound, placed_endpoint, follows_beside, put, put_pair, set_to)
 
   gets_ring : (o : Option ℕ) → IsWithBound old mid o → x ≡ placed_endpoint e o state →
       FollowsDevices (record (in_state h (bound_to h k s i o p cycle) s i state) { must_move = put_pair k.must_move s i false }) new
@@ -53,22 +42,10 @@ module _ (h : Header) (k : Known) (s i p : ℕ) (cycle : Bool) (state : Endpoint
   unfolding in_state
   keeps_ring o b is =
       let f' = follows_moved h k old f o p cycle in
-      let now = stays (moved h k o p cycle) (follows_unbound (moved h k o p cycle) old mid f' b) is in
-      let same : (moved h k o p cycle).must_move ≡ k.must_move = λ n t j. (f'.must_move t j ∙ sym (f.must_move t j)) n in
-      let P : (ℕ → ℕ → Bool) → Type 0 =
-      λ g. FollowsDevices (record (moved h k o p cycle) { endpoint_state = put_pair (moved h k o p cycle).endpoint_state s i state; must_move = put_pair g s i false }) new in
-      subst P same now
-
-  -- b says whether the endpoint is Disabled
-  by_state : (b : Bool) (ring : Option ℕ) → (b ≡ true → ring_having h p ≡ ring) →
-      IsWithBound old mid (if b then ring else None) → x ≡ placed_endpoint e (if b then ring else None) state →
-      FollowsDevices (record (in_state h (if b then bound_to h k s i (ring_having h p) p cycle else moved h k (k.ring_of s i) p cycle) s i state) {
-        must_move = put_pair k.must_move s i false;
-      }) new
-  by_state b ring h1 h2 h3 = search (rules, in_state, bound_to, put_pair, gets_ring, keeps_ring)
+      search (rules, stays, moved, follows_unbound, Bool, FollowsDevices, put_pair)
 
   pub follows_place : (ring : Option ℕ) → (is_off (k.endpoint_state s i) ≡ true → ring_having h p ≡ ring) →
       IsWithBound old mid (ring_got (k.endpoint_state s i) ring) → x ≡ placed_endpoint e (ring_got (k.endpoint_state s i) ring) state →
       FollowsDevices (record (in_state h (pointed h k s i p cycle) s i state) { must_move = put_pair k.must_move s i false }) new
   unfolding pointed
-  follows_place ring named b is = by_state (is_off (k.endpoint_state s i)) ring named b is
+  follows_place ring named b is = search (rules, in_state, bound_to, put_pair, gets_ring, keeps_ring)

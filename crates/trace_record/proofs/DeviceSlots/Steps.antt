@@ -1,6 +1,5 @@
 -- The record follows what is known where one slot, one endpoint or nothing of these is kept anew
-use Rattle.trace_record.proofs.BaseWords.{rules, ◌≡◌, ◌∙◌, ℕ, Option, Bool, false, ap, sym, slice_index_or, SlotState, EndpointState, put, put_pair, Known, Slot, Endpoint, DeviceRecord, FollowsDevices, IsWithSlot, IsWithEndpoint, slot_at, endpoint_at}
-use Rattle.trace_record.proofs.DeviceSlots.Fields.{endpoint_put, endpoint_kept, slot_put, slot_kept}
+use Rattle.trace_record.proofs.LowerLaws.{rules, ◌≡◌, ◌∙◌, ℕ, Option, Bool, false, ap, sym, slice_index_or, SlotState, EndpointState, put, put_pair, Known, Slot, Endpoint, DeviceRecord, FollowsDevices, IsWithSlot, IsWithEndpoint, slot_at, endpoint_at, endpoint_put, endpoint_kept, slot_put, slot_kept}
 
 -- what the record doesn't speak of is that of another k'
 abbrev pub beside : Known → Known → Known

@@ -43,12 +43,9 @@ module _ (h : Header) (k : Known) (b : Block) where
 
     -- nothing is given a lap ahead, and the next command is given
     module _ (next : view.given (next_command h k) ≡ true) (within : (p : ℕ) → view.given p ≡ true → p < floor_number view + place_count shape) where
-      lap : view.given (floor_number view + place_count shape) ≡ false
-      lap = search (rules, floor_number, place_count)
-
       positions_before : unfinished_positions h k ≡ next_command h k ∷ filter view.given (range_with_len (floor_number view + 1) (place_count shape))
       unfolding unfinished_positions due_positions next_command
-      positions_before = filter_first view.given (floor_number view) (place_count shape) next lap
+      positions_before = filter_first view.given (floor_number view) (place_count shape) next (search (rules, floor_number, place_count))
 
       -- the next command, where the block is one, was the first
       pub unfinished_completed : unfinished h k ≡ cons_option (command_at h k (next_command h k)) (unfinished h (completed h k b))

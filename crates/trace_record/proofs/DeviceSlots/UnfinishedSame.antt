@@ -1,6 +1,5 @@
 -- Where the command ring is as it was but for what holds it, the same commands are unfinished
-use Rattle.trace_record.proofs.BaseWords.{rules, ◌≡◌, ◌==◌, ◌<◌, ◌≢◌, ℕ, not, true, List, Option, ap, refl, filter, option_and_then, slice_get, eq-eqb, ne_eqb, filter_map, cond-true, cond-false, Block, RingView, RingChange, Declares, Opens, changed, declared, due_positions, slice_get-append, command_of, Header, Register, Usbcmd, Sub, Reg, Bell, shape_of, command_id, run_bit, reset_bit, Known, on_ring, command_at, unfinished_positions, unfinished, run_or_stop, valued, register_written, endpoint_rung, rung, learned}
-use Rattle.trace_record.proofs.DeviceSlots.Inserted.{mapped_same}
+use Rattle.trace_record.proofs.LowerLaws.{rules, ◌≡◌, ◌==◌, ◌<◌, ◌≢◌, ℕ, not, true, List, ap, refl, filter, option_and_then, slice_get, eq-eqb, ne_eqb, filter_map, cond-true, cond-false, Block, RingView, RingChange, Opens, changed, declared, due_positions, slice_get-append, command_of, Header, Register, Usbcmd, Sub, Reg, Bell, shape_of, command_id, run_bit, reset_bit, Known, on_ring, command_at, unfinished_positions, unfinished, run_or_stop, valued, register_written, endpoint_rung, rung, learned, mapped_same}
 
 -- what is declared, given and passed of a ring
 pub record SameBlocks (v w : RingView) : Type 0 where
@@ -27,16 +26,11 @@ module _ (h : Header) where
   module _ (k : Known) where
     -- ---- a declaration
 
-    declared_here : (blocks : List Block) → ((p : ℕ) → (k.ring (command_id h)).given p ≡ true → p < declared (k.ring (command_id h))) →
-        (l : Known) → l.ring (command_id h) ≡ changed (shape_of h (command_id h)) (k.ring (command_id h)) (Declares blocks) → unfinished h l ≡ unfinished h k
-    unfolding unfinished unfinished_positions command_at due_positions
-    declared_here blocks within l at = search (rules, filter_map, option_and_then, command_of, slice_get, filter, due_positions, shape_of, command_id, mapped_same, slice_get-append)
-
     -- what is given was declared before
     pub unfinished_declared : (r : ℕ) (blocks : List Block) → ((p : ℕ) → (k.ring (command_id h)).given p ≡ true → p < declared (k.ring (command_id h))) →
         unfinished h (learned h k (Sub r blocks)) ≡ unfinished h k
-    unfolding learned
-    unfinished_declared r blocks within = search (rules, command_id, declared_here, on_ring, changed, shape_of, ring_here, unfinished_same, same_blocks, ring_elsewhere)
+    unfolding learned unfinished unfinished_positions command_at due_positions
+    unfinished_declared r blocks within = search (rules, command_id, filter_map, option_and_then, command_of, slice_get, filter, due_positions, mapped_same, slice_get-append, on_ring, changed, shape_of, ring_here, unfinished_same, same_blocks, ring_elsewhere)
 
     -- ---- a register write
 
@@ -46,8 +40,7 @@ module _ (h : Header) where
 
   register_rings : (k : Known) (r : Register) (v : ℕ) → (learned h k (Reg r v)).ring ≡ k.ring
   unfolding learned register_written valued
-  register_rings k Usbcmd v = run_rings (valued k Usbcmd v) v
-  register_rings k r v = refl
+  register_rings k r v = search (rules, run_rings, valued, Usbcmd)
 
   pub unfinished_register : (k : Known) (r : Register) (v : ℕ) → unfinished h (learned h k (Reg r v)) ≡ unfinished h k
   unfinished_register k r v = unfinished_same k (learned h k (Reg r v)) (same_blocks _ _ (ap (λ (f : ℕ → RingView). f (command_id h)) (register_rings k r v)))
@@ -57,10 +50,6 @@ module _ (h : Header) where
   opened_blocks : (k : Known) (r q : ℕ) → SameBlocks (k.ring q) ((on_ring h k r Opens).ring q)
   opened_blocks k r q = search (rules, on_ring, ring_here, same_blocks, ring_elsewhere)
 
-  endpoint_blocks : (k : Known) (s t q : ℕ) (o : Option ℕ) → SameBlocks (k.ring q) ((endpoint_rung h k s t o).ring q)
-  unfolding endpoint_rung
-  endpoint_blocks k s t q o = search (rules, same_blocks, opened_blocks)
-
   pub unfinished_rung : (k : Known) (s t : ℕ) → unfinished h (learned h k (Bell s t)) ≡ unfinished h k
-  unfolding learned rung
-  unfinished_rung k s t = search (rules, unfinished_same, rung, on_ring, command_id, endpoint_rung, opened_blocks, endpoint_blocks)
+  unfolding learned rung endpoint_rung
+  unfinished_rung k s t = search (rules, unfinished_same, rung, on_ring, command_id, endpoint_rung, opened_blocks, same_blocks)

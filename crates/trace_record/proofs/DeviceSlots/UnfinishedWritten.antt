@@ -1,6 +1,5 @@
 -- The unfinished commands behind a write: with the one that it gives, if it gives one
-use Rattle.trace_record.proofs.BaseWords.{rules, ◌≡◌, ◌∙◌, ◌||◌, ◌⊎◌, ◌∷◌, ℕ, List, [], Option, Some, None, ap, sym, inl, inr, filter, option_and_then, slice_get, filter_map, none-some, Shape, IsShape, RingView, Writes, changed, gives, due_positions, positions_given, positions_given-one, Command, command_of, Header, Write, shape_of, command_id, Known, command_at, unfinished_positions, unfinished, taken_device, command_given, with_device, with_word, written, learned}
-use Rattle.trace_record.proofs.DeviceSlots.Inserted.{Inserted, filter_as_before, filter_with_one, mapped_with_one, mapped_as_before}
+use Rattle.trace_record.proofs.LowerLaws.{rules, ◌≡◌, ◌∙◌, ◌||◌, ◌⊎◌, ◌∷◌, ℕ, List, [], Some, None, ap, sym, inl, inr, filter, option_and_then, slice_get, filter_map, none-some, Shape, IsShape, RingView, Writes, changed, gives, due_positions, positions_given, positions_given-one, Command, command_of, Header, Write, shape_of, command_id, Known, command_at, unfinished_positions, unfinished, command_given, with_device, with_word, written, learned, Inserted, filter_as_before, filter_with_one, mapped_with_one, mapped_as_before}
 
 module _ (h : Header) (k : Known) (a w : ℕ) where
   abbrev shape : Shape
@@ -12,14 +11,10 @@ module _ (h : Header) (k : Known) (a w : ℕ) where
   abbrev l : Known
   l = learned h k (Write a w)
 
-  same_rings : (m : Known) (o : Option (ℕ × ℕ)) → (with_device h m o).ring ≡ m.ring
-  unfolding with_device
-  same_rings m o = search rules
-
   -- what is known of the command ring
   pub written_view : l.ring (command_id h) ≡ changed shape view (Writes a w)
-  unfolding learned written with_word
-  written_view = ap (λ (f : ℕ → RingView). f (command_id h)) (same_rings (with_word h k a w) (option_and_then (taken_device k) (command_given h k a w)))
+  unfolding learned written with_word with_device
+  written_view = search (rules, changed)
 
   -- the numbers of the positions that are given and due
   pub due_given : unfinished_positions h l ≡ filter (λ p. view.given p || gives shape view.floor p a w) (due_positions shape view)
@@ -48,12 +43,12 @@ module _ (h : Header) (k : Known) (a w : ℕ) where
     -- it gives one position there, with this command
     pub gives_one : (c : Command) → command_at h k p ≡ Some c → Inserted c (unfinished h k) (unfinished h l)
     unfolding unfinished
-    gives_one c at = search (rules, unfinished, listed, mapped_with_one, command_at, unfinished_positions, filter, gives, due_positions, inserted)
+    gives_one c at = search (rules, listed, mapped_with_one, inserted)
 
     -- or with a block that is no command of the profile
     pub gives_other : command_at h k p ≡ None → unfinished h l ≡ unfinished h k
     unfolding unfinished
-    gives_other none = search (rules, listed, mapped_as_before, command_at, unfinished_positions, filter, gives, due_positions, inserted)
+    gives_other none = search (rules, listed, mapped_as_before, inserted)
 
   -- at most one position is given
   abbrev pub GivesOne : Type 0
@@ -69,16 +64,8 @@ module _ (h : Header) (k : Known) (a w : ℕ) where
 
   -- with the command that is given
   pub written_with : GivesOne → (c : Command) → command_given h k a w ≡ Some c → Inserted c (unfinished h k) (unfinished h l)
-  written_with most c at =
-      elim most [
-        | inl none ↦ absurd (none-some c (sym (given_first [] none) ∙ at))
-        | inr one ↦ gives_one one.0 one.1 c (sym (given_first (one.0 ∷ []) one.1) ∙ at)
-      ]
+  written_with most c at = elim most [ inl none ↦ search (rules, none-some, given_first [] none) | inr one ↦ gives_one one.0 one.1 c (sym (given_first (one.0 ∷ []) one.1) ∙ at) ]
 
   -- and as before where no command is
   pub written_without : GivesOne → command_given h k a w ≡ None → unfinished h l ≡ unfinished h k
-  written_without most at =
-      elim most [
-        | inl none ↦ gives_none none
-        | inr one ↦ gives_other one.0 one.1 (sym (given_first (one.0 ∷ []) one.1) ∙ at)
-      ]
+  written_without most at = elim most [ inl none ↦ gives_none none | inr one ↦ gives_other one.0 one.1 (sym (given_first (one.0 ∷ []) one.1) ∙ at) ]

@@ -23,8 +23,7 @@ find_one v [] some = absurd (omega arith)
 find_one v (x ∷ xs) some = elim (cases_eq x v) [
   | inl same ↦ record { index = 0; within = omega arith; is = sym same }
   | inr other ↦
-      let no : one_for v x ≡ 0 = grind (arith, nat_tests, other) in
-      let there = find_one v xs (omega (arith, sum_by-cons (one_for v) x xs, no)) in
+      let there = find_one v xs (grind (arith, nat_tests, sum_by-cons (one_for v) x xs)) in
       record { index = suc there.index; within = omega (arith, there.within); is = there.is }
 ]
 

@@ -1,6 +1,5 @@
 -- Words whose bits are 1
-use Rattle.trace_record.proofs.BaseWords.{rules, ◌≡◌, ◌≢◌, ◌==◌, ◌+◌, ◌*◌, ◌/◌, ◌%◌, ◌^◌, ◌<◌, ◌≤◌, ◌∙◌, ◌&&◌, ◌||◌, ℕ, Bool, true, false, refl, arith, ap, sym, inl, inr, not, cond-true, cond-false, eq-eqb, ne_eqb, nat_le, nat_lt, cases_eq, nat_tests, bit_and, bit_not, bit_or, bit_at, w64, put, is_in, is_marked}
-use Rattle.trace_record.proofs.RangeWords.BitTests.{either_bit, cleared_here, cleared_other}
+use Rattle.trace_record.proofs.LowerLaws.{rules, ◌≡◌, ◌≢◌, ◌==◌, ◌+◌, ◌*◌, ◌/◌, ◌%◌, ◌^◌, ◌<◌, ◌≤◌, ◌∙◌, ◌&&◌, ◌||◌, ℕ, true, refl, arith, ap, inl, inr, not, cond-true, cond-false, eq-eqb, ne_eqb, nat_le, nat_lt, cases_eq, nat_tests, bit_and, bit_not, bit_or, bit_at, w64, put, is_in, is_marked, either_bit, cleared_here, cleared_other}
 
 put_here : (f : ℕ → ℕ) (n x m : ℕ) → m ≡ n → put f n x m ≡ x
 put_here f n x m same = cond-true (m == n) x (f m) (eq-eqb m n same)
@@ -31,9 +30,6 @@ by_number x y words a from of_a of_from = grind (arith, nat_tests, of_a, of_from
 one_group_more : (h g : ℕ) → h ≢ g → nat_lt h g ≡ nat_lt h (g + 1)
 one_group_more h g apart = grind (arith, nat_tests, apart)
 
-with_group : (inside old before here : Bool) (h g : ℕ) → h ≡ g → before ≡ ((inside && nat_lt h g) || old) → here ≡ inside → (before || here) ≡ ((inside && nat_lt h (g + 1)) || old)
-with_group inside old before here h g h1 h2 h3 = search (rules, nat_tests)
-
 -- the words of one group more are soiled
 module _ (first old new : ℕ → ℕ) (from words g bits mask a : ℕ) where
   pub soiled_more :
@@ -44,32 +40,15 @@ module _ (first old new : ℕ → ℕ) (from words g bits mask a : ℕ) where
       is_marked new a ≡ ((is_in a from (4 * words) && nat_lt (a / 256) (g + 1)) || is_marked first a)
   soiled_more aligned place held masked set before = elim (cases_eq (a / 256) g) [
     | inl here ↦
-        let i : ℕ = a / 4 % 64 in
-        let is_inside : nat_lt 0 (bit_at mask i) ≡ is_in a from (4 * words) =
-        masked i (omega arith) ∙ ap (λ x. nat_le (from / 4) x && nat_lt x (from / 4 + words)) (in_group a g here)
+        let is_inside : nat_lt 0 (bit_at mask (a / 4 % 64)) ≡ is_in a from (4 * words) =
+        masked (a / 4 % 64) (omega arith) ∙ ap (λ x. nat_le (from / 4) x && nat_lt x (from / 4 + words)) (in_group a g here)
         ∙ by_number (a / 4) (from / 4) words a from (omega (arith, place)) (omega (arith, aligned)) in
-        let was : nat_lt 0 (bit_at bits i) ≡ is_marked old a = ap (λ b. nat_lt 0 (bit_at b i)) held ∙ sym (marked_at old g i a here refl) in
-        marked_at new g i a here refl ∙ ap (λ b. nat_lt 0 (bit_at b i)) (set g ∙ put_here old g (bit_or bits mask) g refl) ∙ either_bit bits mask i
-        ∙ with_group (is_in a from (4 * words)) (is_marked first a) (nat_lt 0 (bit_at bits i)) (nat_lt 0 (bit_at mask i)) (a / 256) g here (was ∙ before) is_inside
-    | inr other ↦
-        ap (λ b. nat_lt 0 (bit_at b (a / 4 % 64))) (set (a / 256) ∙ put_other old g (bit_or bits mask) (a / 256) other) ∙ before
-        ∙ ap (λ t. (is_in a from (4 * words) && t) || is_marked first a) (one_group_more (a / 256) g other)
+        search (rules, is_inside, marked_at new g (a / 4 % 64) a here refl, marked_at old g (a / 4 % 64) a here refl, set g, put_here, either_bit)
+    | inr other ↦ search (rules, is_marked, set (a / 256), put_other old g (bit_or bits mask) (a / 256) other, one_group_more (a / 256) g other)
   ]
-
-gone : (s : Bool) (a at : ℕ) → a ≡ at → (s && not (a == at)) ≡ false
-gone s a at same = grind (arith, nat_tests, same)
-
-kept : (s : Bool) (a at : ℕ) → a ≢ at → (s && not (a == at)) ≡ s
-kept s a at apart = grind (arith, nat_tests, apart)
 
 -- one word is written
 module _ (old new : ℕ → ℕ) (at bits : ℕ) (aligned : at % 4 ≡ 0) (held : bits ≡ old (at / 256))
     (set : (h : ℕ) → new h ≡ put old (at / 256) (bit_and bits (bit_not w64 (2 ^ (at / 4 % 64)))) h) where
-  at_group : new (at / 256) ≡ bit_and bits (bit_not w64 (2 ^ (at / 4 % 64)))
-  at_group = set (at / 256) ∙ put_here old (at / 256) _ (at / 256) refl
-
-  place_below : (a : ℕ) → a / 4 % 64 < 64
-  place_below a = omega arith
-
   pub cleared : (a : ℕ) → a % 4 ≡ 0 → (is_marked old a && not (a == at)) ≡ is_marked new a
-  cleared a place = search (rules, gone, is_marked, marked_at, nat_lt, bit_at, at_group, cleared_here, place_below, kept, cleared_other, put_other)
+  cleared a place = search (rules, is_marked, marked_at, nat_lt, bit_at, cleared_here, cleared_other, put_other)

@@ -1,6 +1,5 @@
 -- Words from an address on
-use Rattle.trace_record.proofs.BaseWords.{◌≡◌, ◌<◌, ◌∙◌, ℕ, Bool, true, false, arith, ap, list_any, range_with_len, length-range_with_len, get_or-range_with_len, list_any_at}
-use Rattle.trace_record.proofs.RangeWords.AnyTests.{any_none}
+use Rattle.trace_record.proofs.LowerLaws.{◌≡◌, ◌<◌, ◌∙◌, ℕ, Bool, true, false, arith, ap, list_any, range_with_len, length-range_with_len, get_or-range_with_len, list_any_at, any_none}
 
 -- one of the first numbers passes a test
 pub any_below : (p : ℕ → Bool) (n i : ℕ) → i < n → p i ≡ true → list_any p (range_with_len 0 n) ≡ true
@@ -9,5 +8,4 @@ any_below p n i below passes =
 
 -- or none does
 pub none_below : (p : ℕ → Bool) (n : ℕ) → ((i : ℕ) → i < n → p i ≡ false) → list_any p (range_with_len 0 n) ≡ false
-none_below p n fails =
-    any_none p (range_with_len 0 n) (λ k d below. let inside : k < n = omega (arith, length-range_with_len 0 n) in ap p (get_or-range_with_len 0 n k d inside ∙ omega arith) ∙ fails k inside)
+none_below p n fails = grind (arith, any_none, range_with_len, length-range_with_len, get_or-range_with_len)

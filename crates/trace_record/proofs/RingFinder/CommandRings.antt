@@ -1,8 +1,5 @@
 -- The command ring of a header, and its number
-use Rattle.trace_record.proofs.BaseWords.{rules, ◌≡◌, ◌<◌, ◌∙◌, ◌∷◌, ℕ, List, [], Bool, true, None, Some, refl, ap, sym, get_or, length, position, slice_get, slice_get_read, position-Some, Ring, Header, IsHeader, command_ring, is_command_kind, is_driver_kind, is_some, false≢true, slice_get-get_or, RingKind, command_id, id_or_none, ring_with}
-use Rattle.trace_record.proofs.RingFinder.RingsApart.{IsAmong, among_at, other_number}
-use Rattle.trace_record.proofs.RingFinder.HeaderRings.{find_some, id_below, not_found}
-use Rattle.trace_record.proofs.RingFinder.FoundRings.{command_found}
+use Rattle.trace_record.proofs.UpperLaws.{rules, ◌≡◌, ◌<◌, ◌∙◌, ◌∷◌, ℕ, List, [], Bool, true, None, Some, refl, ap, sym, get_or, length, position, slice_get, slice_get_read, position-Some, Ring, Header, IsHeader, command_ring, is_command_kind, is_driver_kind, is_some, false≢true, slice_get-get_or, RingKind, command_id, id_or_none, ring_with, IsAmong, among_at, other_number, find_some, id_below, not_found, command_found}
 
 -- the command ring is the driver's
 pub driven : (kind : RingKind) → is_command_kind kind ≡ true → is_driver_kind kind ≡ true

@@ -1,21 +1,15 @@
 -- What a search through the rings of a header has found
-use Rattle.trace_record.proofs.BaseWords.{◌≡◌, ◌∙◌, ℕ, List, Bool, true, false, None, Some, refl, ap, sym, subst, get_or, length, slice_get, position, slice_get_read, position-Some, position-None, Ring, Header, IsHeader, command_ring, is_command_kind}
-use Rattle.trace_record.proofs.RingFinder.ListTests.{false_unless}
-use Rattle.trace_record.proofs.RingFinder.RingsApart.{IsAmong, each_among}
-use Rattle.trace_record.proofs.RingFinder.HeaderRings.{find_only, not_found, together}
+use Rattle.trace_record.proofs.MiddleLaws.{rules, arith, ◌≡◌, ℕ, List, Bool, true, false, None, Some, refl, subst, get_or, slice_get, position, slice_get_read, position-Some, position-None, Ring, Header, IsHeader, command_ring, is_command_kind, false_unless, IsAmong, each_among, find_only, not_found, together}
 
 pub ring_here : (h : Header) (p : Ring → Bool) (xs : List Ring) (n : ℕ) (ring : Ring) → position p xs ≡ Some n → xs ≡ h.rings → ring ≡ get_or xs n ring → (slice_get h.rings n ≡ Some ring) × (p ring ≡ true)
-ring_here h p xs n ring e same item =
-    let some = position-Some p xs n ring e in
-    (ap (λ ys. slice_get ys n) (sym same) ∙ slice_get_read xs (length xs) n ring refl some.0 item, ap p item ∙ some.1)
+ring_here h p xs n ring e same item = search (rules, position-Some, slice_get_read, position-Some p xs n ring e)
 
 pub none_here : (h : Header) (p : Ring → Bool) (xs : List Ring) → position p xs ≡ None → xs ≡ h.rings → (q : Ring) → IsAmong q h.rings → p q ≡ false
 none_here h p xs e same = subst (λ (ys : List Ring). (q : Ring) → IsAmong q ys → p q ≡ false) same (each_among p xs (λ i d l. position-None p xs i d e l))
 
 pub command_found : (h : Header) → IsHeader h → (ring : Ring) → IsAmong ring h.rings → is_command_kind ring.shape.kind ≡ true → command_ring h ≡ Some ring
 unfolding command_ring
-command_found h headed ring among command =
-    find_only (λ r. is_command_kind r.shape.kind) h.rings (together h headed) ring among command (λ q apart. false_unless (is_command_kind q.shape.kind) (λ e. apart.one_command command e))
+command_found h headed ring among command = grind (arith, find_only, is_command_kind, together, false_unless)
 
 pub no_command_ring : (h : Header) → position (λ r. is_command_kind r.shape.kind) h.rings ≡ None → command_ring h ≡ None
 unfolding command_ring

@@ -1,19 +1,10 @@
 -- A finder finds the transfer ring that has a block at an address, as a walk over all would
-use Rattle.trace_record.proofs.BaseWords.{rules, ◌≡◌, ◌-◌, ◌%◌, ◌<◌, ◌∷◌, ◌∙◌, ◌&&◌, ℕ, List, [], Bool, true, false, Some, None, refl, ap, sym, inl, inr, length, get_or, subst, find, position, cases_Bool, false≢true, and_parts, position-Some, is_inside, touches, touches-word_of, position-None, Ring, Header, IsHeader, id_of, is_transfer_kind, ring_having}
-use Rattle.trace_record.proofs.RingFinder.ListTests.{false_unless}
-use Rattle.trace_record.proofs.RingFinder.RingsApart.{IsAmong, among_get, each_among, same_or_apart}
-use Rattle.trace_record.proofs.RingFinder.HeaderRings.{not_found, shape_allowed, together}
+use Rattle.trace_record.proofs.MiddleLaws.{rules, ◌≡◌, ◌-◌, ◌%◌, ◌<◌, ◌∷◌, ◌∙◌, ◌&&◌, ℕ, List, [], Bool, true, false, Some, None, refl, ap, sym, length, get_or, subst, find, position, cases_Bool, false≢true, and_parts, position-Some, is_inside, touches, touches-word_of, position-None, Ring, Header, IsHeader, id_of, is_transfer_kind, ring_having, false_unless, IsAmong, among_get, each_among, same_or_apart, not_found, shape_allowed, together}
 
 -- the one ring that passes a test is found
 pub find_one : (f : Ring → Bool) (rs : List Ring) (r : Ring) → IsAmong r rs → f r ≡ true → ((q : Ring) → IsAmong q rs → f q ≡ true → q ≡ r) → find f rs ≡ Some r
 find_one f [] r among passes only = absurd among
-find_one f (x ∷ rest) r among passes only = elim (cases_Bool (f x)) [
-  | inl here ↦ rw here (ap (λ y. Some y) (only x (inl refl) here))
-  | inr fails ↦ rw fails (find_one f rest r (later fails among) passes (λ q a e. only q (inr a) e))
-]
-  where
-    later : f x ≡ false → IsAmong r (x ∷ rest) → IsAmong r rest
-    later h1 h2 = search (rules, false≢true)
+find_one f (x ∷ rest) r among passes only = search (rules, cases_Bool (f x), only x, false≢true, find_one f rest r, only)
 
 module _ (h : Header) (headed : IsHeader h) (a : ℕ) where
   -- it is a transfer ring that has the byte
@@ -36,9 +27,8 @@ module _ (h : Header) (headed : IsHeader h) (a : ℕ) where
 
   -- no ring has the word
   pub nowhere_had : None ≡ position has_word h.rings → None ≡ ring_having h a
-  nowhere_had none = none_has (λ q among it. false≢true (
-      sym (each_among has_word h.rings (λ i d below. position-None has_word h.rings i d (sym none) below) q among)
-      ∙ word_had q among it))
+  nowhere_had none =
+      none_has (λ q among it. false≢true (sym (each_among has_word h.rings (λ i d below. position-None has_word h.rings i d (sym none) below) q among) ∙ word_had q among it))
 
   -- a ring has it
   module _ (number : ℕ) (at : Some number ≡ position has_word h.rings) (d ring : Ring) (item : ring ≡ get_or h.rings number d) where

@@ -1,7 +1,5 @@
 -- Each ring of a header is found by its ID and its kind
-use Rattle.trace_record.proofs.BaseWords.{rules, ◌≡◌, ◌≢◌, ◌<◌, ◌∷◌, ◌++◌, ◌∙◌, ◌==◌, ◌&&◌, List, [], Bool, true, false, Option, Some, None, refl, ap, sym, arith, inl, inr, nat_lt, filter, find, ltb-true, list_any, list_all, flat_map, cases_Bool, and_parts, false≢true, IsShape, is_shape, Evt, Xfer, Ring, Header, may_stand_together, IsHeader, is_driver_kind, is_command_kind, is_event_kind, ring_with, shape_of, shape_or, id_or_none, command_ring, command_id, event_ring, event_shape}
-use Rattle.trace_record.proofs.RingFinder.ListTests.{or_false}
-use Rattle.trace_record.proofs.RingFinder.RingsApart.{IsAmong, Apart, apart_back, first_apart, rest_together, same_or_apart, same_number, other_number}
+use Rattle.trace_record.proofs.LowerLaws.{rules, ◌≡◌, ◌≢◌, ◌<◌, ◌∷◌, ◌++◌, ◌∙◌, ◌==◌, ◌&&◌, List, [], Bool, true, false, Option, Some, None, refl, ap, sym, arith, inl, inr, nat_lt, filter, find, ltb-true, list_any, list_all, flat_map, cases_Bool, and_parts, false≢true, IsShape, is_shape, Evt, Xfer, Ring, Header, may_stand_together, IsHeader, is_driver_kind, is_command_kind, is_event_kind, ring_with, shape_of, shape_or, id_or_none, command_ring, command_id, event_ring, event_shape, or_false, IsAmong, Apart, apart_back, first_apart, rest_together, same_or_apart, same_number, other_number}
 
 -- the one ring that passes a test is found
 pub find_only : (f : Ring → Bool) (rs : List Ring) → may_stand_together rs ≡ true → (r : Ring) → IsAmong r rs → f r ≡ true → ((q : Ring) → Apart r q → f q ≡ false) → find f rs ≡ Some r
@@ -12,10 +10,7 @@ find_only f (x ∷ rest) together r (inr later) passes others = search (rules, a
 -- what is found stands there and passes
 pub find_some : (f : Ring → Bool) (rs : List Ring) (r : Ring) → find f rs ≡ Some r → IsAmong r rs × (f r ≡ true)
 find_some f [] r e = absurd (cc)
-find_some f (x ∷ rest) r e = elim (cases_Bool (f x)) [
-  | inl passes ↦ search rules
-  | inr fails ↦ search (rules, find_some f rest r (sym (rw fails refl) ∙ e))
-]
+find_some f (x ∷ rest) r e = search (rules, cases_Bool (f x), find_some f rest r)
 
 abbrev pub drivers_of : List Ring → List Ring
 drivers_of rs = filter (λ r. is_driver_kind r.shape.kind) rs
@@ -70,16 +65,13 @@ module _ (h : Header) (headed : IsHeader h) where
     unfolding shape_of
     shape_there = ap (λ o. shape_or Xfer o) ring_found
 
-    not_event : (q : Ring) → is_event_kind r.shape.kind ≡ true → Apart r q → is_event_kind q.shape.kind ≡ false
-    not_event q is apart = search (rules, is_event_kind)
-
     pub event_found : is_event_kind r.shape.kind ≡ true → event_ring h ≡ Some r
     unfolding event_ring
-    event_found is = find_only (λ q. is_event_kind q.shape.kind) h.rings together r among is (λ q apart. not_event q is apart)
+    event_found is = find_only (λ q. is_event_kind q.shape.kind) h.rings together r among is (λ q apart. search (rules, is_event_kind))
 
     pub event_here : is_event_kind r.shape.kind ≡ true → event_shape h ≡ r.shape
     unfolding event_shape event_ring
-    event_here is = ap (λ o. shape_or Evt o) (find_only (λ q. is_event_kind q.shape.kind) h.rings together r among is (λ q apart. not_event q is apart))
+    event_here is = ap (λ o. shape_or Evt o) (event_found is)
 
   -- the command ring, if it isn't r, has another ID
   pub no_command_here : (r : Ring) → IsAmong r h.rings → is_command_kind r.shape.kind ≡ false → r.id ≢ command_id h
@@ -88,12 +80,7 @@ module _ (h : Header) (headed : IsHeader h) where
     where
       by : (o : Option Ring) → command_ring h ≡ o → r.id ≡ id_or_none o → ⊥
       by None found same = omega (arith, id_below r among, same)
-      by (Some c) found same =
-          let there = find_some (λ q. is_command_kind q.shape.kind) h.rings c found in
-          elim (same_or_apart h.rings together r c among there.0) [
-            | inl one ↦ false≢true (sym is_none ∙ ap (λ (y : Ring). is_command_kind y.shape.kind) (sym one) ∙ there.1)
-            | inr apart ↦ apart.ids same
-          ]
+      by (Some c) found same = search (rules, find_some (λ q. is_command_kind q.shape.kind) h.rings c found, same_or_apart h.rings together r c among, false≢true)
 
 -- where no ring has the ID
 pub not_found : (f : Ring → Bool) (rs : List Ring) → ((q : Ring) → IsAmong q rs → f q ≡ false) → find f rs ≡ None

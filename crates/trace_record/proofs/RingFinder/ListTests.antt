@@ -17,11 +17,8 @@ or_false b = search rules
 pub and_false : (b : Bool) → (b && false) ≡ false
 and_false b = search rules
 
-or_assoc : (a b c : Bool) → (a || (b || c)) ≡ ((a || b) || c)
-or_assoc a b c = search rules
-
 pub any_append : {X : Type 0} (f : X → Bool) (xs ys : List X) → list_any f (xs ++ ys) ≡ (list_any f xs || list_any f ys)
-any_append f xs ys = grind (arith, common_steps, or_assoc, list_any)
+any_append f xs ys = grind (arith, common_steps, list_any)
 
 pub any_map : {X Y : Type 0} (f : Y → Bool) (g : X → Y) (xs : List X) → list_any f (map g xs) ≡ list_any (λ x. f (g x)) xs
 any_map f g [] = refl
@@ -46,10 +43,6 @@ filter_nothing f none (x ∷ xs) = rw (none x) (filter_nothing f none xs)
 
 pub filter_append : {X : Type 0} (f : X → Bool) (xs ys : List X) → filter f (xs ++ ys) ≡ filter f xs ++ filter f ys
 filter_append f xs ys = grind (arith, common_steps)
-
-pub filter_map_is : {X Y : Type 0} (f : Y → Bool) (g : X → Y) (xs : List X) → filter f (map g xs) ≡ map g (filter (λ x. f (g x)) xs)
-filter_map_is f g [] = refl
-filter_map_is f g (x ∷ xs) = search (rules, filter_map_is f g xs)
 
 pub filter_flat_map : {X Y : Type 0} (f : Y → Bool) (g : X → List Y) (xs : List X) → filter f (flat_map g xs) ≡ flat_map (λ x. filter f (g x)) xs
 filter_flat_map f g [] = refl

@@ -1,5 +1,5 @@
 -- The rings of a header lie apart: no two have the same ID or a byte in common
-use Rattle.trace_record.proofs.BaseWords.{rules, ◌≡◌, ◌≢◌, ◌<◌, ◌∷◌, ◌∙◌, ◌==◌, ◌&&◌, ◌⊎◌, ℕ, List, [], Bool, true, false, Some, refl, ap, sym, arith, length, get_or, zero, suc, inl, inr, subst, not, slice_get, get_or_from_slice_get, slice_get_within, list_any, or_parts, and_parts, false≢true, nat_tests, is_inside, rings_apart, Ring, clash, may_stand_together, is_command_kind, is_event_kind}
+use Rattle.trace_record.proofs.BaseWords.{rules, ◌≡◌, ◌≢◌, ◌<◌, ◌∷◌, ◌==◌, ◌⊎◌, ℕ, List, [], Bool, true, false, Some, refl, ap, arith, length, get_or, zero, suc, inl, inr, subst, not, slice_get, get_or_from_slice_get, slice_get_within, list_any, or_parts, and_parts, false≢true, nat_tests, is_inside, rings_apart, Ring, clash, may_stand_together, is_command_kind, is_event_kind}
 
 pub same_number : (n : ℕ) → (n == n) ≡ true
 same_number n = grind (arith, nat_tests)
@@ -23,8 +23,7 @@ among_at rs i r e = subst (λ (x : Ring). IsAmong x rs) (get_or_from_slice_get r
 -- what fails at each number fails for each ring
 pub each_among : (f : Ring → Bool) (rs : List Ring) → ((i : ℕ) (d : Ring) → i < length rs → f (get_or rs i d) ≡ false) → (q : Ring) → IsAmong q rs → f q ≡ false
 each_among f [] fails q among = absurd among
-each_among f (r ∷ rest) fails q (inl same) = ap f (sym same) ∙ fails 0 r (omega arith)
-each_among f (r ∷ rest) fails q (inr later) = each_among f rest (λ i d h. fails (suc i) d (omega arith)) q later
+each_among f (r ∷ rest) fails q among = search (rules, fails 0 r, each_among f rest (λ i d h. fails (suc i) d (omega arith)) q)
 
 -- two rings that may stand together
 pub record Apart (r q : Ring) : Type 0 where
@@ -33,29 +32,16 @@ pub record Apart (r q : Ring) : Type 0 where
   pub one_command : is_command_kind r.shape.kind ≡ true → is_command_kind q.shape.kind ≡ true → ⊥
   pub one_event : is_event_kind r.shape.kind ≡ true → is_event_kind q.shape.kind ≡ true → ⊥
 
-not_both : (x y : Bool) → (x && y) ≡ false → x ≡ true → y ≡ true → ⊥
-not_both x y h1 h2 h3 = search (rules, false≢true)
-
-not_equal : (m n : ℕ) → (m == n) ≡ false → m ≢ n
-not_equal m n e same = false≢true (sym e ∙ ap (λ x. x == n) same ∙ same_number n)
-
-apart_from : (r q : Ring) → clash r q ≡ false → Apart r q
-apart_from r q e = search (rules, or_parts, is_command_kind, is_event_kind, not_equal, rings_apart, not_both)
-
 pub apart_back : (r q : Ring) → Apart r q → Apart q r
 apart_back r q x = search rules
 
 each_apart : (r : Ring) (rest : List Ring) → list_any (clash r) rest ≡ false → (q : Ring) → IsAmong q rest → Apart r q
 each_apart r [] e q among = absurd among
-each_apart r (x ∷ rest) e q (inl same) = subst (λ (y : Ring). Apart r y) same (apart_from r x (or_parts (clash r x) (list_any (clash r) rest) e).0)
+each_apart r (x ∷ rest) e q (inl same) = subst (λ (y : Ring). Apart r y) same (search (rules, or_parts, is_command_kind, is_event_kind, rings_apart, false≢true))
 each_apart r (x ∷ rest) e q (inr later) = each_apart r rest (or_parts (clash r x) (list_any (clash r) rest) e).1 q later
 
-not_true : (b : Bool) → not b ≡ true → b ≡ false
-not_true b h1 = search rules
-
 pub first_apart : (r : Ring) (rest : List Ring) → may_stand_together (r ∷ rest) ≡ true → (q : Ring) → IsAmong q rest → Apart r q
-first_apart r rest together q among =
-    each_apart r rest (not_true (list_any (clash r) rest) (and_parts (not (list_any (clash r) rest)) (may_stand_together rest) together).0) q among
+first_apart r rest together q among = search (rules, each_apart r rest, and_parts, clash)
 
 pub rest_together : (r : Ring) (rest : List Ring) → may_stand_together (r ∷ rest) ≡ true → may_stand_together rest ≡ true
 rest_together r rest together = (and_parts (not (list_any (clash r) rest)) (may_stand_together rest) together).1
@@ -63,21 +49,11 @@ rest_together r rest together = (and_parts (not (list_any (clash r) rest)) (may_
 -- two rings are one, or apart
 pub same_or_apart : (rs : List Ring) → may_stand_together rs ≡ true → (r q : Ring) → IsAmong r rs → IsAmong q rs → (q ≡ r) ⊎ Apart r q
 same_or_apart [] together r q a b = absurd a
-same_or_apart (x ∷ rest) together r q (inl a) (inl b) = inl (sym b ∙ a)
-same_or_apart (x ∷ rest) together r q (inl a) (inr b) = inr (subst (λ (y : Ring). Apart y q) a (first_apart x rest together q b))
-same_or_apart (x ∷ rest) together r q (inr a) (inl b) = inr (apart_back q r (subst (λ (y : Ring). Apart y r) b (first_apart x rest together r a)))
-same_or_apart (x ∷ rest) together r q (inr a) (inr b) = same_or_apart rest (rest_together x rest together) r q a b
+same_or_apart (x ∷ rest) together r q a b = search (rules, first_apart x rest together, apart_back, same_or_apart rest (rest_together x rest together) r q)
 
 -- rings of two numbers are apart
 pub numbers_apart : (rs : List Ring) → may_stand_together rs ≡ true → (i n : ℕ) (q r : Ring) → slice_get rs i ≡ Some q → slice_get rs n ≡ Some r → i ≢ n → Apart q r
 numbers_apart [] together i n q r e f other = search rules
-numbers_apart (x ∷ rest) together zero zero q r e f other = absurd (other refl)
-numbers_apart (x ∷ rest) together zero (suc n) q r e f other = subst (λ (y : Ring). Apart y r) (some_is e) (first_apart x rest together r (among_at rest n r f))
-  where
-    some_is : Some x ≡ Some q → x ≡ q
-    some_is e = cc
-numbers_apart (x ∷ rest) together (suc i) zero q r e f other = apart_back r q (subst (λ (y : Ring). Apart y q) (some_is f) (first_apart x rest together q (among_at rest i q e)))
-  where
-    some_is : Some x ≡ Some r → x ≡ r
-    some_is e = cc
+numbers_apart (x ∷ rest) together zero n q r e f other = search (rules, first_apart x rest together r, among_at rest)
+numbers_apart (x ∷ rest) together (suc i) zero q r e f other = search (rules, apart_back, first_apart x rest together q (among_at rest i q e))
 numbers_apart (x ∷ rest) together (suc i) (suc n) q r e f other = numbers_apart rest (rest_together x rest together) i n q r e f (λ same. other (ap suc same))

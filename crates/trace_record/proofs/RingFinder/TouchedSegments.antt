@@ -1,9 +1,5 @@
 -- Of the segments that start before an end only the last can touch the bytes up to there, since no two segments have a byte in common
-use Rattle.trace_record.proofs.BaseWords.{sum_by, rules, common_steps, ◌≡◌, ◌+◌, ◌-◌, ◌*◌, ◌<◌, ◌≤◌, ◌∷◌, ◌∙◌, ◌&&◌, ◌||◌, ℕ, suc, zero, List, [], Bool, true, false, refl, ap, sym, arith, inl, inr, subst, length, get_or, get_or_default, not, nat_lt, map, cond, slice_get, Some, list_any, count_by, sum_by-append, sum_by-cons, sum_by-IsPermutation, get_or-le-sum_by, list_any_at, list_any-IsPermutation, Contains-get_or, cases_Bool, cases_lt, nat_tests, and_parts, false≢true, IsPartitionPoint, is_in, is_in-true, lt-ltb, ltb-false, list_any_none, overlap, segment_has, is_inside, touches, are_apart, segments_overlap, rings_apart, IsShape, shape_facts, Xfer, Segment, Ring, Header, IsHeader, may_stand_together, touches_ring, Start, Finder, IsFinder, start_of, starts_from}
-use Rattle.trace_record.proofs.RingFinder.ListTests.{any_append, any_map, any_nowhere, false_unless, from_not}
-use Rattle.trace_record.proofs.RingFinder.RingsApart.{IsAmong, first_apart, rest_together}
-use Rattle.trace_record.proofs.RingFinder.HeaderRings.{together}
-use Rattle.trace_record.proofs.RingFinder.Starts.{allowed_at, bytes_some}
+use Rattle.trace_record.proofs.UpperLaws.{sum_by, rules, common_steps, ◌≡◌, ◌+◌, ◌-◌, ◌*◌, ◌<◌, ◌≤◌, ◌∷◌, ◌∙◌, ◌&&◌, ◌||◌, ℕ, suc, zero, List, [], Bool, true, false, refl, ap, sym, arith, inl, inr, subst, length, get_or, get_or_default, not, nat_lt, map, cond, slice_get, Some, list_any, count_by, sum_by-append, sum_by-cons, sum_by-IsPermutation, get_or-le-sum_by, list_any_at, list_any-IsPermutation, Contains-get_or, cases_Bool, cases_lt, nat_tests, and_parts, IsPartitionPoint, is_in, is_in-true, lt-ltb, list_any_none, overlap, segment_has, is_inside, touches, are_apart, segments_overlap, rings_apart, IsShape, shape_facts, Xfer, Segment, Ring, Header, IsHeader, may_stand_together, touches_ring, Start, Finder, IsFinder, start_of, starts_from, any_append, any_map, any_nowhere, false_unless, from_not, first_apart, rest_together, together, allowed_at, bytes_some, cases_eq, among_get}
 
 -- a segment has the byte
 abbrev has : ℕ → Start → Bool
@@ -35,62 +31,47 @@ having b xs = count_by (has b) xs
 abbrev once : Bool → ℕ
 once x = cond x 1 0
 
--- of two lists of segments only one has it
-once_more : (x y : Bool) (m n t : ℕ) → t ≡ m + n → m ≤ once x → n ≤ once y → (x ≡ true → y ≡ false) → t ≤ once (x || y)
-once_more x y m n t h1 h2 h3 h4 = search (rules, false≢true)
-
 ring_once : (m : ℕ) (segments : List Segment) (b : ℕ) → are_apart segments ≡ true → having b (map (start_of m) segments) ≤ once (list_any (segment_has b) segments)
 ring_once m [] b apart = omega arith
 ring_once m (s ∷ rest) b apart =
     let parts = and_parts (not (list_any (segments_overlap s) rest)) (are_apart rest) apart in
-    grind (arith, common_steps, once_more, segment_has, list_any, map, start_of, sum_by-cons, cond, others_lack, from_not, segments_overlap, ring_once m rest b parts.1)
+    grind (arith, common_steps, segment_has, list_any, map, start_of, sum_by-cons, cond, others_lack, from_not, segments_overlap, ring_once m rest b parts.1)
 
 others_outside : (r : Ring) (rest : List Ring) (b : ℕ) → may_stand_together (r ∷ rest) ≡ true → is_inside r.shape b ≡ true → list_any (λ q. is_inside q.shape b) rest ≡ false
-others_outside r rest b together here = none rest (λ q among. (first_apart r rest together q among).memory b here)
-  where
-    none : (qs : List Ring) → ((q : Ring) → IsAmong q qs → is_inside q.shape b ≡ true → ⊥) → list_any (λ q. is_inside q.shape b) qs ≡ false
-    none [] out = refl
-    none (q ∷ qs) out = rw (false_unless (is_inside q.shape b) (out q (inl refl))) (none qs (λ p among. out p (inr among)))
+others_outside r rest b together here =
+    list_any_none (λ q. is_inside q.shape b) rest (λ k d below. false_unless _ (λ there. (first_apart r rest together _ (among_get rest k d below)).memory b here there))
 
 all_once : (m : ℕ) (rs : List Ring) (b : ℕ) → may_stand_together rs ≡ true → ((i : ℕ) (r : Ring) → slice_get rs i ≡ Some r → IsShape r.shape) →
     having b (starts_from m rs) ≤ once (list_any (λ r. is_inside r.shape b) rs)
 all_once m [] b together allowed = omega arith
 all_once m (r ∷ rest) b together allowed =
-    once_more (is_inside r.shape b) (list_any (λ q. is_inside q.shape b) rest) (having b (map (start_of m) r.shape.segments)) (having b (starts_from (m + 1) rest)) (having b (starts_from m (r ∷ rest)))
-    (sum_by-append (λ (x : Start). cond (has b x) 1 0) (map (start_of m) r.shape.segments) (starts_from (m + 1) rest))
-    (ring_once m r.shape.segments b (shape_facts r.shape (allowed 0 r refl)).apart)
-    (all_once (m + 1) rest b (rest_together r rest together) (λ i q e. allowed (suc i) q e))
-    (others_outside r rest b together)
+    grind (
+      arith,
+      common_steps,
+      starts_from,
+      list_any,
+      is_inside,
+      sum_by-append (λ (x : Start). cond (has b x) 1 0) (map (start_of m) r.shape.segments) (starts_from (m + 1) rest),
+      ring_once m r.shape.segments b (shape_facts r.shape
+          (allowed 0 r refl)).apart,
+      all_once (m + 1) rest b (rest_together r rest together) (λ i q e. allowed (suc i) q e),
+      others_outside r rest b together,
+    )
 
 two_at : {X : Type 0} (f : X → ℕ) (xs : List X) (i k : ℕ) (d : X) → i < k → k < length xs → f (get_or xs i d) + f (get_or xs k d) ≤ sum_by f xs
 two_at f [] i k d less below = absurd (omega arith)
 two_at f (x ∷ xs) i zero d less below = absurd (omega arith)
-two_at f (x ∷ xs) zero (suc k) d less below = omega (arith, sum_by-cons f x xs, get_or-le-sum_by f xs k d (omega arith))
-two_at f (x ∷ xs) (suc i) (suc k) d less below = omega (arith, sum_by-cons f x xs, two_at f xs i k d (omega arith) (omega arith))
+two_at f (x ∷ xs) i (suc k) d less below = search (rules, sum_by-cons f x xs, get_or-le-sum_by f xs k d (omega arith), two_at f xs)
 
 module _ (h : Header) (headed : IsHeader h) (f : Finder) (is : IsFinder h.rings f) where
   one_has : (b : ℕ) → having b f.starts.items ≤ 1
   one_has b =
-      let all = all_once 0 h.rings b (together h headed) (allowed_at h headed f is) in
-      let moved = sum_by-IsPermutation (λ (x : Start). cond (has b x) 1 0) (starts_from 0 h.rings) f.starts.items is.starts in
-      omega (arith, all, moved, once_most (list_any (λ r. is_inside r.shape b) h.rings))
-    where
-      once_most : (x : Bool) → once x ≤ 1
-      once_most x = search rules
+      grind (arith, all_once 0 h.rings b (together h headed) (allowed_at h headed f is), sum_by-IsPermutation (λ (x : Start). cond (has b x) 1 0) (starts_from 0 h.rings) f.starts.items is.starts)
 
   -- a segment ends before the next one starts
   ends_before : (i k : ℕ) (d : Start) → i < k → k < length f.starts.items → (get_or f.starts.items i d).address + (get_or f.starts.items i d).bytes ≤ (get_or f.starts.items k d).address
-  ends_before i k d less below = elim (cases_lt (get_or f.starts.items k d).address ((get_or f.starts.items i d).address + (get_or f.starts.items i d).bytes)) [
-    | inl reaches ↦
-        let b : ℕ = (get_or f.starts.items k d).address in
-        let rising : (get_or f.starts.items i d).address ≤ b = is.sorted i k d (omega arith) below in
-        let long : 0 < (get_or f.starts.items k d).bytes = bytes_some h headed f is (get_or f.starts.items k d) (Contains-get_or f.starts.items k d below) in
-        let here : has b (get_or f.starts.items i d) ≡ true = is_in-true b _ _ rising reaches in
-        let there : has b (get_or f.starts.items k d) ≡ true = is_in-true b _ _ (omega arith) (omega (arith, long)) in
-        let both = two_at (λ (x : Start). cond (has b x) 1 0) f.starts.items i k d less below in
-        absurd (omega (arith, both, one_has b, ap once here, ap once there))
-    | inr apart ↦ apart
-  ]
+  ends_before i k d less below =
+      grind (arith, is.sorted i k d, bytes_some h headed f is (get_or f.starts.items k d) (Contains-get_or f.starts.items k d below), is_in-true, two_at (λ (x : Start). cond (has (get_or f.starts.items k d).address x) 1 0) f.starts.items i k d less below, one_has (get_or f.starts.items k d).address)
 
   module _ (from len after : ℕ) (point : IsPartitionPoint (λ s. nat_lt s.address (from + len) ≡ true) (λ s. nat_lt s.address (from + len) ≡ false) f.starts.items after) where
     far_away : (k : ℕ) (d : Start) → k < length f.starts.items → after ≤ k → meets from len (get_or f.starts.items k d) ≡ false
@@ -103,23 +84,10 @@ module _ (h : Header) (headed : IsHeader h) (f : Finder) (is : IsFinder h.rings 
         nat_lt from ((get_or f.starts.items (after - 1) d).address + (get_or f.starts.items (after - 1) d).bytes) ≡ list_any (meets from len) f.starts.items
     last_meets some bound d = elim (cases_Bool (nat_lt from ((get_or f.starts.items (after - 1) d).address + (get_or f.starts.items (after - 1) d).bytes))) [
       | inl reaches ↦ search (rules, list_any_at, nat_tests)
-      | inr past ↦ past ∙ sym (list_any_none (meets from len) f.starts.items (λ k e below. elim (cases_lt k after) [
-        | inl early ↦
-            let ended = ends_early past k e early in
-            grind (arith, nat_tests, ended)
-        | inr late ↦ far_away k e below late
-      ]))
+      | inr past ↦
+          past ∙ sym (list_any_none (meets from len) f.starts.items (λ k e below.
+          grind (arith, nat_tests, cases_lt k after, far_away k e below, cases_eq k (after - 1), get_or_default f.starts.items (after - 1) e d (omega arith), ends_before k (after - 1) e, past)))
     ]
-      where
-        ends_early : nat_lt from ((get_or f.starts.items (after - 1) d).address + (get_or f.starts.items (after - 1) d).bytes) ≡ false → (k : ℕ) (e : Start) → k < after →
-            (get_or f.starts.items k e).address + (get_or f.starts.items k e).bytes ≤ from
-        ends_early past k e early =
-            let last : get_or f.starts.items (after - 1) e ≡ get_or f.starts.items (after - 1) d = get_or_default f.starts.items (after - 1) e d (omega arith) in
-            let low : (get_or f.starts.items (after - 1) d).address + (get_or f.starts.items (after - 1) d).bytes ≤ from = ltb-false _ _ past in
-            elim (cases_lt k (after - 1)) [
-              | inl before ↦ omega (arith, low, ends_before k (after - 1) e before (omega arith), ap (λ (x : Start). x.address) last)
-              | inr at ↦ search rules
-            ]
 
   -- bytes that there are touch a ring where they meet one of the segments
   met : (from len : ℕ) → 0 < len → list_any (meets from len) f.starts.items ≡ touches_ring h from len

@@ -1,5 +1,4 @@
-use Rattle.answers.specs.Answers.{IsBlockAnswer}
-use Rattle.answers.proofs.Told.{told_right}
+use Rattle.answers.proofs.Laws.{IsBlockAnswer, told_right}
 use Rattle.answers.proofs.decode.run_decode.Goals as goal
 
 pub returns-clause-told : goal.returns-clause-told

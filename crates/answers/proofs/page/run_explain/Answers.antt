@@ -1,5 +1,4 @@
-use Rattle.answers.specs.Answers.{IsPageAnswer}
-use Rattle.answers.proofs.Told.{told_right}
+use Rattle.answers.proofs.Laws.{IsPageAnswer, told_right}
 use Rattle.answers.proofs.page.run_explain.Goals as goal
 
 pub returns-clause-told : goal.returns-clause-told

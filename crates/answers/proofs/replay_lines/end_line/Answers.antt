@@ -1,7 +1,4 @@
-use Rattle.std.proofs.Common.{◌≡◌, subst, sym}
-use Rattle.std.specs.Prelude.{IfOk, string_bytes}
-use Rattle.answers.specs.Replays.{end_text}
-use Rattle.answers.specs.declared.replay_lines.ReplayEnd.{ReplayEnd}
+use Rattle.answers.proofs.Words.{◌≡◌, subst, sym, IfOk, string_bytes, end_text, ReplayEnd}
 use Rattle.answers.proofs.replay_lines.end_line.Goals as goal
 
 pub returns-in-NotPossible : goal.returns-in-NotPossible

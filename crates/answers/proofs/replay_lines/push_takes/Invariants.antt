@@ -1,5 +1,4 @@
-use Rattle.std.proofs.Common.{◌≡◌, ◌++◌, take}
-use Rattle.answers.specs.Replays.{takes_text}
+use Rattle.answers.proofs.Words.{◌≡◌, ◌++◌, take, takes_text}
 use Rattle.answers.proofs.replay_lines.push_takes.Given as goal
 
 abbrev pub invariant-loop-shown : goal.invariant-loop-shown

@@ -1,5 +1,4 @@
-use Rattle.std.proofs.Common.{◌≡◌, ◌++◌, take}
-use Rattle.answers.specs.Replays.{words_text}
+use Rattle.answers.proofs.Words.{◌≡◌, ◌++◌, take, words_text}
 use Rattle.answers.proofs.replay_lines.push_words.Given as goal
 
 abbrev pub invariant-loop-word : goal.invariant-loop-word

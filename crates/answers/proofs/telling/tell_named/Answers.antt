@@ -1,6 +1,4 @@
-use Rattle.std.proofs.Common.{rules, [], refl, string_bytes}
-use Rattle.answers.specs.Telling.{cut, named_err, whole}
-use Rattle.answers.proofs.Writing.{nothing_begun, told_note}
+use Rattle.answers.proofs.Laws.{rules, [], refl, string_bytes, cut, named_err, whole, nothing_begun, told_note}
 use Rattle.answers.proofs.telling.tell_named.Goals as goal
 
 pub returns-in_err-lines : goal.returns-in_err-lines

@@ -1,5 +1,4 @@
-use Rattle.std.proofs.Common.{[], refl, string_bytes}
-use Rattle.answers.proofs.Writing.{device_noted}
+use Rattle.answers.proofs.Laws.{[], refl, string_bytes, device_noted}
 use Rattle.answers.proofs.telling.tell_output_failure.Goals as goal
 
 pub returns-in-Ok-clause-told : goal.returns-in-Ok-clause-told

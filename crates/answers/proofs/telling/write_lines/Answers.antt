@@ -1,4 +1,4 @@
-use Rattle.answers.specs.Telling.{output_failed}
+use Rattle.answers.proofs.Words.{output_failed}
 use Rattle.answers.proofs.telling.write_lines.Goals as goal
 
 pub returns-in-Err-clause-written : goal.returns-in-Err-clause-written

@@ -1,8 +1,6 @@
-use Rattle.std.proofs.Common.{arith, subst, sym, ℕ, ◌≤◌, List, length, take, drop, length-drop}
-use Rattle.std.specs.Io.KnownBytes.{Appends}
-use Rattle.answers.proofs.Writing.{kept, more, rest_of}
-use Rattle.answers.proofs.telling.write_some.Goals as goal
+use Rattle.answers.proofs.Laws.{arith, subst, sym, ℕ, ◌≤◌, List, length, take, drop, length-drop, Appends, kept, more, rest_of}
 use Rattle.answers.proofs.telling.write_some.Goals.{in-Ok, in-Err+else-ne}
+use Rattle.answers.proofs.telling.write_some.Goals as goal
 
 pub loop-preserved : goal.loop-preserved
 loop-preserved g c =

@@ -1,5 +1,4 @@
-use Rattle.std.proofs.Common.{◌≤◌, length, take}
-use Rattle.std.specs.Io.KnownBytes.{Appends}
+use Rattle.answers.proofs.Words.{◌≤◌, length, take, Appends}
 use Rattle.answers.proofs.telling.write_some.Given as goal
 
 abbrev pub invariant-loop : goal.invariant-loop

@@ -1,5 +1,4 @@
-use Rattle.std.proofs.Common.{arith}
-use Rattle.certificate.proofs.RoundTrip.{respelled_if_read}
+use Rattle.certificate.proofs.Laws.{arith, respelled_if_read}
 use Rattle.certificate.proofs.reading.decode.Goals as goal
 
 pub returns-clause-spelled : goal.returns-clause-spelled

@@ -1,5 +1,4 @@
-use Rattle.certificate.proofs.Words.{refl, take_rest, leases_in}
-use Rattle.certificate.proofs.Records.{leases_in-push}
+use Rattle.certificate.proofs.Laws.{refl, take_rest, leases_in, leases_in-push}
 use Rattle.certificate.proofs.reading.leases_in.Goals as goal
 
 pub loop-record-init : goal.loop-record-init

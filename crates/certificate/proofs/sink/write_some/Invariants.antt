@@ -1,4 +1,4 @@
-use Rattle.std.specs.Io.KnownBytes.{Keeps}
+use Rattle.certificate.proofs.Words.{Keeps}
 use Rattle.certificate.proofs.sink.write_some.Given as goal
 
 -- what was tried so far took nothing

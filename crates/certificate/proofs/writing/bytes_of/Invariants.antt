@@ -1,5 +1,4 @@
-use Rattle.certificate.proofs.Words.{◌≡◌, ◌++◌, take, lease_bytes, magic}
-use Rattle.std.specs.List.{flat_map}
+use Rattle.certificate.proofs.Words.{◌≡◌, ◌++◌, take, lease_bytes, magic, flat_map}
 use Rattle.certificate.proofs.writing.bytes_of.Given as goal
 
 abbrev pub invariant-loop-lease : goal.invariant-loop-lease

@@ -1,5 +1,4 @@
-use Rattle.certificate.proofs.Words.{ap, ◌∙◌, certificate_of}
-use Rattle.certificate.proofs.RoundTrip.{reread}
+use Rattle.certificate.proofs.Laws.{ap, ◌∙◌, certificate_of, reread}
 use Rattle.certificate.proofs.writing.encode.Goals as goal
 
 pub returns-clause-reread : goal.returns-clause-reread

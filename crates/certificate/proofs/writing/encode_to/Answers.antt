@@ -1,6 +1,4 @@
-use Rattle.certificate.proofs.Words.{◌≡◌, ◌∙◌, ◌+◌, ◌++◌, [], refl, ap, sym, arith, length, length-append, append_assoc, err_from_is_err_and, lease_bytes, magic, spelling}
-use Rattle.std.specs.List.{flat_map}
-use Rattle.certificate.proofs.Appending.{appends_nothing, cut_off, joined, length_behind, parted}
+use Rattle.certificate.proofs.Laws.{◌≡◌, ◌∙◌, ◌+◌, ◌++◌, [], refl, ap, sym, arith, length, length-append, append_assoc, err_from_is_err_and, lease_bytes, magic, spelling, flat_map, appends_nothing, cut_off, joined, length_behind, parted}
 use Rattle.certificate.proofs.writing.encode_to.Goals as goal
 
 pub returns-in_err-done-clause-part : goal.returns-in_err-done-clause-part

@@ -1,5 +1,4 @@
-use Rattle.certificate.proofs.Words.{◌≡◌, ℕ, List, ◌++◌, length, Appends, lease_bytes, spelling}
-use Rattle.std.specs.List.{flat_map}
+use Rattle.certificate.proofs.Words.{◌≡◌, ℕ, List, ◌++◌, length, Appends, lease_bytes, spelling, flat_map}
 use Rattle.certificate.proofs.writing.encode_to.Given as goal
 
 abbrev pub decreases-loop-rest : goal.decreases-loop-rest

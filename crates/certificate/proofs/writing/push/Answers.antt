@@ -1,4 +1,4 @@
-use Rattle.std.proofs.Common.{◌≡◌, true, false, Result, Ok, Err, IsOk, OnOk}
+use Rattle.certificate.proofs.Words.{◌≡◌, true, false, Result, Ok, Err, IsOk, OnOk}
 use Rattle.certificate.proofs.writing.push.Goals as goal
 
 -- what holds of a success holds where there is one

@@ -1,5 +1,4 @@
-use Rattle.certificate.proofs.Words.{◌≡◌, ◌≤◌, ◌+◌, ◌-◌, ◌*◌, ◌++◌, length, take, lease_bytes}
-use Rattle.std.specs.List.{flat_map}
+use Rattle.certificate.proofs.Words.{◌≡◌, ◌≤◌, ◌+◌, ◌-◌, ◌*◌, ◌++◌, length, take, lease_bytes, flat_map}
 use Rattle.certificate.proofs.writing.records_behind.Given as goal
 
 -- there is room for the records that are left

@@ -1,5 +1,4 @@
-use Rattle.certificate.proofs.Words.{◌∙◌, ◌≤◌, ℕ, List, arith, subst, length, take, drop, length-drop, Appends}
-use Rattle.certificate.proofs.Appending.{more, rest_of}
+use Rattle.certificate.proofs.Laws.{◌∙◌, ◌≤◌, ℕ, List, arith, subst, length, take, drop, length-drop, Appends, more, rest_of}
 use Rattle.certificate.proofs.writing.write_all.Goals as goal
 
 pub loop-taken-preserved : goal.loop-taken-preserved

@@ -1,5 +1,4 @@
-use Rattle.std.proofs.Common.{◌∙◌, ap, arith, length}
-use Rattle.certificate.proofs.Appending.{length_behind}
+use Rattle.certificate.proofs.Laws.{◌∙◌, ap, arith, length, length_behind}
 use Rattle.certificate.proofs.writing.write_records.Goals as goal
 
 pub write_all-requires : goal.write_all-requires

@@ -1,4 +1,4 @@
-use Rattle.segments.proofs.Positions.{address_aligned, address_ends}
+use Rattle.cycle_ring.proofs.Words.{address_aligned, address_ends}
 use Rattle.cycle_ring.proofs.writes.push_later_blocks.Goals as goal
 
 pub push_block-requires-clause-aligned : goal.push_block-requires-clause-aligned

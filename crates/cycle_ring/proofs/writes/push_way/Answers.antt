@@ -1,4 +1,4 @@
-use Rattle.segments.proofs.DataPlaces.{link_aligned, link_ends}
+use Rattle.cycle_ring.proofs.Words.{link_aligned, link_ends}
 use Rattle.cycle_ring.proofs.writes.push_way.Goals as goal
 
 pub push_block-requires-clause-aligned : goal.push_block-requires-clause-aligned

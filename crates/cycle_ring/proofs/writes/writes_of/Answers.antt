@@ -1,4 +1,4 @@
-use Rattle.segments.proofs.Positions.{address_aligned, address_ends}
+use Rattle.cycle_ring.proofs.Words.{address_aligned, address_ends}
 use Rattle.cycle_ring.proofs.writes.writes_of.Goals as goal
 
 pub push_low_words-requires-clause-aligned : goal.push_low_words-requires-clause-aligned

@@ -1,4 +1,4 @@
-use Rattle.driver_rows.proofs.Laws.{◌==◌, ◌||◌, not, address_of, Ring, ◌*◌, ◌/◌, ◌%◌, get_or, refl, sym, ◌∙◌, ap, is_command_kind, is_bad_crcr, is_no_first_block, command_found, no_command_ring, ring_here, among_at}
+use Rattle.driver_rows.proofs.Words.{◌==◌, ◌||◌, not, address_of, Ring, ◌*◌, ◌/◌, ◌%◌, get_or, refl, sym, ◌∙◌, ap, is_command_kind, is_bad_crcr, is_no_first_block, command_found, no_command_ring, ring_here, among_at}
 use Rattle.driver_rows.proofs.registers.is_bad_crcr.Goals as goal
 
 pub returns-in_default : goal.returns-in_default

@@ -1,4 +1,4 @@
-use Rattle.driver_rows.proofs.Laws.{◌<◌, ◌*◌, ◌≡◌, ap, sym, subst, length, ◌∙◌, ◌||◌, is_table_fault, is_bad_area, few_segments, table_is, goes_on, stops}
+use Rattle.driver_rows.proofs.Laws.{arith, ◌*◌, ◌≡◌, ap, length, ◌∙◌, ◌||◌, is_table_fault, is_bad_area, few_segments, table_is, goes_on, stops}
 use Rattle.driver_rows.proofs.registers.is_bad_place.Goals as goal
 
 pub returns-then-is_bad_area : goal.returns-then-is_bad_area
@@ -16,6 +16,4 @@ returns-else-is_bad_area g c = λ k f e.
     ∙ table_is c.args.header.now k c.args.base (g.M.WordMemory.words c.args.memory.now) f.words c.args.shape.now e.same c.in-Ok.size size
 
 pub returns-in-Err : goal.returns-in-Err
-returns-in-Err g c = λ k f e.
-    let few : length c.args.shape.now.segments < 65536 = few_segments c.args.header.now c.requires.headed c.args.shape.now e.same e.here in
-    absurd (c.in-Err.ensures (subst (λ xs. length xs < 65536) (sym c.segments.ensures) few))
+returns-in-Err g c = grind (arith, few_segments)

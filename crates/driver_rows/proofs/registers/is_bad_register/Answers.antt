@@ -1,4 +1,4 @@
-use Rattle.driver_rows.proofs.Laws.{ap, sym, ◌∙◌, ◌||◌, Usbcmd, Crcr, Dcbaap, Config, Erstba, is_written, by_version, none_older, is_bad_register, older, stricter, or_none, of_erstba, of_other_registers}
+use Rattle.driver_rows.proofs.Laws.{arith, ap, sym, ◌∙◌, Usbcmd, Dcbaap, Config, by_version, none_older, is_bad_register, older, stricter, or_none, of_erstba, of_other_registers}
 use Rattle.driver_rows.proofs.registers.is_bad_register.Goals as goal
 
 pub returns-in-Usbcmd : goal.returns-in-Usbcmd
@@ -8,9 +8,7 @@ returns-in-Usbcmd g c = λ k f s.
 
 pub returns-in-Crcr : goal.returns-in-Crcr
 unfolding is_bad_register
-returns-in-Crcr g c = λ k f s.
-    c.is_too_late.ensures k f.registers ∙ ap (λ b. k.started || b) c.is_bad_crcr.ensures
-    ∙ sym (none_older c.args.header.now k c.args.value Crcr (λ e. cc e)) ∙ ap (λ r. by_version c.args.header.now k c.args.value r) (sym c.in-Crcr.is)
+returns-in-Crcr g c = grind (arith, none_older, by_version)
 
 pub returns-in-Dcbaap : goal.returns-in-Dcbaap
 unfolding is_bad_register
@@ -30,11 +28,7 @@ returns-in-Erstsz g c = λ k f s.
     c.is_bad_sizing.ensures k _ f ∙ ap (λ r. by_version c.args.header.now k c.args.value r) (sym c.in-Erstsz.is)
 
 pub returns-in-Erstba : goal.returns-in-Erstba
-returns-in-Erstba g c = λ k f s.
-    c.is_again.ensures k f.registers ∙ ap (λ b. k.started || (is_written k Erstba || b)) (c.is_bad_table.ensures k f s) ∙ sym (of_erstba c.args.header.now k c.args.value)
-    ∙ sym (none_older c.args.header.now k c.args.value Erstba (λ e. cc e)) ∙ ap (λ r. by_version c.args.header.now k c.args.value r) (sym c.in-Erstba.is)
+returns-in-Erstba g c = grind (arith, of_erstba, none_older, by_version)
 
 pub returns-in_default : goal.returns-in_default
-returns-in_default g c = λ k f s.
-    of_other_registers c.args.header.now k c.args.value c.args.register c.in_default.not-Usbcmd c.in_default.not-Crcr c.in_default.not-Dcbaap c.in_default.not-Config c.in_default.not-Erstsz c.in_default.not-Erstba
-    ∙ sym (none_older c.args.header.now k c.args.value c.args.register c.in_default.not-Erstsz)
+returns-in_default g c = grind (arith, of_other_registers, none_older)

@@ -1,4 +1,4 @@
-use Rattle.driver_rows.proofs.Laws.{◌≡◌, None, refl, ap, sym, ◌∙◌, subst, ◌==◌, ◌/◌, ◌*◌, not, unwrap_or, address_of, event_ring, is_bad_size, is_wrong_size, FollowsEvents}
+use Rattle.driver_rows.proofs.Words.{◌≡◌, None, refl, ap, sym, ◌∙◌, subst, ◌==◌, ◌/◌, ◌*◌, not, unwrap_or, address_of, event_ring, is_bad_size, is_wrong_size, FollowsEvents}
 use Rattle.driver_rows.proofs.registers.is_set_up_wrong.Goals as goal
 
 pub returns-in-None : goal.returns-in-None

@@ -1,4 +1,4 @@
-use Rattle.driver_rows.proofs.Laws.{ap, not, is_written, is_unwritten}
+use Rattle.driver_rows.proofs.Words.{ap, not, is_written, is_unwritten}
 use Rattle.driver_rows.proofs.registers.is_unwritten.Goals as goal
 
 pub returns : goal.returns

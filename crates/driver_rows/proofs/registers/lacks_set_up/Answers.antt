@@ -1,4 +1,4 @@
-use Rattle.driver_rows.proofs.Laws.{goes_on}
+use Rattle.driver_rows.proofs.ContextRules.Chains.{goes_on}
 use Rattle.driver_rows.proofs.registers.lacks_set_up.Goals as goal
 
 pub returns-else-lacks_registers : goal.returns-else-lacks_registers

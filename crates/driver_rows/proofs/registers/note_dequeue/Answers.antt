@@ -1,4 +1,4 @@
-use Rattle.driver_rows.proofs.Laws.{ap, sym, ◌∙◌, refl, subst, ◌&&◌, not, is_some, and_parts, not-true, is_three, event_ring, event_shape, FollowsEvents, erdp_address, is_event_place, passed, passed_is, moved_follows, others_follow, fine_erdp, stays_follows}
+use Rattle.driver_rows.proofs.Laws.{arith, sym, ◌∙◌, subst, ◌&&◌, not, is_some, and_parts, not-true, is_three, event_ring, event_shape, FollowsEvents, erdp_address, is_event_place, passed, passed_is, moved_follows, others_follow, fine_erdp, stays_follows}
 use Rattle.driver_rows.proofs.registers.note_dequeue.Goals as goal
 
 pub returns-then-set_dequeue-clause-moved : goal.returns-then-set_dequeue-clause-moved
@@ -6,15 +6,10 @@ returns-then-set_dequeue-clause-moved c = λ is k started f.
     moved_follows c.args.header.now k c.args.register c.args.value c.set_dequeue.new.events c.in-Erdp.is (c.set_dequeue.ensures.moved c.if-set_dequeue.true c.args.header.now k f)
 
 pub returns-then-set_dequeue-clause-exact : goal.returns-then-set_dequeue-clause-exact
-returns-then-set_dequeue-clause-exact c = λ k started f s.
-    ap (λ r. passed c.args.header.now r c.args.value k) c.in-Erdp.is ∙ passed_is c.args.header.now k c.args.value s
-    ∙ rw (sym (c.set_dequeue.ensures.exact c.args.header.now k f) ∙ c.if-set_dequeue.true, c.if-set_dequeue.true) refl
+returns-then-set_dequeue-clause-exact c = grind (arith, passed, passed_is)
 
 pub returns-else-set_dequeue-clause-exact : goal.returns-else-set_dequeue-clause-exact
-returns-else-set_dequeue-clause-exact c = λ k started f s.
-    ap (λ r. passed c.args.header.now r c.args.value k) c.in-Erdp.is ∙ passed_is c.args.header.now k c.args.value s
-    ∙ rw (sym (c.set_dequeue.ensures.exact c.args.header.now k f) ∙ c.if-set_dequeue.false)
-    (ap not (sym (c.may_be_ignored.ensures k started (subst (FollowsEvents c.args.header.now k) (sym (c.set_dequeue.ensures.kept c.if-set_dequeue.false)) f))))
+returns-else-set_dequeue-clause-exact c = grind (arith, passed, passed_is, FollowsEvents)
 
 pub returns-else-set_dequeue-clause-moved : goal.returns-else-set_dequeue-clause-moved
 returns-else-set_dequeue-clause-moved c = λ is k started f.
@@ -26,8 +21,4 @@ returns-else-set_dequeue-clause-moved c = λ is k started f.
     stays_follows h k c.args.register c.args.value c.set_dequeue.new.events c.in-Erdp.is (not-true (is_event_place (event_shape h) (erdp_address c.args.value)) none.1) same
 
 pub returns-in_default : goal.returns-in_default
-returns-in_default c = record {
-  moved = λ is k started f. others_follow c.args.header.now k c.args.register c.args.value c.args.events.now c.in_default.not-Erdp f;
-  exact = λ k started f s. fine_erdp c.args.header.now k c.args.register c.args.value c.in_default.not-Erdp;
-  reads = λ n within. within;
-}
+returns-in_default c = grind (arith, others_follow, fine_erdp)

@@ -1,4 +1,4 @@
-use Rattle.driver_rows.proofs.Laws.{◌≡◌, None, refl, subst, event_ring, event_shape, FollowsEvents}
+use Rattle.driver_rows.proofs.Words.{◌≡◌, None, refl, subst, event_ring, event_shape, FollowsEvents}
 use Rattle.driver_rows.proofs.registers.set_dequeue.Goals as goal
 
 pub returns-in-None-clause-exact : goal.returns-in-None-clause-exact

@@ -1,9 +1,4 @@
-use Rattle.std.proofs.Common.{[], sym, subst}
-use Rattle.std.specs.Prelude.{reverse}
-use Rattle.traces.specs.declared.header.Header.{Header}
-use Rattle.traces.specs.Header.{IsHeader}
-use Rattle.safety.specs.RingChanges.Histories.{header_now}
-use Rattle.leases.specs.RingLeases.RingLents.{ring_lents}
+use Rattle.knowledge_page.proofs.BaseWords.{[], sym, subst, reverse, Header, IsHeader, header_now, ring_lents}
 use Rattle.knowledge_page.proofs.behind.standing_behind.Goals as goal
 
 pub pass_kept-requires-clause-headed : goal.pass_kept-requires-clause-headed

@@ -1,10 +1,7 @@
-use Rattle.std.proofs.Common.{◌≡◌, Some, ap, arith, length}
-use Rattle.trace_reader.specs.Streaming.TextRows.{trace_kept}
-use Rattle.ownership_checker.specs.RingPasses.Rules.{ring_verdict}
-use Rattle.knowledge_page.specs.Shown.{IsRange}
+use Rattle.knowledge_page.proofs.BaseWords.{◌≡◌, Some, ap, arith, length, trace_kept, ring_verdict, IsRange}
 use Rattle.knowledge_page.proofs.Verdicts.{range_of_all, range_to}
-use Rattle.knowledge_page.proofs.shown.no_row.Goals as goal
 use Rattle.knowledge_page.proofs.shown.no_row.Goals.{in-Ok, in-Err-Refused, in-Err-Memory}
+use Rattle.knowledge_page.proofs.shown.no_row.Goals as goal
 
 pub returns : goal.returns
 returns c =

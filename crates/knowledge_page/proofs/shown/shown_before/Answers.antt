@@ -1,7 +1,4 @@
-use Rattle.std.proofs.Common.{◌≡◌, Some}
-use Rattle.std.proofs.lemmas.Result.{err_from_is_err_and}
-use Rattle.trace_reader.specs.Streaming.TextRows.{trace_kept}
-use Rattle.ownership_checker.specs.RingPasses.Rules.{ring_verdict}
+use Rattle.knowledge_page.proofs.BaseWords.{◌≡◌, Some, err_from_is_err_and, trace_kept, ring_verdict}
 use Rattle.knowledge_page.proofs.Verdicts.{is_there}
 use Rattle.knowledge_page.proofs.shown.shown_before.Goals as goal
 

@@ -1,9 +1,7 @@
-use Rattle.std.proofs.Common.{◌≡◌, ◌-◌, Some, ap, inl, inr, arith, length}
-use Rattle.trace_reader.specs.Streaming.TextRows.{trace_kept}
-use Rattle.ownership_checker.specs.RingPasses.Rules.{ring_verdict}
+use Rattle.knowledge_page.proofs.BaseWords.{◌≡◌, ◌-◌, Some, ap, inl, inr, arith, length, trace_kept, ring_verdict}
 use Rattle.knowledge_page.proofs.Verdicts.{behind_broken, not_there}
-use Rattle.knowledge_page.proofs.shown.standing_before.Goals as goal
 use Rattle.knowledge_page.proofs.shown.standing_before.Goals.{then-row-trace-via-then-row-trace, then-row-trace-via-else-row-trace+then-row-trace-2}
+use Rattle.knowledge_page.proofs.shown.standing_before.Goals as goal
 
 pub returns-then-row-trace-clause-none : goal.returns-then-row-trace-clause-none
 returns-then-row-trace-clause-none c =

@@ -1,4 +1,4 @@
-use Rattle.ownership_checker.proofs.Words.{[], reverse, header_now, ring_lents}
+use Rattle.ownership_checker.proofs.Words.{arith, [], reverse}
 use Rattle.ownership_checker.proofs.kept_check.check_kept.Goals as goal
 
 pub returns-in-Whole-clause-accepted : goal.returns-in-Whole-clause-accepted
@@ -8,11 +8,7 @@ returns-in-Whole-clause-accepted g c =
     let first = c.args.first in
     let past = reverse c.args.rows.now in
     let kept = c.into_log.ensures.logged [] h first past (whole.logged [] (c.in_ok-book.ensures first)) in
-    record {
-      accepted = record { verdict = whole.verdict; certified = c.into_leases.ensures (header_now h past) (ring_lents h first past) kept };
-      walk = whole.walk;
-      harmless = whole.harmless;
-    }
+    grind arith
 
 pub returns-in-Refused-clause-refused : goal.returns-in-Refused-clause-refused
 returns-in-Refused-clause-refused g c = rw c.in-Refused.is at c.in_ok-pass.ensures.refused

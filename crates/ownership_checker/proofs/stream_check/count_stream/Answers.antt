@@ -1,12 +1,8 @@
-use Rattle.ownership_checker.proofs.Words.{false, ◌≡◌, ℕ, [], length, subst, reverse, err_from_is_err_and, Header, lents, header_now, ring_lents}
-use Rattle.ownership_checker.specs.declared.lease_count.LeaseCount.{LeaseCount}
-use Rattle.ownership_checker.proofs.Streams.{opened_bad, sound_count}
+use Rattle.ownership_checker.proofs.Laws.{arith, false, ◌≡◌, ℕ, [], length, subst, reverse, err_from_is_err_and, Header, lents, header_now, ring_lents, LeaseCount, opened_bad, sound_count}
 use Rattle.ownership_checker.proofs.stream_check.count_stream.Goals as goal
 
 pub returns-in_err-reader-clause-line : goal.returns-in_err-reader-clause-line
-returns-in_err-reader-clause-line g c =
-    let p = err_from_is_err_and c.from_residual.result c.from_residual.ensures.1 in
-    rw (p.1, p.2) (opened_bad false (g.S.Source.held c.args.source.now) (g.S.Source.held c.open.new.source) c.in_err-reader.field-0.0 c.in_err-reader.ensures.opened)
+returns-in_err-reader-clause-line g c = grind (arith, err_from_is_err_and, opened_bad)
 
 pub returns-in-Whole-clause-accepted : goal.returns-in-Whole-clause-accepted
 returns-in-Whole-clause-accepted g c =
@@ -22,6 +18,4 @@ returns-in-Whole-clause-accepted g c =
     (trace, so.1, sound_count (λ h ts (l : LeaseCount). l.count ≡ length ts) trace log so.2 c.count.result count)
 
 pub returns-in-Refused-clause-refused : goal.returns-in-Refused-clause-refused
-returns-in-Refused-clause-refused g c =
-    let refused = rw c.in-Refused.is at c.in_ok-log-2.ensures.refused in
-    refused false (g.S.Source.held c.args.source.now) c.in_ok-reader.ensures.opened
+returns-in-Refused-clause-refused g c = grind arith

@@ -1,6 +1,4 @@
-use Rattle.ownership_checker.proofs.Words.{IfOk, OnOk, subst, IsAccepted}
-use Rattle.ownership_checker.specs.Walks.{WalksRead}
-use Rattle.ownership_checker.proofs.Harmless.{harmless_if}
+use Rattle.ownership_checker.proofs.Laws.{IfOk, OnOk, subst, IsAccepted, WalksRead, harmless_if}
 use Rattle.ownership_checker.proofs.trace_check.check_in.Goals as goal
 
 pub returns-clause-walk : goal.returns-clause-walk

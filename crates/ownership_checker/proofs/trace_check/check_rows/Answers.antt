@@ -1,7 +1,6 @@
-use Rattle.ownership_checker.proofs.Words.{◌≡◌, ◌∙◌, [], Some, length, sym, subst, arith, nothing, known, Refusal, verdict_from, lents}
-use Rattle.leases.proofs.LeaseBooks.Growing.{leases_are}
-use Rattle.ownership_checker.proofs.JudgedRows.Passes.{by_place, refused, room_for}
-use Rattle.ownership_checker.proofs.Checking.{started, stepped, ended, walked}
+use Rattle.ownership_checker.proofs.Laws.{◌≡◌, ◌∙◌, [], Some, length, sym, subst, arith, nothing, known, Refusal, verdict_from, lents, leases_are, by_place, room_for, started, stepped, walked}
+use Rattle.ownership_checker.proofs.JudgedRows.Passes.{refused}
+use Rattle.ownership_checker.proofs.Checking.{ended}
 use Rattle.ownership_checker.proofs.trace_check.check_rows.Goals as goal
 
 pub loop-row-init : goal.loop-row-init

@@ -1,5 +1,4 @@
-use Rattle.replayer.proofs.Words.{◌+◌, ◌++◌, ◌∷◌, ◌∙◌, Some, ap, append-nil, append_assoc, drop, drop_all, sym, refl, arith, Scene, scene_before, scene_ending_from, scene_replayed, scene_seen_by, scene_seen_from, judged, step_made, shows, StandsFor}
-use Rattle.replayer.proofs.Runs.{from_here, harmful, step_goes, step_sticks}
+use Rattle.replayer.proofs.MiddleLaws.{◌+◌, ◌++◌, ◌∷◌, ◌∙◌, Some, ap, append-nil, append_assoc, drop, drop_all, sym, refl, arith, Scene, scene_before, scene_ending_from, scene_replayed, scene_seen_by, scene_seen_from, judged, step_made, shows, StandsFor, from_here, harmful, step_goes, step_sticks}
 use Rattle.replayer.proofs.replaying.replay_in.Goals as goal
 
 pub loop-step-init : goal.loop-step-init

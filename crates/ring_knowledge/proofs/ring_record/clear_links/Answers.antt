@@ -1,7 +1,6 @@
-use Rattle.ring_knowledge.proofs.Words.{◌≡◌, ℕ, ◌+◌, List, Bool, Some, Option, ap, sym, ◌∙◌, arith, subst, AreCleared, link_crossed}
-use Rattle.ring_knowledge.proofs.ClearedMarks.{none_cleared, one_cleared, none_here}
-use Rattle.ring_knowledge.proofs.ring_record.clear_links.Goals as goal
+use Rattle.ring_knowledge.proofs.Laws.{◌≡◌, ℕ, ◌+◌, List, Bool, Some, Option, ap, sym, ◌∙◌, arith, subst, AreCleared, link_crossed, none_cleared, one_cleared, none_here}
 use Rattle.ring_knowledge.proofs.ring_record.clear_links.Goals.{in-Some, in_default}
+use Rattle.ring_knowledge.proofs.ring_record.clear_links.Goals as goal
 
 pub loop-position-init : goal.loop-position-init
 loop-position-init c = none_cleared (λ q j. link_crossed c.args.shape.now q ≡ Some j) c.args.marks.now.items c.args.from

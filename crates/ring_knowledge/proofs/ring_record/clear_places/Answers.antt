@@ -1,5 +1,4 @@
-use Rattle.ring_knowledge.proofs.Words.{◌≡◌, ℕ, ◌%◌, ◌+◌, List, Bool, refl, sym, arith, subst, AreCleared}
-use Rattle.ring_knowledge.proofs.ClearedMarks.{none_cleared, one_cleared}
+use Rattle.ring_knowledge.proofs.Laws.{◌≡◌, ℕ, ◌%◌, ◌+◌, List, Bool, refl, sym, arith, subst, AreCleared, none_cleared, one_cleared}
 use Rattle.ring_knowledge.proofs.ring_record.clear_places.Goals as goal
 
 pub loop-position-init : goal.loop-position-init

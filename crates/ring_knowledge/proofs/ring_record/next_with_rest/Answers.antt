@@ -1,5 +1,4 @@
-use Rattle.ring_knowledge.proofs.Words.{arith, mod-lt}
-use Rattle.ring_knowledge.proofs.DueNumbers.{rest_here, rest_next}
+use Rattle.ring_knowledge.proofs.Laws.{arith, mod-lt, rest_here, rest_next}
 use Rattle.ring_knowledge.proofs.ring_record.next_with_rest.Goals as goal
 
 pub returns-then-rest-reached-clause-rest_is : goal.returns-then-rest-reached-clause-rest_is

@@ -1,5 +1,4 @@
-use Rattle.std.proofs.Common.{◌-◌, ap, sym, arith}
-use Rattle.ring_knowledge.proofs.LastPlaces.{last_place, last_found, last_no_link, last_somewhere}
+use Rattle.ring_knowledge.proofs.Laws.{◌-◌, ap, sym, arith, last_place, last_found, last_no_link, last_somewhere}
 use Rattle.ring_knowledge.proofs.ring_record.place_before.Goals as goal
 
 pub overflow_sub-link : goal.overflow_sub-link

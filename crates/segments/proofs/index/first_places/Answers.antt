@@ -1,6 +1,4 @@
-use Rattle.segments.proofs.Words.{AreFirsts, ◌+◌, ℕ, List, length, arith, sym, ap, subst}
-use Rattle.segments.proofs.Blocks.{before-zero, before-next}
-use Rattle.segments.proofs.IndexSearch.{firsts_push}
+use Rattle.segments.proofs.UpperLaws.{AreFirsts, ◌+◌, ℕ, List, length, arith, sym, ap, subst, before-zero, before-next, firsts_push}
 use Rattle.segments.proofs.index.first_places.Goals as goal
 
 pub loop-segment-init : goal.loop-segment-init

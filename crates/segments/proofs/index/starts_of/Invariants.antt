@@ -1,4 +1,4 @@
-use Rattle.segments.specs.Index.{AreStarts}
+use Rattle.segments.proofs.Words.{AreStarts}
 use Rattle.segments.proofs.index.starts_of.Given as goal
 
 abbrev pub invariant-loop-number : goal.invariant-loop-number

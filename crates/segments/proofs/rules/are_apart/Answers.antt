@@ -1,5 +1,4 @@
-use Rattle.segments.proofs.Words.{◌∙◌, ◌&&◌, ◌+◌, sym, ap, not, map, drop, are_apart, segment_of}
-use Rattle.segments.proofs.Pairs.{are_apart_step}
+use Rattle.segments.proofs.UpperLaws.{◌∙◌, ◌&&◌, ◌+◌, sym, ap, not, map, drop, are_apart, segment_of, are_apart_step}
 use Rattle.segments.proofs.rules.are_apart.Goals as goal
 
 pub returns-then-overlaps_any : goal.returns-then-overlaps_any

@@ -1,5 +1,4 @@
-use Rattle.std.proofs.Common.{arith}
-use Rattle.segments.proofs.Pairs.{place_count_more}
+use Rattle.segments.proofs.UpperLaws.{arith, place_count_more}
 use Rattle.segments.proofs.rules.count_places.Goals as goal
 
 pub loop-base-preserved : goal.loop-base-preserved

@@ -1,5 +1,4 @@
-use Rattle.trace_reader.proofs.Words.{◌||◌, ◌∙◌, ap, sym, segments_overlap, is_second, list_any}
-use Rattle.trace_reader.proofs.RingsClash.{clashes}
+use Rattle.trace_reader.proofs.Laws.{◌||◌, ◌∙◌, ap, sym, segments_overlap, is_second, list_any, clashes}
 use Rattle.trace_reader.proofs.clashes.clashes_with_one.Goals as goal
 
 pub returns-then-overlaps_any : goal.returns-then-overlaps_any

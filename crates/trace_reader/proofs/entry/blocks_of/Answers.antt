@@ -1,5 +1,4 @@
-use Rattle.trace_reader.proofs.Words.{◌∙◌, ap, blocks_of}
-use Rattle.trace_reader.proofs.Prefixes.{behind, nothing_behind}
+use Rattle.trace_reader.proofs.Laws.{◌∙◌, ap, blocks_of, behind, nothing_behind}
 use Rattle.trace_reader.proofs.entry.blocks_of.Goals as goal
 
 pub returns-clause-ok : goal.returns-clause-ok

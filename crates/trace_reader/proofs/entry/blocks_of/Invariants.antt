@@ -1,5 +1,4 @@
-use Rattle.trace_reader.proofs.Words.{◌≡◌, length, blocks_of}
-use Rattle.trace_reader.proofs.Prefixes.{behind}
+use Rattle.trace_reader.proofs.Laws.{◌≡◌, length, blocks_of, behind}
 use Rattle.trace_reader.proofs.entry.blocks_of.Given as goal
 
 -- the fields that are left

@@ -1,5 +1,4 @@
-use Rattle.trace_reader.proofs.Words.{◌∙◌, ap, sym, refl, Some, None}
-use Rattle.trace_reader.proofs.FirstWords.{said_behind, no_word}
+use Rattle.trace_reader.proofs.Laws.{◌∙◌, ap, sym, refl, Some, None, said_behind, no_word}
 use Rattle.trace_reader.proofs.entry.entry_of.Goals as goal
 
 pub returns-in-Some-Sub : goal.returns-in-Some-Sub

@@ -1,5 +1,4 @@
-use Rattle.std.proofs.lemmas.Result.{err_from_is_err_and}
-use Rattle.trace_reader.proofs.RingLines.{no_ring_there, ring_there}
+use Rattle.trace_reader.proofs.Laws.{err_from_is_err_and, no_ring_there, ring_there}
 use Rattle.trace_reader.proofs.entry.header_ring.Goals as goal
 
 pub returns-in_err-ring_behind : goal.returns-in_err-ring_behind

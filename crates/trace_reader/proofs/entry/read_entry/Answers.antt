@@ -1,5 +1,4 @@
-use Rattle.std.proofs.lemmas.Result.{err_from_is_err_and}
-use Rattle.trace_reader.proofs.EventLines.{event_there, no_event_there}
+use Rattle.trace_reader.proofs.Laws.{err_from_is_err_and, event_there, no_event_there}
 use Rattle.trace_reader.proofs.entry.read_entry.Goals as goal
 
 pub returns-in_err-event : goal.returns-in_err-event

@@ -1,6 +1,4 @@
-use Rattle.trace_reader.proofs.Words.{◌≡◌, length, map, segments_of}
-use Rattle.segments.specs.ShapeValue.{segment_of}
-use Rattle.trace_reader.proofs.Prefixes.{behind}
+use Rattle.trace_reader.proofs.Laws.{◌≡◌, length, map, segments_of, segment_of, behind}
 use Rattle.trace_reader.proofs.entry.segments_of.Given as goal
 
 -- the fields that are left

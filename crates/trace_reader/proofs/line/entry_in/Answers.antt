@@ -1,5 +1,4 @@
-use Rattle.trace_reader.proofs.Words.{◌≤◌, ◌<◌, ◌∙◌, sym, arith, err_from_is_err_and, said_alone, value_of, most_of, next_number}
-use Rattle.trace_reader.proofs.LineFields.{alone, same_most, passed_on, past_limit, too_much, not_limited}
+use Rattle.trace_reader.proofs.Laws.{◌≤◌, ◌<◌, ◌∙◌, sym, arith, err_from_is_err_and, said_alone, value_of, most_of, next_number, alone, same_most, passed_on, past_limit, too_much, not_limited}
 use Rattle.trace_reader.proofs.line.entry_in.Goals as goal
 
 pub returns-in_err-entry-clause-answer : goal.returns-in_err-entry-clause-answer

@@ -1,6 +1,4 @@
-use Rattle.trace_reader.proofs.Words.{◌≤◌, refl, true, arith, err_from_is_err_and, ring_of, row_of, start, SaysRow, State}
-use Rattle.trace_reader.proofs.ReadSteps.{line_entry}
-use Rattle.trace_reader.proofs.RowLines.{no_ring, row_error, row_placed}
+use Rattle.trace_reader.proofs.Laws.{◌≤◌, refl, true, arith, err_from_is_err_and, ring_of, row_of, start, SaysRow, State, line_entry, no_ring, row_error, row_placed}
 use Rattle.trace_reader.proofs.line.row_in.Goals as goal
 
 pub returns-in_err-row-clause-answer : goal.returns-in_err-row-clause-answer

@@ -1,5 +1,4 @@
-use Rattle.trace_reader.proofs.Words.{◌∙◌, ap, sym, refl, err_from_is_err_and, fields_of, PlanLine, Limit, valued_by, plan_form_of, plan_line_fault, plan_value}
-use Rattle.trace_reader.proofs.LineSteps.{content_faulty, content_whole, faulted, passed_by, unfaulted}
+use Rattle.trace_reader.proofs.Laws.{◌∙◌, ap, sym, refl, err_from_is_err_and, fields_of, PlanLine, Limit, valued_by, plan_form_of, plan_line_fault, plan_value, content_faulty, content_whole, faulted, passed_by, unfaulted}
 use Rattle.trace_reader.proofs.plan_line.plan_line.Goals as goal
 
 pub returns-in_err-content-clause-answer : goal.returns-in_err-content-clause-answer

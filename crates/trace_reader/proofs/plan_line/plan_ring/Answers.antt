@@ -1,5 +1,4 @@
-use Rattle.trace_reader.proofs.Words.{◌∙◌, ap, sym, err_from_is_err_and, Ring, ring_of, valued_by, plan_ring_fault, ring_line_form, ring_value}
-use Rattle.trace_reader.proofs.LineSteps.{content_faulty, content_whole, passed_by}
+use Rattle.trace_reader.proofs.Laws.{◌∙◌, ap, sym, err_from_is_err_and, Ring, ring_of, valued_by, plan_ring_fault, ring_line_form, ring_value, content_faulty, content_whole, passed_by}
 use Rattle.trace_reader.proofs.plan_line.plan_ring.Goals as goal
 
 pub returns-in_err-content : goal.returns-in_err-content

@@ -1,5 +1,4 @@
-use Rattle.trace_reader.proofs.Words.{◌≡◌, ◌∙◌, true, false, sym, refl, codes, not-false, not-true, bytes_eq}
-use Rattle.trace_reader.proofs.RingLines.{no_line, no_ring_line, named_ring_line}
+use Rattle.trace_reader.proofs.Laws.{◌≡◌, ◌∙◌, true, false, sym, refl, codes, not-false, not-true, bytes_eq, no_line, no_ring_line, named_ring_line}
 use Rattle.trace_reader.proofs.plan_line.ring_in.Goals as goal
 
 pub returns-in_default : goal.returns-in_default

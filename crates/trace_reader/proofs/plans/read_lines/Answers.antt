@@ -1,5 +1,4 @@
-use Rattle.trace_reader.proofs.Words.{sym, length, arith, eqb-true, lines_of, lines_say, plan_line}
-use Rattle.trace_reader.proofs.LineSteps.{at_start, bad_line_there, lines_ended, one_line_more}
+use Rattle.trace_reader.proofs.Laws.{sym, length, arith, eqb-true, lines_of, lines_say, plan_line, at_start, bad_line_there, lines_ended, one_line_more}
 use Rattle.trace_reader.proofs.plans.read_lines.Goals as goal
 
 pub loop-rest-init : goal.loop-rest-init

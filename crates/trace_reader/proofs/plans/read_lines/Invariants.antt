@@ -1,5 +1,4 @@
-use Rattle.trace_reader.proofs.Words.{◌≡◌, ◌≤◌, ◌+◌, length, lines_of, most_lines, lines_say, plan_line}
-use Rattle.trace_reader.proofs.LineSteps.{prepended}
+use Rattle.trace_reader.proofs.Laws.{◌≡◌, ◌≤◌, ◌+◌, length, lines_of, most_lines, lines_say, plan_line, prepended}
 use Rattle.trace_reader.proofs.plans.read_lines.Given as goal
 
 -- the text that is left

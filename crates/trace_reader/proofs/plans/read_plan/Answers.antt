@@ -1,6 +1,4 @@
-use Rattle.trace_reader.proofs.Words.{PlanText, plan_of, IsPlan, spells_plan}
-use Rattle.trace_reader.proofs.SpelledPlans.{one_plan, plan_read_if_spelled, plan_spelled_if_read}
-use Rattle.trace_reader.proofs.Unspelled.{none_spelled}
+use Rattle.trace_reader.proofs.Laws.{PlanText, plan_of, IsPlan, spells_plan, one_plan, plan_read_if_spelled, plan_spelled_if_read, none_spelled}
 use Rattle.trace_reader.proofs.plans.read_plan.Goals as goal
 
 pub invariant_of-result : goal.invariant_of-result

@@ -1,4 +1,4 @@
-use Rattle.std.proofs.Common.{◌∙◌, sym, length, eqb-true}
+use Rattle.trace_reader.proofs.Words.{◌∙◌, sym, length, eqb-true}
 use Rattle.trace_reader.proofs.PlanSteps.{no_text, no_version, version_there}
 use Rattle.trace_reader.proofs.plans.skip_version.Goals as goal
 

@@ -1,5 +1,4 @@
-use Rattle.std.proofs.Common.{◌∙◌, sym, length, eqb-true}
-use Rattle.trace_reader.proofs.PlanSteps.{no_ring_taken, no_second, ring_taken}
+use Rattle.trace_reader.proofs.Laws.{◌∙◌, sym, length, eqb-true, no_ring_taken, no_second, ring_taken}
 use Rattle.trace_reader.proofs.plans.take_ring.Goals as goal
 
 pub returns-then-is_empty-clause-err : goal.returns-then-is_empty-clause-err

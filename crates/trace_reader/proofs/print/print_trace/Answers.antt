@@ -1,7 +1,4 @@
-use Rattle.trace_reader.proofs.Words.{◌≡◌, ◌∙◌, rules, ap, all_plain, driver_trace_of, text_of, printed_trace, IsTrace}
-use Rattle.trace_reader.proofs.DriverTraces.{driver_trace, is_trace}
-use Rattle.trace_reader.proofs.LinePieces.{plain_rows, whole_text}
-use Rattle.trace_reader.proofs.Printed.{printed_reads}
+use Rattle.trace_reader.proofs.Laws.{◌≡◌, ◌∙◌, rules, ap, all_plain, driver_trace_of, text_of, printed_trace, IsTrace, driver_trace, is_trace, plain_rows, whole_text, printed_reads}
 use Rattle.trace_reader.proofs.print.print_trace.Goals as goal
 
 pub returns : goal.returns

@@ -1,5 +1,4 @@
-use Rattle.trace_reader.proofs.Words.{arith, common_steps, ring_fields}
-use Rattle.trace_reader.proofs.LinePieces.{line_of}
+use Rattle.trace_reader.proofs.Laws.{arith, common_steps, ring_fields, line_of}
 use Rattle.trace_reader.proofs.print.push_ring.Goals as goal
 
 pub returns : goal.returns

@@ -1,5 +1,4 @@
-use Rattle.trace_reader.proofs.Words.{arith, common_steps, trace_row_fields}
-use Rattle.trace_reader.proofs.LinePieces.{line_of}
+use Rattle.trace_reader.proofs.Laws.{arith, common_steps, trace_row_fields, line_of}
 use Rattle.trace_reader.proofs.print.push_trace_row.Goals as goal
 
 pub returns : goal.returns

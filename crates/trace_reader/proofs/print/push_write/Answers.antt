@@ -1,5 +1,4 @@
-use Rattle.trace_reader.proofs.Words.{arith, common_steps, Write, row_fields}
-use Rattle.trace_reader.proofs.LinePieces.{line_of}
+use Rattle.trace_reader.proofs.Laws.{arith, common_steps, Write, row_fields, line_of}
 use Rattle.trace_reader.proofs.print.push_write.Goals as goal
 
 pub returns : goal.returns

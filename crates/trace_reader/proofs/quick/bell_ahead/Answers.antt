@@ -1,5 +1,4 @@
-use Rattle.trace_reader.proofs.Words.{refl, Bell}
-use Rattle.trace_reader.proofs.RowsAhead.{found_ahead}
+use Rattle.trace_reader.proofs.Laws.{refl, Bell, found_ahead}
 use Rattle.trace_reader.proofs.quick.bell_ahead.Goals as goal
 
 pub returns : goal.returns

@@ -1,5 +1,4 @@
-use Rattle.trace_reader.proofs.Words.{arith, length-take-le}
-use Rattle.trace_reader.proofs.RowsAhead.{cut_at}
+use Rattle.trace_reader.proofs.Laws.{arith, length-take-le, cut_at}
 use Rattle.trace_reader.proofs.quick.content_ahead.Goals as goal
 
 pub returns : goal.returns

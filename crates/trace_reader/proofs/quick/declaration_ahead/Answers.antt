@@ -1,5 +1,4 @@
-use Rattle.trace_reader.proofs.Words.{refl, [], ◌∷◌, Sub}
-use Rattle.trace_reader.proofs.RowsAhead.{found_ahead}
+use Rattle.trace_reader.proofs.Laws.{refl, [], ◌∷◌, Sub, found_ahead}
 use Rattle.trace_reader.proofs.quick.declaration_ahead.Goals as goal
 
 pub returns : goal.returns

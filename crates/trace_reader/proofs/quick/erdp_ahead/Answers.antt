@@ -1,5 +1,4 @@
-use Rattle.trace_reader.proofs.Words.{refl, Erdp, Reg}
-use Rattle.trace_reader.proofs.RowsAhead.{found_ahead}
+use Rattle.trace_reader.proofs.Laws.{refl, Erdp, Reg, found_ahead}
 use Rattle.trace_reader.proofs.quick.erdp_ahead.Goals as goal
 
 pub returns : goal.returns

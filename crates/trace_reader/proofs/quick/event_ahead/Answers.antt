@@ -1,5 +1,4 @@
-use Rattle.trace_reader.proofs.Words.{refl, Read}
-use Rattle.trace_reader.proofs.RowsAhead.{found_ahead}
+use Rattle.trace_reader.proofs.Laws.{refl, Read, found_ahead}
 use Rattle.trace_reader.proofs.quick.event_ahead.Goals as goal
 
 pub returns : goal.returns

@@ -1,5 +1,4 @@
-use Rattle.std.proofs.Common.{sym}
-use Rattle.trace_reader.proofs.FixedPlaces.{bell_says}
+use Rattle.trace_reader.proofs.Laws.{sym, bell_says}
 use Rattle.trace_reader.proofs.quick.quick_bell.Goals as goal
 
 pub returns : goal.returns

@@ -1,5 +1,4 @@
-use Rattle.std.proofs.Common.{sym}
-use Rattle.trace_reader.proofs.FixedPlaces.{sub_says}
+use Rattle.trace_reader.proofs.Laws.{sym, sub_says}
 use Rattle.trace_reader.proofs.quick.quick_declaration.Goals as goal
 
 pub returns : goal.returns

@@ -1,6 +1,4 @@
-use Rattle.trace_reader.proofs.Words.{sym, ◌∙◌, Erdp, Reg, SaysAlone, same_text}
-use Rattle.trace_reader.proofs.FixedPlaces.{erdp_says}
-use Rattle.trace_reader.proofs.RowsAhead.{if_is}
+use Rattle.trace_reader.proofs.Laws.{sym, ◌∙◌, Erdp, Reg, SaysAlone, same_text, erdp_says, if_is}
 use Rattle.trace_reader.proofs.quick.quick_erdp.Goals as goal
 
 pub returns : goal.returns

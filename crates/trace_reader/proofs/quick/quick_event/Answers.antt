@@ -1,6 +1,4 @@
-use Rattle.trace_reader.proofs.Words.{sym, ◌∙◌, Read, SaysAlone}
-use Rattle.trace_reader.proofs.FixedPlaces.{event_says}
-use Rattle.trace_reader.proofs.RowsAhead.{if_is}
+use Rattle.trace_reader.proofs.Laws.{sym, ◌∙◌, Read, SaysAlone, event_says, if_is}
 use Rattle.trace_reader.proofs.quick.quick_event.Goals as goal
 
 pub returns : goal.returns

@@ -1,5 +1,4 @@
-use Rattle.std.proofs.Common.{sym}
-use Rattle.trace_reader.proofs.FixedPlaces.{write_says}
+use Rattle.trace_reader.proofs.Laws.{sym, write_says}
 use Rattle.trace_reader.proofs.quick.quick_write.Goals as goal
 
 pub returns : goal.returns

@@ -1,5 +1,4 @@
-use Rattle.trace_reader.proofs.Words.{refl, Write}
-use Rattle.trace_reader.proofs.RowsAhead.{found_ahead}
+use Rattle.trace_reader.proofs.Laws.{refl, Write, found_ahead}
 use Rattle.trace_reader.proofs.quick.write_ahead.Goals as goal
 
 pub returns : goal.returns

@@ -1,7 +1,5 @@
-use Rattle.trace_reader.proofs.Words.{◌∙◌, arith, state_of}
-use Rattle.trace_reader.proofs.DriverTraces.{few_rows, is_driver_trace, plain_trace}
-use Rattle.trace_reader.proofs.ReadSteps.{header_there}
-use Rattle.trace_reader.proofs.Spelled.{spelled_if_read}
+use Rattle.trace_reader.proofs.Laws.{◌∙◌, arith, state_of, is_driver_trace, plain_trace, header_there, spelled_if_read}
+use Rattle.trace_reader.proofs.DriverTraces.{few_rows}
 use Rattle.trace_reader.proofs.read.finish.Goals as goal
 
 pub invariant_of-result : goal.invariant_of-result

@@ -1,9 +1,5 @@
-use Rattle.trace_reader.proofs.Words.{true, ◌∙◌, ap, sym, length, eqb-true, lines_of, state_of, text_of, all_plain, driver_row, start, take_lines}
-use Rattle.trace_reader.proofs.DriverTraces.{plain_trace}
-use Rattle.trace_reader.proofs.Lowered.{lowered}
-use Rattle.trace_reader.proofs.ReadSteps.{ended, nothing_before, prepend, read_on, stopped}
-use Rattle.trace_reader.proofs.Spelled.{one_trace, spelled_if_read}
-use Rattle.trace_reader.proofs.Unspelled.{err_also, ok_also, refused_unspelled}
+use Rattle.trace_reader.proofs.Laws.{true, ◌∙◌, ap, sym, length, eqb-true, lines_of, state_of, text_of, all_plain, driver_row, start, take_lines, plain_trace, lowered, ended, nothing_before, prepend, stopped, one_trace, spelled_if_read, err_also, ok_also, refused_unspelled}
+use Rattle.trace_reader.proofs.ReadSteps.{read_on}
 use Rattle.trace_reader.proofs.read.read_trace.Goals as goal
 
 pub loop-rest-init : goal.loop-rest-init

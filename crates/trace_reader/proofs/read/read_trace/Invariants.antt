@@ -1,5 +1,4 @@
-use Rattle.trace_reader.proofs.Words.{true, ◌≡◌, length, lines_of, state_of, driver_row, start, take_lines}
-use Rattle.trace_reader.proofs.ReadSteps.{prepend}
+use Rattle.trace_reader.proofs.Laws.{true, ◌≡◌, length, lines_of, state_of, driver_row, start, take_lines, prepend}
 use Rattle.trace_reader.proofs.read.read_trace.Given as goal
 
 -- the text that is left

@@ -1,6 +1,4 @@
-use Rattle.trace_reader.proofs.Words.{rules, ◌≡◌, ◌∙◌, ap, schedule_of, printed_schedule}
-use Rattle.trace_reader.proofs.ScheduleSteps.{whole_schedule}
-use Rattle.trace_reader.proofs.SpelledSchedules.{schedule_printed_reads}
+use Rattle.trace_reader.proofs.Laws.{rules, ◌≡◌, ◌∙◌, ap, schedule_of, printed_schedule, whole_schedule, schedule_printed_reads}
 use Rattle.trace_reader.proofs.schedules.print_schedule.Goals as goal
 
 pub returns : goal.returns

@@ -1,5 +1,4 @@
-use Rattle.trace_reader.proofs.Words.{arith, common_steps, step_fields}
-use Rattle.trace_reader.proofs.LinePieces.{line_of}
+use Rattle.trace_reader.proofs.Laws.{arith, common_steps, step_fields, line_of}
 use Rattle.trace_reader.proofs.schedules.push_step.Goals as goal
 
 pub returns : goal.returns

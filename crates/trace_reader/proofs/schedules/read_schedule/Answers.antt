@@ -1,6 +1,4 @@
-use Rattle.trace_reader.proofs.Words.{schedule_of, IsSchedule, spells_schedule}
-use Rattle.trace_reader.proofs.SpelledSchedules.{one_schedule, schedule_read_if_spelled, schedule_spelled_if_read}
-use Rattle.trace_reader.proofs.Unspelled.{none_spelled}
+use Rattle.trace_reader.proofs.Laws.{schedule_of, IsSchedule, spells_schedule, one_schedule, schedule_read_if_spelled, schedule_spelled_if_read, none_spelled}
 use Rattle.trace_reader.proofs.schedules.read_schedule.Goals as goal
 
 pub invariant_of-result : goal.invariant_of-result

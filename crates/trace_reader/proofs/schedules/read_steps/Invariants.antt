@@ -1,5 +1,4 @@
-use Rattle.trace_reader.proofs.Words.{◌≡◌, ◌≤◌, ◌+◌, length, lines_of, most_schedule_lines, lines_say, step_line}
-use Rattle.trace_reader.proofs.LineSteps.{prepended}
+use Rattle.trace_reader.proofs.Laws.{◌≡◌, ◌≤◌, ◌+◌, length, lines_of, most_schedule_lines, lines_say, step_line, prepended}
 use Rattle.trace_reader.proofs.schedules.read_steps.Given as goal
 
 -- the text that is left

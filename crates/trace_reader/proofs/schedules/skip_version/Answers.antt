@@ -1,5 +1,5 @@
-use Rattle.std.proofs.Common.{◌∙◌, sym, length, eqb-true}
-use Rattle.trace_reader.proofs.ScheduleSteps.{no_text, no_version, version_there}
+use Rattle.trace_reader.proofs.Laws.{◌∙◌, sym, length, eqb-true, no_text, version_there}
+use Rattle.trace_reader.proofs.ScheduleSteps.{no_version}
 use Rattle.trace_reader.proofs.schedules.skip_version.Goals as goal
 
 pub returns-then-is_empty-clause-err : goal.returns-then-is_empty-clause-err

@@ -1,5 +1,4 @@
-use Rattle.trace_reader.proofs.Words.{◌∙◌, ap, sym, refl, le-ltb, lt-ltb, err_from_is_err_and, fields_of, Limit, Step, most_schedule_lines, valued_by, step_fault, step_form_of, step_value}
-use Rattle.trace_reader.proofs.LineSteps.{content_faulty, content_whole, faulted, passed_by, unfaulted}
+use Rattle.trace_reader.proofs.Laws.{◌∙◌, ap, sym, refl, le-ltb, lt-ltb, err_from_is_err_and, fields_of, Limit, Step, most_schedule_lines, valued_by, step_fault, step_form_of, step_value, content_faulty, content_whole, faulted, passed_by, unfaulted}
 use Rattle.trace_reader.proofs.step_line.step_line.Goals as goal
 
 pub returns-in_err-content-clause-answer : goal.returns-in_err-content-clause-answer

@@ -1,5 +1,4 @@
-use Rattle.trace_record.proofs.Words.{◌<◌, length, get_or, ap, sym, ◌∙◌, arith, EventCounts}
-use Rattle.trace_record.proofs.FreshRecords.{place_first, no_event_ring}
+use Rattle.trace_record.proofs.Laws.{◌<◌, length, get_or, ap, sym, ◌∙◌, arith, EventCounts, place_first, no_event_ring}
 use Rattle.trace_record.proofs.fresh.event_place.Goals as goal
 
 pub returns-then-is_event_ring-clause-follows : goal.returns-then-is_event_ring-clause-follows
@@ -13,7 +12,4 @@ pub returns-then-is_event_ring-clause-unread : goal.returns-then-is_event_ring-c
 returns-then-is_event_ring-clause-unread c = let h = ap (λ (e : EventCounts). e.reads) c.new.ensures.counts in omega (arith, h)
 
 pub returns-clause-follows : goal.returns-clause-follows
-returns-clause-follows c =
-    let past = c.loop-ring-test.false in
-    let same = c.as_slice-ring-items.ensures in
-    no_event_ring c.args.header.now (λ i d l. c.loop-ring.invariant i d (omega (arith, ap length same, past, l)))
+returns-clause-follows c = grind (arith, no_event_ring)

@@ -1,4 +1,4 @@
-use Rattle.trace_record.proofs.Words.{◌≡◌, ◌<◌, ℕ, false, get_or, Ring, is_event_kind}
+use Rattle.trace_record.proofs.BaseWords.{◌≡◌, ◌<◌, ℕ, false, get_or, Ring, is_event_kind}
 use Rattle.trace_record.proofs.fresh.event_place.Given as goal
 
 -- no ring so far is an event ring

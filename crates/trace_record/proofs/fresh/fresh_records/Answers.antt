@@ -1,5 +1,4 @@
-use Rattle.trace_record.proofs.Words.{◌≡◌, ◌+◌, List, length, sym, subst, arith, RingRecord, IsFreshSo}
-use Rattle.trace_record.proofs.FreshRecords.{fresh_push}
+use Rattle.trace_record.proofs.Laws.{◌+◌, List, sym, subst, arith, RingRecord, IsFreshSo, fresh_push}
 use Rattle.trace_record.proofs.fresh.fresh_records.Goals as goal
 
 pub loop-ring-preserved : goal.loop-ring-preserved
@@ -8,8 +7,4 @@ loop-ring-preserved c =
     (fresh_push c.args.rings.now c.loop-ring.records.items c.ring-item.result c.loop-ring.ring-index c.in_ok-new.field-0 c.loop-ring.invariant c.ring-item.is c.loop-ring-test.true c.in_ok-new.ensures)
 
 pub returns : goal.returns
-returns c =
-    let ends = c.loop-ring.auto.ring-index-end in
-    let past = c.loop-ring-test.false in
-    let all : c.loop-ring.ring-index ≡ length c.args.rings.now = omega arith in
-    rw all at c.loop-ring.invariant
+returns c = grind arith

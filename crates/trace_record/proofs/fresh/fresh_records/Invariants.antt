@@ -1,4 +1,4 @@
-use Rattle.trace_record.proofs.Words.{IsFreshSo}
+use Rattle.trace_record.proofs.BaseWords.{IsFreshSo}
 use Rattle.trace_record.proofs.fresh.fresh_records.Given as goal
 
 -- a record of each ring so far

@@ -1,5 +1,4 @@
-use Rattle.trace_record.proofs.Words.{◌∙◌, ap, subst, touches, FollowsEvents}
-use Rattle.trace_record.proofs.OpenAreas.{in_no_segments, in_segments}
+use Rattle.trace_record.proofs.Laws.{◌∙◌, ap, subst, touches, FollowsEvents, in_no_segments, in_segments}
 use Rattle.trace_record.proofs.owned.is_in_segment.Goals as goal
 
 pub returns-in-None : goal.returns-in-None

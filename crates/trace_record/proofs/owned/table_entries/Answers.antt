@@ -1,5 +1,4 @@
-use Rattle.trace_record.proofs.Words.{subst, FollowsEvents}
-use Rattle.trace_record.proofs.TableWords.{no_bytes}
+use Rattle.trace_record.proofs.Laws.{subst, FollowsEvents, no_bytes}
 use Rattle.trace_record.proofs.owned.table_entries.Goals as goal
 
 pub returns-in-None : goal.returns-in-None

@@ -1,5 +1,4 @@
-use Rattle.std.proofs.Math.Facts.{Fits-lt-pow}
-use Rattle.trb.proofs.BitLemmas.{lowest_bit-by_mask}
+use Rattle.trb.proofs.Laws.{Fits-lt-pow, lowest_bit-by_mask}
 use Rattle.trb.proofs.bits.with_lowest_bit.Goals as goal
 
 pub returns : goal.returns

@@ -1,5 +1,4 @@
-use Rattle.std.proofs.Common.{arith, []}
-use Rattle.trb.proofs.ChainLemmas.{is_chain-by_last}
+use Rattle.trb.proofs.Laws.{arith, [], is_chain-by_last}
 use Rattle.trb.proofs.descriptor.is_chain.Goals as goal
 
 pub returns-then-are_chained : goal.returns-then-are_chained

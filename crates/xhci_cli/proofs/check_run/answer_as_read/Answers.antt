@@ -1,5 +1,4 @@
-use Rattle.xhci_cli.proofs.Words.{ap, false, not, ◌∙◌}
-use Rattle.xhci_cli.proofs.Streamed.{alone_right}
+use Rattle.xhci_cli.proofs.Laws.{ap, false, not, ◌∙◌, alone_right}
 use Rattle.xhci_cli.proofs.check_run.answer_as_read.Goals as goal
 
 pub returns-then-is_none-clause-answered : goal.returns-then-is_none-clause-answered

@@ -1,5 +1,4 @@
-use Rattle.xhci_cli.proofs.Words.{Answer, IsCheckAnswer, false, length, subst, sym, ◌≡◌}
-use Rattle.xhci_cli.proofs.Streamed.{cut_right, kept_right, unkept_right}
+use Rattle.xhci_cli.proofs.Laws.{Answer, IsCheckAnswer, false, length, subst, sym, ◌≡◌, cut_right, kept_right, unkept_right}
 use Rattle.xhci_cli.proofs.check_run.kept_answer.Goals as goal
 
 pub returns-in_err-keep-in-Ok-clause-hindered : goal.returns-in_err-keep-in-Ok-clause-hindered

@@ -1,5 +1,4 @@
-use Rattle.xhci_cli.proofs.Words.{IsCheckAnswer, failure, inl, is_some, opened, opened_holds, refl, told_right}
-use Rattle.xhci_cli.proofs.HeldAnswers.{hindered}
+use Rattle.xhci_cli.proofs.Laws.{IsCheckAnswer, failure, inl, is_some, opened, opened_holds, refl, told_right, hindered}
 use Rattle.xhci_cli.proofs.check_run.run_check.Goals as goal
 
 pub returns-in-Ok-clause-told : goal.returns-in-Ok-clause-told

@@ -1,5 +1,4 @@
-use Rattle.xhci_cli.proofs.Words.{trace_kept}
-use Rattle.xhci_cli.proofs.Streamed.{harm_found}
+use Rattle.xhci_cli.proofs.Laws.{trace_kept, harm_found}
 use Rattle.xhci_cli.proofs.harm_run.found_harm.Goals as goal
 
 pub returns-in-Ok : goal.returns-in-Ok

@@ -1,5 +1,4 @@
-use Rattle.xhci_cli.proofs.Words.{Answer, IsCheckAnswer, failure, subst, sym, true}
-use Rattle.xhci_cli.proofs.HeldAnswers.{check_held, hindered_held}
+use Rattle.xhci_cli.proofs.Laws.{Answer, IsCheckAnswer, failure, subst, sym, true, check_held, hindered_held}
 use Rattle.xhci_cli.proofs.harm_run.judged_with_harm.Goals as goal
 
 pub returns-in-Ok-check_answer-clause-right : goal.returns-in-Ok-check_answer-clause-right

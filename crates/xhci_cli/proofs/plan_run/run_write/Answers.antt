@@ -1,5 +1,4 @@
-use Rattle.xhci_cli.proofs.Words.{IsPlanAnswer, failure, opened, told_right}
-use Rattle.xhci_cli.proofs.HeldAnswers.{plan_held}
+use Rattle.xhci_cli.proofs.Laws.{IsPlanAnswer, failure, opened, told_right, plan_held}
 use Rattle.xhci_cli.proofs.plan_run.run_write.Goals as goal
 
 pub returns-in-Ok-clause-told : goal.returns-in-Ok-clause-told

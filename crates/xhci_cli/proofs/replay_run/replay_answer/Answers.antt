@@ -1,5 +1,4 @@
-use Rattle.xhci_cli.proofs.Words.{trace_kept}
-use Rattle.xhci_cli.proofs.Replayed.{beside_right}
+use Rattle.xhci_cli.proofs.Laws.{trace_kept, beside_right}
 use Rattle.xhci_cli.proofs.replay_run.replay_answer.Goals as goal
 
 pub returns-in-Ok : goal.returns-in-Ok

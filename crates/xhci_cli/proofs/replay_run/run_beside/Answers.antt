@@ -1,5 +1,4 @@
-use Rattle.xhci_cli.proofs.Words.{IsReplayBeside, failure, opened, told_right, trace_kept}
-use Rattle.xhci_cli.proofs.Replayed.{beside_held}
+use Rattle.xhci_cli.proofs.Laws.{IsReplayBeside, failure, opened, told_right, trace_kept, beside_held}
 use Rattle.xhci_cli.proofs.replay_run.run_beside.Goals as goal
 
 pub returns-in-Ok-clause-told : goal.returns-in-Ok-clause-told

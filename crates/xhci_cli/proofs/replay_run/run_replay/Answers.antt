@@ -1,6 +1,5 @@
-use Rattle.xhci_cli.proofs.Words.{Answer, failure, inl, inr, opened, subst, sym, told_right, trace_kept}
-use Rattle.xhci_cli.proofs.KeptHeld.{text_held, unread_right}
-use Rattle.xhci_cli.specs.KeptTexts.{IsUnread}
+use Rattle.xhci_cli.proofs.Laws.{Answer, failure, inl, inr, opened, subst, sym, told_right, trace_kept, text_held, IsUnread}
+use Rattle.xhci_cli.proofs.KeptHeld.{unread_right}
 use Rattle.xhci_cli.proofs.replay_run.run_replay.Goals as goal
 
 pub returns-in-Err-clause-told : goal.returns-in-Err-clause-told

@@ -1,5 +1,4 @@
-use Rattle.xhci_cli.proofs.Words.{IsScheduleAnswer, IsScheduled, failure, inl, opened, told_right}
-use Rattle.xhci_cli.proofs.KeptHeld.{answer_held}
+use Rattle.xhci_cli.proofs.Laws.{IsScheduleAnswer, IsScheduled, failure, inl, opened, told_right, answer_held}
 use Rattle.xhci_cli.proofs.schedule_run.run_schedule.Goals as goal
 
 pub returns-in-Ok-clause-told : goal.returns-in-Ok-clause-told

@@ -1,5 +1,4 @@
-use Rattle.xhci_cli.proofs.Words.{IsVerdictAlone, false, opened_holds}
-use Rattle.xhci_cli.specs.JudgedTexts.{IsTraceAnswer}
+use Rattle.xhci_cli.proofs.Words.{IsVerdictAlone, false, opened_holds, IsTraceAnswer}
 use Rattle.xhci_cli.proofs.several_run.judged_alone.Goals as goal
 
 pub returns-in-Ok-clause-right : goal.returns-in-Ok-clause-right

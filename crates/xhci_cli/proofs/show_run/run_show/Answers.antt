@@ -1,5 +1,4 @@
-use Rattle.xhci_cli.proofs.Words.{IsPageAnswer, IsShowAnswer, failure, inl, opened, told_right}
-use Rattle.xhci_cli.proofs.KeptHeld.{answer_held}
+use Rattle.xhci_cli.proofs.Laws.{IsPageAnswer, IsShowAnswer, failure, inl, opened, told_right, answer_held}
 use Rattle.xhci_cli.proofs.show_run.run_show.Goals as goal
 
 pub returns-in-Ok-clause-told : goal.returns-in-Ok-clause-told

@@ -1,6 +1,4 @@
-use Rattle.xhci_cli.proofs.Words.{Answer, IsVerdictAlone, false, subst, sym}
-use Rattle.xhci_cli.specs.JudgedTexts.{IsTraceAnswer}
-use Rattle.xhci_cli.proofs.Streamed.{counted_right, unaccepted_right}
+use Rattle.xhci_cli.proofs.Laws.{Answer, IsVerdictAlone, false, subst, sym, IsTraceAnswer, counted_right, unaccepted_right}
 use Rattle.xhci_cli.proofs.stream_answers.counted_answer.Goals as goal
 
 pub returns-in-Ok : goal.returns-in-Ok

@@ -1,6 +1,5 @@
-use Rattle.xhci_cli.proofs.Words.{Answer, false, inl, subst, sym}
+use Rattle.xhci_cli.proofs.Laws.{Answer, false, inl, subst, sym, unread_right, verified_right}
 use Rattle.xhci_cli.specs.JudgedTexts.{IsUnread}
-use Rattle.xhci_cli.proofs.Streamed.{unread_right, verified_right}
 use Rattle.xhci_cli.proofs.stream_answers.verified_answer.Goals as goal
 
 pub returns-in-Ok : goal.returns-in-Ok

@@ -1,5 +1,4 @@
-use Rattle.xhci_cli.proofs.Words.{Answer, IsUncertified, failure, inl, inr, opened, subst, sym, told_right}
-use Rattle.xhci_cli.proofs.Certified.{certificate_held, uncertified_right}
+use Rattle.xhci_cli.proofs.Laws.{Answer, IsUncertified, failure, inl, inr, opened, subst, sym, told_right, certificate_held, uncertified_right}
 use Rattle.xhci_cli.proofs.verify_run.run_verify.Goals as goal
 
 pub returns-in-Err-clause-told : goal.returns-in-Err-clause-told

@@ -1,5 +1,4 @@
-use Rattle.xhci_cli.proofs.Words.{trace_kept}
-use Rattle.xhci_cli.proofs.VersionNotes.{accepted_by_three, headed_in_three, refused_by_three}
+use Rattle.xhci_cli.proofs.Laws.{trace_kept, accepted_by_three, headed_in_three, refused_by_three}
 use Rattle.xhci_cli.proofs.version_note.breaks_no_rule_of_three.Goals as goal
 
 pub check_kept-requires-clause-headed : goal.check_kept-requires-clause-headed

@@ -1,5 +1,4 @@
-use Rattle.certificate.proofs.Words.{false, subst, err_from_is_err_and, lents, FollowsCertificate}
-use Rattle.certificate.proofs.Verifying.Streams.{is_refused, is_whole, opened_bad, unverified, verified}
+use Rattle.certificate.proofs.Laws.{false, subst, err_from_is_err_and, lents, FollowsCertificate, is_refused, is_whole, opened_bad, unverified, verified}
 use Rattle.certificate.proofs.verifier.stream.verify_stream.Goals as goal
 
 pub returns-in_err-reader-clause-line : goal.returns-in_err-reader-clause-line

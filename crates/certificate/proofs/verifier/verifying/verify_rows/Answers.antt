@@ -1,5 +1,4 @@
-use Rattle.certificate.proofs.Words.{◌∙◌, length, sym, arith, reverse, lents, leases_are, known, by_place, refused, room_for}
-use Rattle.certificate.proofs.Verifying.Following.{accepted, held, listed, many, refused_none, started, stepped}
+use Rattle.certificate.proofs.Laws.{◌∙◌, length, sym, arith, reverse, lents, leases_are, known, by_place, refused, room_for, accepted, held, listed, many, refused_none, started, stepped}
 use Rattle.certificate.proofs.verifier.verifying.verify_rows.Goals as goal
 
 pub loop-row-init : goal.loop-row-init

@@ -1,4 +1,4 @@
-use Rattle.certificate.specs.Verifying.Following.{IsFollowed}
+use Rattle.certificate.proofs.Words.{IsFollowed}
 use Rattle.certificate.proofs.verifier.verifying.verify_rows.Given as goal
 
 abbrev pub invariant-loop-row : goal.invariant-loop-row

@@ -1,4 +1,4 @@
-use Rattle.driver_rows.proofs.Laws.{binds_none}
+use Rattle.driver_rows.proofs.RingBindings.BindingLists.{binds_none}
 use Rattle.driver_rows.proofs.bindings.binding.adds_endpoints.Goals as goal
 
 pub returns-in_default : goal.returns-in_default

@@ -3,21 +3,12 @@ use Rattle.driver_rows.proofs.bindings.binding.binds_again.Goals.{After-was_boun
 use Rattle.driver_rows.proofs.bindings.binding.binds_again.Goals as goal
 
 pub loop-index-init : goal.loop-index-init
-loop-index-init g c = (
-  c.next_bound-index.ensures.set,
-  λ k f fits.
-      let h = c.args.header.now in
-      ap (list_any (was_bound k)) (c.next_bound-index.ensures.rest h k c.args.command.now (c.bound_by-bound.ensures h k f fits)),
-)
+loop-index-init g c = grind arith
 
 -- what the bindings come to with the one that is asked
 asked : (g : _) (c : After-was_bound g) (k : Known) → HoldsContexts k c.args.devices.now (g.M.WordMemory.words c.args.memory.now) → FitsMemory c.args.header.now.context_size c.args.command.now →
     list_any (was_bound k) (bindings_from c.args.header.now k c.args.command.now 1) ≡ (c.was_bound.result || list_any (was_bound k) (bindings_from c.args.header.now k c.args.command.now (c.loop-index.index + 1)))
-asked g c k f fits =
-    let here = c.binding_in.ensures k c.args.command.now f.words (c.bound_by-bound.ensures c.args.header.now k f fits) in
-    c.loop-index.invariant.1 k f fits
-    ∙ ap (list_any (was_bound k)) (bindings_at c.args.header.now k c.args.command.now c.loop-index.index c.binding_in.result c.loop-index-test.true here)
-    ∙ ap (λ b. b || list_any (was_bound k) (bindings_from c.args.header.now k c.args.command.now (c.loop-index.index + 1))) (sym (c.was_bound.ensures k f.followed))
+asked g c k f fits = grind (arith, bindings_at, c.binding_in.ensures k c.args.command.now f.words (c.bound_by-bound.ensures c.args.header.now k f fits))
 
 pub loop-index-preserved : goal.loop-index-preserved
 loop-index-preserved g c = (
@@ -33,8 +24,4 @@ returns-then-was_bound g c = λ k f fits.
     ∙ again_is c.args.header.now k c.args.command.now
 
 pub returns : goal.returns
-returns g c = λ k f fits.
-    let h = c.args.header.now in
-    let command = c.args.command.now in
-    sym (c.loop-index.invariant.1 k f fits ∙ ap (list_any (was_bound k)) (bindings_end h k command c.loop-index.index (omega (arith, c.loop-index-test.false))))
-    ∙ again_is h k command
+returns g c = grind (arith, bindings_end, again_is)

@@ -1,16 +1,9 @@
-use Rattle.driver_rows.proofs.Laws.{◌≡◌, refl, Known, FollowsTrace, DriverKeeps, FitsMemory, HoldsDropped, ◌+◌, ◌∙◌, ap, sym, arith, ◌||◌, not, has_repeats, HoldsContexts, are_bad, bindings_from, is_misplaced, bindings_at, bindings_end, of_dequeue}
+use Rattle.driver_rows.proofs.Laws.{◌≡◌, refl, Known, FollowsTrace, DriverKeeps, FitsMemory, HoldsDropped, ◌+◌, ◌∙◌, ap, arith, ◌||◌, not, has_repeats, HoldsContexts, are_bad, bindings_from, is_misplaced, bindings_at, bindings_end, of_dequeue}
 use Rattle.driver_rows.proofs.bindings.binding.binds_badly.Goals.{After-take}
 use Rattle.driver_rows.proofs.bindings.binding.binds_badly.Goals as goal
 
 pub loop-index-init : goal.loop-index-init
-loop-index-init g c = (
-  c.next_bound-index.ensures.set,
-  λ k f keeps fits holds.
-      let h = c.args.header.now in
-      let contexts : HoldsContexts k c.args.t.now.devices (g.M.WordMemory.words c.args.memory.now) = record { followed = f.devices; words = f.words } in
-      ap (are_bad (is_misplaced h k c.args.command.now) c.args.t.now.bound)
-      (c.next_bound-index.ensures.rest h k c.args.command.now (c.bound_by-bound.ensures h k contexts fits)),
-)
+loop-index-init g c = grind arith
 
 -- what the bindings come to with the one that is asked
 took : (g : _) (c : After-take g) (k : Known) → FollowsTrace c.args.header.now k c.args.t.now (g.M.WordMemory.words c.args.memory.now) → DriverKeeps c.args.header.now k →
@@ -44,8 +37,4 @@ returns-then-not-take g c = λ k f keeps fits holds. rw (took g (goal.at.returns
 
 pub returns : goal.returns
 unfolding has_repeats
-returns g c = λ k f keeps fits holds.
-    let h = c.args.header.now in
-    let command = c.args.command.now in
-    sym (c.loop-index.invariant.1 k f keeps fits holds
-    ∙ ap (λ xs. are_bad (is_misplaced h k command) c.loop-index.taken xs) (bindings_end h k command c.loop-index.index (omega (arith, c.loop-index-test.false))))
+returns g c = grind (arith, bindings_end)

@@ -2,12 +2,7 @@ use Rattle.driver_rows.proofs.Laws.{◌+◌, ◌∙◌, ap, sym, arith, ◌&&◌
 use Rattle.driver_rows.proofs.bindings.binding.forget_bound.Goals as goal
 
 pub loop-index-init : goal.loop-index-init
-loop-index-init g c = (
-  c.next_bound-index.ensures.set,
-  λ k f fits r.
-      ap (λ xs. has c.args.rings.now r && not (list_any (is_to r) xs))
-      (sym (c.next_bound-index.ensures.rest c.args.header.now k c.args.command.now (c.bound_by-bound.ensures c.args.header.now k f fits))),
-)
+loop-index-init g c = grind arith
 
 pub loop-index-preserved : goal.loop-index-preserved
 loop-index-preserved g c = (
@@ -25,8 +20,4 @@ loop-index-preserved g c = (
 )
 
 pub returns : goal.returns
-returns g c = λ k f fits r.
-    sym (and_true (has c.loop-index.rings r))
-    ∙ ap (λ xs. has c.loop-index.rings r && not (list_any (is_to r) xs))
-    (sym (bindings_end c.args.header.now k c.args.command.now c.loop-index.index (omega (arith, c.loop-index-test.false))))
-    ∙ c.loop-index.invariant.1 k f fits r ∙ ap (λ b. has c.args.rings.now r && not b) (sym (binds_ring_is c.args.header.now k c.args.command.now r))
+returns g c = grind (arith, and_true, bindings_end, binds_ring_is)

@@ -1,13 +1,9 @@
-use Rattle.driver_rows.proofs.Laws.{◌≡◌, ◌||◌, ◌∙◌, Some, ap, sym, true, false, not, ring_having, is_kept, is_placed, as_binding, is_in_set, is_kept_ring, is_misplaced, RingBinding, bad_first, or_last, taken_next}
+use Rattle.driver_rows.proofs.Laws.{arith, ◌≡◌, ◌||◌, ◌∙◌, Some, ap, sym, true, false, not, ring_having, is_kept, is_placed, as_binding, is_in_set, is_kept_ring, is_misplaced, RingBinding, bad_first, or_last, taken_next}
 use Rattle.driver_rows.proofs.bindings.binding.take.Goals as goal
 
 pub returns-in_default : goal.returns-in_default
 unfolding is_placed
-returns-in_default c = λ k m command f keeps holds is rest.
-    let h = c.args.header.now in
-    let b = c.args.binding in
-    bad_first (is_misplaced h k command) c.args.taken.now b rest
-    (ap (λ o. is_in_set c.args.taken.now o || (is_kept_ring h k command o || not (is_placed h k o (as_binding b.dequeue)))) c.in_default.is)
+returns-in_default c = grind (arith, bad_first)
 
 pub returns-then-not-may_be_bound : goal.returns-then-not-may_be_bound
 returns-then-not-may_be_bound c = λ k m command f keeps holds is rest.

@@ -1,11 +1,8 @@
-use Rattle.driver_rows.proofs.Laws.{◌+◌, ◌/◌, ◌*◌, ◌∙◌, true, false, refl, subst, sym, ConfigureEndpoint, FitsMemory, HasBound, of_configure, of_nothing}
+use Rattle.driver_rows.proofs.Laws.{arith, ◌+◌, ◌/◌, ◌*◌, ◌∙◌, false, refl, subst, sym, ConfigureEndpoint, FitsMemory, HasBound, of_configure, of_nothing}
 use Rattle.driver_rows.proofs.bindings.context.bound_by_configure.Goals as goal
 
 pub returns-then-deconfigure : goal.returns-then-deconfigure
-returns-then-deconfigure g c = λ h k slot words fits.
-    subst (HasBound h k (ConfigureEndpoint slot c.args.deconfigure c.args.context)) (sym c.none_bound.ensures)
-    (subst (λ d. HasBound h k (ConfigureEndpoint slot d c.args.context) (record { flags = 0; context = 0 })) (sym c.if-deconfigure.true)
-    (of_nothing h k (ConfigureEndpoint slot true c.args.context) (λ i. refl)))
+returns-then-deconfigure g c = grind (arith, of_nothing)
 
 pub returns : goal.returns
 returns g c = λ h k slot words fits.

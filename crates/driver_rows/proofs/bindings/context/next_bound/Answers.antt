@@ -1,4 +1,4 @@
-use Rattle.driver_rows.proofs.Laws.{bindings_skipped}
+use Rattle.driver_rows.proofs.RingBindings.BindingLists.{bindings_skipped}
 use Rattle.driver_rows.proofs.bindings.context.next_bound.Goals as goal
 
 pub returns-clause-rest : goal.returns-clause-rest

@@ -3,8 +3,7 @@ use Rattle.driver_rows.proofs.bindings.moved.is_being_moved.Goals as goal
 
 named : (h : Header) (k : Known) (r : ℕ) (c : Command) → moves_ring h k r c ≡ true → is_some (named_slot c) ≡ true
 unfolding moves_ring
-named h k r (AddressDevice s bsr n) e = refl
-named h k r _ e = absurd (cc)
+named h k r c e = grind arith
 
 -- without an Address Device no ring is moved
 none_moves : (h : Header) (k : Known) (r : ℕ) (cs : List Command) → list_any is_address_device cs ≡ false → list_any (moves_ring h k r) cs ≡ false
@@ -15,8 +14,7 @@ none_moves h k r (_ ∷ cs) e = none_moves h k r cs e
 
 pub returns-then-not-has_address_device : goal.returns-then-not-has_address_device
 unfolding is_being_moved
-returns-then-not-has_address_device c = λ h k m f.
-    sym (none_moves h k c.args.ring (unfinished h k) (sym (c.has_address_device.ensures (unfinished h k) f.commands) ∙ c.if-not-has_address_device.true))
+returns-then-not-has_address_device c = grind (arith, none_moves)
 
 pub loop-slot-init : goal.loop-slot-init
 loop-slot-init c = λ h k m f. below_none (moves_ring h k c.args.ring) (unfinished h k)

@@ -1,16 +1,13 @@
-use Rattle.driver_rows.proofs.Laws.{◌≡◌, ◌∙◌, ℕ, true, refl, sym, Command, AddressDevice, Header, Known, unfinished, index_of, moves_ring, named_here, of_none, of_some}
+use Rattle.driver_rows.proofs.Laws.{arith, ◌≡◌, ◌∙◌, ℕ, true, sym, Command, Header, Known, unfinished, index_of, moves_ring, named_here, of_none, of_some}
 use Rattle.driver_rows.proofs.bindings.moved.is_moved_of.Goals as goal
 
 -- a command that moves a ring names no endpoint
 whole : (h : Header) (k : Known) (r : ℕ) (c : Command) → moves_ring h k r c ≡ true → index_of c ≡ 0
 unfolding moves_ring
-whole h k r (AddressDevice s bsr n) e = refl
-whole h k r _ e = absurd (cc)
+whole h k r c e = grind arith
 
 pub returns-in-None : goal.returns-in-None
-returns-in-None c = λ h k m f.
-    sym (of_none (moves_ring h k c.args.ring) (whole h k c.args.ring) c.args.slot (unfinished h k) c.of_slot.result c.in-None.is
-    (λ q only. c.of_slot.ensures.one (unfinished h k) q f.commands only))
+returns-in-None c = grind (arith, of_none, whole)
 
 pub returns-in-Some : goal.returns-in-Some
 returns-in-Some c = λ h k m f.

@@ -1,12 +1,10 @@
-use Rattle.driver_rows.proofs.Words.{◌≡◌, ℕ, ◌∙◌, Bool, false, ap, sym, refl, Command, AddressDevice, SetTrDequeue, named_context, Header, Known, binding_in, is_bad_move, is_bad_stay, Dequeue, dequeue_in, as_binding}
+use Rattle.driver_rows.proofs.Words.{arith, ◌≡◌, ℕ, ◌∙◌, Bool, false, ap, sym, refl, Command, AddressDevice, SetTrDequeue, named_context, Header, Known, binding_in, is_bad_move, is_bad_stay, Dequeue, dequeue_in, as_binding}
 use Rattle.driver_rows.proofs.bindings.moves.is_bad_move.Goals as goal
 
 others : (h : Header) (k : Known) (c : Command) → ((s i p : ℕ) (cycle : Bool) → c ≡ SetTrDequeue s i p cycle → ⊥) → ((s : ℕ) (bsr : Bool) (n : ℕ) → c ≡ AddressDevice s bsr n → ⊥) →
     false ≡ is_bad_move h k c
 unfolding is_bad_move
-others h k (SetTrDequeue s i p cycle) first second = absurd (first s i p cycle refl)
-others h k (AddressDevice s bsr n) first second = absurd (second s bsr n refl)
-others h k _ first second = refl
+others h k c first second = grind arith
 
 -- what the context says, by the words of memory
 same_binding : (h : Header) (k : Known) (words : ℕ → ℕ) → ((a : ℕ) → k.memory a ≡ words a) → (n : ℕ) (d : Dequeue) → dequeue_in h.context_size words n 1 ≡ d →

@@ -1,12 +1,9 @@
-use Rattle.driver_rows.proofs.Laws.{◌≡◌, ◌∙◌, ◌+◌, ◌^◌, nat_lt, ◌||◌, Header, IsHeader, IsFinder, touches_ring, is_bad_area, stops, goes_on}
-use Rattle.driver_rows.proofs.context_rules.areas.is_bad_area.Goals as goal
+use Rattle.driver_rows.proofs.Laws.{arith, ◌≡◌, ◌+◌, ◌^◌, nat_lt, ◌||◌, Header, IsHeader, IsFinder, touches_ring, is_bad_area, stops, goes_on}
 use Rattle.driver_rows.proofs.context_rules.areas.is_bad_area.Goals.{Joined-ends_above, then-ends_above, else-ends_above}
+use Rattle.driver_rows.proofs.context_rules.areas.is_bad_area.Goals as goal
 
 before_last : (c : Joined-ends_above) (h : Header) → IsHeader h → IsFinder h.rings c.args.finder.now → c.if-ends_above.value ≡ (nat_lt (2 ^ 64) (c.args.from + c.args.len) || touches_ring h c.args.from c.args.len)
-before_last c h headed is = elim c.if-ends_above.branch [
-  | then-ends_above w ↦ w.value-is ∙ stops _ _ _ c.ends_above.ensures w.if-ends_above.true
-  | else-ends_above w ↦ w.value-is ∙ goes_on _ _ _ _ c.ends_above.ensures w.if-ends_above.false (w.touches_rings.ensures h headed is)
-]
+before_last c h headed is = grind (arith, then-ends_above, stops, else-ends_above, goes_on)
 
 pub returns-then-touches_rings-clause-rule : goal.returns-then-touches_rings-clause-rule
 unfolding is_bad_area

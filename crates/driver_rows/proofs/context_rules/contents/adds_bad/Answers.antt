@@ -22,11 +22,7 @@ loop-index-preserved g c =
     )
 
 pub returns-then-is_bad_added : goal.returns-then-is_bad_added
-returns-then-is_bad_added g c =
-    let flags = c.add_flags-flags.ensures c.args.size c.requires.aligned c.requires.inside in
-    λ k f. sym (c.loop-index.invariant.1 k f
-    ∙ found _ _ 32 c.loop-index-test.true
-    (and_from _ _ (ap (λ w. has_flag w c.loop-index.index) (sym flags) ∙ c.loop-index.invariant.0 c.loop-index-test.true) (sym (c.is_bad_added.ensures k f) ∙ c.if-is_bad_added.true)))
+returns-then-is_bad_added g c = grind (arith, found, and_from)
 
 pub returns : goal.returns
 returns g c = λ k f. sym (c.loop-index.invariant.1 k f ∙ none_left _ _ 32 (omega (arith, c.loop-index-test.false)))

@@ -1,6 +1,6 @@
-use Rattle.driver_rows.proofs.Laws.{◌≡◌, ℕ, ◌%◌, ◌==◌, ap, ◌∙◌, ◌||◌, not, overlap, device_context_bytes, Known, FollowsTrace, entry_of, is_bad_area, is_in_range_lease, is_bad_device, stops, goes_on}
-use Rattle.driver_rows.proofs.context_rules.devices.is_bad_device.Goals as goal
+use Rattle.driver_rows.proofs.Laws.{arith, ◌≡◌, ℕ, ◌%◌, ◌==◌, ap, ◌∙◌, ◌||◌, not, overlap, device_context_bytes, Known, FollowsTrace, entry_of, is_bad_area, is_in_range_lease, is_bad_device, stops, goes_on}
 use Rattle.driver_rows.proofs.context_rules.devices.is_bad_device.Goals.{Joined-is_in_range_lease, then-is_no_context, else-is_no_context, then-is_bad_area, else-is_bad_area, then-is_in_range_lease, else-is_in_range_lease}
+use Rattle.driver_rows.proofs.context_rules.devices.is_bad_device.Goals as goal
 
 before_last : (c : Joined-is_in_range_lease) (k : Known) (memory : ℕ → ℕ) (slot : ℕ) → FollowsTrace c.args.header.now k c.args.t.now memory → c.args.entry ≡ entry_of k slot →
     c.if-is_in_range_lease.value
@@ -19,10 +19,7 @@ before_last c k memory slot f at =
       | then-is_bad_area w ↦ w.value-is ∙ stops _ _ _ one w.if-is_bad_area.true
       | else-is_bad_area w ↦ w.value-is ∙ goes_on _ _ _ _ one w.if-is_bad_area.false (w.is_in_range_lease.ensures k memory f ∙ ap (is_in_range_lease h k a) wide)
     ] in
-    elim c.if-is_in_range_lease.branch [
-      | then-is_in_range_lease w ↦ w.value-is ∙ stops _ _ _ two w.if-is_in_range_lease.true
-      | else-is_in_range_lease w ↦ w.value-is ∙ goes_on _ _ _ _ two w.if-is_in_range_lease.false (w.overlap.ensures ∙ ap (λ n. overlap a n c.args.entry 8) wide ∙ ap (λ e. overlap a len e 8) at)
-    ]
+    grind (arith, then-is_in_range_lease, stops, else-is_in_range_lease, goes_on)
 
 pub returns-then-overlap : goal.returns-then-overlap
 unfolding is_bad_device

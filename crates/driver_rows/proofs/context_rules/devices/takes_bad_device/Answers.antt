@@ -1,6 +1,6 @@
-use Rattle.driver_rows.proofs.Laws.{◌≡◌, ℕ, ◌^◌, ◌≤◌, Option, Some, true, false, subst, ap, sym, refl, ◌∙◌, ◌||◌, is_none, not, unwrap_or, long_at, slot_entry, Dcbaap, Known, FollowsTrace, device_named, entry_of, is_bad_area, is_soiled, has_bad_entry, is_bad_device, takes_bad_device, entry_above, both_hold, stops, goes_on}
-use Rattle.driver_rows.proofs.context_rules.devices.takes_bad_device.Goals as goal
+use Rattle.driver_rows.proofs.Laws.{arith, ◌≡◌, Option, Some, true, false, ap, sym, refl, ◌∙◌, ◌||◌, is_none, not, unwrap_or, long_at, slot_entry, Dcbaap, Known, FollowsTrace, device_named, entry_of, is_bad_area, is_soiled, has_bad_entry, is_bad_device, takes_bad_device, entry_above, both_hold, stops, goes_on}
 use Rattle.driver_rows.proofs.context_rules.devices.takes_bad_device.Goals.{Joined-is_bad_area, then-is_bad_area, else-is_bad_area}
+use Rattle.driver_rows.proofs.context_rules.devices.takes_bad_device.Goals as goal
 
 pub returns-then-is_some : goal.returns-then-is_some
 unfolding takes_bad_device
@@ -12,10 +12,7 @@ returns-in_default g c = λ k f. rw (← c.device.ensures k f.devices, ← c.is_
 
 pub returns-in_default-entry_at : goal.returns-in_default-entry_at
 unfolding takes_bad_device entry_of
-returns-in_default-entry_at g c = λ k f.
-    let dcbaap : k.register Dcbaap ≡ Some c.in-Some.dcbaap = sym (c.value.ensures k f.registers) ∙ c.in-Some.is in
-    let above : 2 ^ 64 ≤ entry_of k c.args.slot = subst (λ (o : Option ℕ). 2 ^ 64 ≤ slot_entry (unwrap_or o 0) c.args.slot) (sym dcbaap) (c.entry_at.ensures.above c.in_default-entry_at.is) in
-    rw (← c.device.ensures k f.devices, ← c.is_some.ensures, c.if-is_some.false, entry_above c.args.header.now k c.args.slot above, dcbaap) refl
+returns-in_default-entry_at g c = grind (arith, Option, unwrap_or, entry_above)
 
 -- what the tests before the last two say, and where the entry lies
 before_words : (g : _) (c : Joined-is_bad_area g) (k : Known) → FollowsTrace c.args.header.now k c.args.t.now (g.M.WordMemory.words c.args.memory.now) →

@@ -22,11 +22,7 @@ loop-index-preserved g c =
     )
 
 pub returns-then-is_left_out : goal.returns-then-is_left_out
-returns-then-is_left_out g c =
-    let flags = c.add_flags-flags.ensures c.args.size c.requires.aligned c.requires.inside in
-    sym (c.loop-index.invariant.1
-    ∙ found _ _ 32 c.loop-index-test.true
-    (and_from _ _ (ap (λ w. has_flag w c.loop-index.index) (sym flags) ∙ c.loop-index.invariant.0 c.loop-index-test.true) (sym c.is_left_out.ensures ∙ c.if-is_left_out.true)))
+returns-then-is_left_out g c = grind (arith, found, and_from)
 
 pub returns : goal.returns
 returns g c = sym (c.loop-index.invariant.1 ∙ none_left _ _ 32 (omega (arith, c.loop-index-test.false)))

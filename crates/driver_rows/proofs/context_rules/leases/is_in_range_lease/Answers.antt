@@ -1,6 +1,6 @@
 use Rattle.driver_rows.proofs.Laws.{◌≡◌, ℕ, Bool, sym, ◌∙◌, ◌||◌, list_any, Erstba, Known, FollowsTrace, context_ranges, covers, entry_ranges, table_range, touches_event_segment, stops, any_range, goes_on}
-use Rattle.driver_rows.proofs.context_rules.leases.is_in_range_lease.Goals as goal
 use Rattle.driver_rows.proofs.context_rules.leases.is_in_range_lease.Goals.{Joined-touches_inputs, then-touches_events, else-touches_events, then-touches_table, else-touches_table, then-touches_inputs, else-touches_inputs}
+use Rattle.driver_rows.proofs.context_rules.leases.is_in_range_lease.Goals as goal
 
 before_last : (c : Joined-touches_inputs) (k : Known) (memory : ℕ → ℕ) → FollowsTrace c.args.header.now k c.args.t.now memory →
     c.if-touches_inputs.value ≡ (touches_event_segment c.args.header.now c.args.from c.args.len || list_any (covers c.args.header.now c.args.from c.args.len) (table_range c.args.header.now (k.register Erstba))

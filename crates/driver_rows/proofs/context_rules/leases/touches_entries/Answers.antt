@@ -2,11 +2,7 @@ use Rattle.driver_rows.proofs.Laws.{◌≡◌, ◌+◌, ◌<◌, ◌≤◌, ◌�
 use Rattle.driver_rows.proofs.context_rules.leases.touches_entries.Goals as goal
 
 pub loop-slot-init : goal.loop-slot-init
-loop-slot-init c = λ h k memory f.
-    let is : c.unwrap_or-dcbaap.result ≡ unwrap_or (k.register Dcbaap) 0 = c.unwrap_or-dcbaap.ensures ∙ ap (λ v. unwrap_or v 0) (c.value.ensures k f.registers) in
-    any_entry h k c.args.from c.args.len
-    ∙ skip (touches_entry k c.args.from c.args.len) 1 c.first_slot-first.result 256 c.first_slot-first.ensures.least
-    (λ s low high below. ends_before k c.args.from c.args.len s c.unwrap_or-dcbaap.result is (c.first_slot-first.ensures.before s low high))
+loop-slot-init c = grind (arith, unwrap_or, any_entry, skip, ends_before)
 
 pub loop-slot-preserved : goal.loop-slot-preserved
 loop-slot-preserved c = λ h k memory f.

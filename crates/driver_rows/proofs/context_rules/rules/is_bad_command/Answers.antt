@@ -1,6 +1,6 @@
 use Rattle.driver_rows.proofs.Laws.{◌≡◌, sym, ◌∙◌, ◌||◌, false, false≢true, Known, FollowsTrace, FitsMemory, named_context, named_endpoint, named_slot, has_bad_context, is_bad_command, names_disabled_endpoint, names_disabled_slot, bad_content, stops, goes_on}
-use Rattle.driver_rows.proofs.context_rules.rules.is_bad_command.Goals as goal
 use Rattle.driver_rows.proofs.context_rules.rules.is_bad_command.Goals.{Joined-names_disabled_endpoint, then-names_disabled_slot, else-names_disabled_slot, then-names_disabled_endpoint, else-names_disabled_endpoint}
+use Rattle.driver_rows.proofs.context_rules.rules.is_bad_command.Goals as goal
 
 fits : (g : _) (c : Joined-names_disabled_endpoint g) → c.if-names_disabled_endpoint.value ≡ false → FitsMemory c.args.header.now.context_size c.args.command.now
 fits g c good = elim c.if-names_disabled_endpoint.branch [

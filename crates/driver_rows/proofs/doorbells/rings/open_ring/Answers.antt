@@ -1,4 +1,4 @@
-use Rattle.driver_rows.proofs.Laws.{◌≡◌, refl, ap, sym, ◌∙◌, subst, length, slice_get, same_Some, slice_get_read, RingView, Opens, FollowsRing, on_ring, rings_with, rings_without, only_on, here_on, none_past}
+use Rattle.driver_rows.proofs.Laws.{arith, ◌≡◌, refl, ap, sym, ◌∙◌, subst, length, slice_get, same_Some, slice_get_read, RingView, Opens, FollowsRing, on_ring, rings_with, rings_without, only_on, here_on, none_past}
 use Rattle.driver_rows.proofs.doorbells.rings.open_ring.Goals as goal
 
 pub returns-in-Some-get_mut-clause-opened : goal.returns-in-Some-get_mut-clause-opened
@@ -13,9 +13,4 @@ returns-in-Some-get_mut-clause-opened c = λ h k n ring headed some at f.
     (c.open.ensures ring.shape (k.ring ring.id) (f.each number ring c.in-Some-get_mut.record.now here there driver)))
 
 pub returns-in_default-get_mut-clause-opened : goal.returns-in_default-get_mut-clause-opened
-returns-in_default-get_mut-clause-opened c = λ h k n ring headed some at f.
-    let items = c.args.records.now.items in
-    let number = c.in-Some.number in
-    let same : n ≡ number = same_Some n number (sym some ∙ c.in-Some.is) in
-    let here = ap (λ i. slice_get h.rings i) (sym same) ∙ at in
-    rings_without h headed k (on_ring h k ring.id Opens) items f number ring here (only_on h headed k number ring here Opens) (none_past items number c.in_default-get_mut.ensures.item.3)
+returns-in_default-get_mut-clause-opened c = grind (arith, same_Some, rings_without, only_on, none_past)

@@ -1,4 +1,4 @@
-use Rattle.driver_rows.proofs.Laws.{rules, refl, sym, ap, subst, IsHeader, IsFinder, IsComing, with_ring, clear_header, clear_together}
+use Rattle.driver_rows.proofs.Laws.{arith, rules, refl, sym, ap, subst, IsFinder, IsComing, with_ring, clear_header, clear_together}
 use Rattle.driver_rows.proofs.rings.coming.add_ring.Goals as goal
 
 pub returns-clause-comes : goal.returns-clause-comes
@@ -7,10 +7,7 @@ returns-clause-comes c = ap (λ rs. record c.args.header.now { rings = rs }) c.i
 
 pub returns-clause-headed : goal.returns-clause-headed
 unfolding with_ring
-returns-clause-headed c =
-    let h = c.args.header.now in
-    let coming : IsComing c.args.ring = record { low = search rules; kind = c.requires.transfers; shape = c.in_ok-known.ensures.marks.allowed } in
-    subst (λ rs. IsHeader (record h { rings = rs })) (sym c.in_ok-push-2.ensures.ok) (clear_header h c.requires.headed c.args.ring coming c.requires.clear)
+returns-clause-headed c = grind (arith, clear_header)
 
 pub returns-clause-found : goal.returns-clause-found
 returns-clause-found c =

@@ -1,4 +1,4 @@
-use Rattle.driver_rows.proofs.Laws.{rules, ◌≡◌, ◌∙◌, length, get_or, take, refl, sym, ap, arith, list_any, take-length, list_any_at, Segment, is_bad_ring, is_bad_segment}
+use Rattle.driver_rows.proofs.Words.{◌≡◌, ◌∙◌, length, take, refl, sym, ap, arith, list_any, take-length, list_any_at, is_bad_ring, is_bad_segment}
 use Rattle.driver_rows.proofs.rings.new_rings.is_bad_ring.Goals as goal
 
 pub returns-then-is_named-clause-rule : goal.returns-then-is_named-clause-rule
@@ -10,13 +10,7 @@ loop-segment-init g c = ((λ k f. refl), refl)
 
 pub returns-then-is_bad_segment-clause-rule : goal.returns-then-is_bad_segment-clause-rule
 unfolding is_bad_ring
-returns-then-is_bad_segment-clause-rule g c = λ k f.
-    let h = c.args.header.now in
-    let i = c.loop-segment.segment-index in
-    let d : Segment = record { base = 0; count = 0 } in
-    let at = sym (ap (λ xs. is_bad_segment h k (get_or xs i d)) c.segments-segment-items.ensures) ∙ sym (c.is_bad_segment.ensures.rule k f) ∙ c.if-is_bad_segment.true in
-    let any = list_any_at (is_bad_segment h k) c.args.ring.now.shape.segments i d (search rules) at in
-    rw (← c.is_named.ensures, c.if-is_named.false) (sym any)
+returns-then-is_bad_segment-clause-rule g c = grind (arith, list_any_at)
 
 pub returns-clause-rule : goal.returns-clause-rule
 unfolding is_bad_ring

@@ -1,4 +1,4 @@
-use Rattle.driver_rows.proofs.Laws.{◌∙◌, ap, sym, refl, is_bad_segment, shows_first_lap}
+use Rattle.driver_rows.proofs.Words.{◌∙◌, ap, sym, refl, is_bad_segment, shows_first_lap}
 use Rattle.driver_rows.proofs.rings.new_rings.is_bad_segment.Goals as goal
 
 pub returns-then-touches-clause-rule : goal.returns-then-touches-clause-rule

@@ -1,19 +1,13 @@
-use Rattle.driver_rows.proofs.Laws.{◌∙◌, refl, sym, inr, not-false, not-true, is_no_descriptor, not_passed}
+use Rattle.driver_rows.proofs.Laws.{arith, ◌∙◌, sym, not-false, not-true, is_no_descriptor, not_passed}
 use Rattle.driver_rows.proofs.rings.withdrawing.withdraw_on.Goals as goal
 
 pub returns-then-not-may_withdraw-clause-refused : goal.returns-then-not-may_withdraw-clause-refused
 unfolding is_no_descriptor
-returns-then-not-may_withdraw-clause-refused c = (
-  refl,
-  λ v f low. inr (not-false _ (sym (c.may_withdraw.ensures c.args.shape.now v f (not_passed c.args.header.now c.args.shape.now v c.args.position low (sym (c.is_passed.ensures c.args.shape.now v f) ∙ c.if-is_passed.false))) ∙ c.if-not-may_withdraw.true)),
-)
+returns-then-not-may_withdraw-clause-refused c = grind (arith, not-false, not_passed)
 
 pub returns-clause-rule : goal.returns-clause-rule
 unfolding is_no_descriptor
-returns-clause-rule c = λ v f low. (
-  sym (c.is_passed.ensures c.args.shape.now v f) ∙ c.if-is_passed.false,
-  not-true _ (sym (c.may_withdraw.ensures c.args.shape.now v f (not_passed c.args.header.now c.args.shape.now v c.args.position low (sym (c.is_passed.ensures c.args.shape.now v f) ∙ c.if-is_passed.false))) ∙ c.if-not-may_withdraw.false),
-)
+returns-clause-rule c = grind (arith, not-true, not_passed)
 
 pub returns-clause-from : goal.returns-clause-from
 returns-clause-from c = λ v f low. not_passed c.args.header.now c.args.shape.now v c.args.position low (sym (c.is_passed.ensures c.args.shape.now v f) ∙ c.if-is_passed.false)

@@ -13,8 +13,4 @@ returns g c = λ k f same fits.
     ∙ ap (λ n. long_at (g.M.WordMemory.words c.args.memory.now) n) e ∙ sym (named_is k c.args.slot (g.M.WordMemory.words c.args.memory.now) same))
 
 pub returns-in_err-entry : goal.returns-in_err-entry
-returns-in_err-entry g c = λ k f same fits.
-    let value : c.unwrap_or.result ≡ register_or_zero k.register Dcbaap = c.unwrap_or.ensures ∙ ap (λ o. unwrap_or o 0) (c.value.ensures k f) in
-    let lies = entry_is k c.args.slot c.unwrap_or.result value in
-    let slot = c.from.ensures in
-    absurd (c.in_err-entry.ensures (omega arith))
+returns-in_err-entry g c = grind (arith, unwrap_or, entry_is)

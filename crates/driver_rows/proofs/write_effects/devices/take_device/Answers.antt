@@ -1,4 +1,4 @@
-use Rattle.driver_rows.proofs.Laws.{subst, sym, on_ok_weaker, with_device, FollowsDevices, HoldsSoiled, IsWith, LiesOnWords, address_taken, soiled_with}
+use Rattle.driver_rows.proofs.Laws.{arith, subst, sym, on_ok_weaker, with_device, FollowsDevices, HoldsSoiled, IsWith, address_taken, soiled_with}
 use Rattle.driver_rows.proofs.write_effects.devices.take_device.Goals as goal
 
 pub returns-in-None-clause-devices : goal.returns-in-None-clause-devices
@@ -16,9 +16,4 @@ returns-in_ok-add_area-in-Some-clause-contexts c =
     c.soil_context.ensures
 
 pub returns-in_ok-add_area-in-Some-clause-soiled : goal.returns-in_ok-add_area-in-Some-clause-soiled
-returns-in_ok-add_area-in-Some-clause-soiled c =
-    on_ok_weaker c.soil_context.result
-    (λ soils h k same lies holds.
-    subst (λ o. HoldsSoiled ((with_device h k o).soiled) c.soil_context.new.soiled) (sym c.in-Some.is)
-    (soiled_with h k c.args.size c.in-Some.slot c.in-Some.address _ _ same (subst (λ o. LiesOnWords c.args.size o) c.in-Some.is lies) soils holds))
-    c.soil_context.ensures
+returns-in_ok-add_area-in-Some-clause-soiled c = grind (arith, on_ok_weaker, HoldsSoiled, soiled_with)

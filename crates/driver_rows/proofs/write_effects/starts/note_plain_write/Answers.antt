@@ -1,4 +1,5 @@
-use Rattle.driver_rows.proofs.Laws.{◌≡◌, ℕ, List, None, refl, sym, ap, subst, option_and_then, device_context_bytes, input_context_bytes, Command, unfinished, learned, command_given, taken_device, with_device, Write, FollowsUnfinished, HoldsAreas, taken, device_contexts, inputs_of, has, IsWith, address_taken, new_command, new_device, holds_bound, devices_then, soiled_then, followed, or_none}
+use Rattle.driver_rows.proofs.Laws.{◌≡◌, ℕ, List, None, refl, sym, ap, subst, option_and_then, device_context_bytes, input_context_bytes, Command, unfinished, learned, command_given, taken_device, with_device, Write, FollowsUnfinished, HoldsAreas, taken, device_contexts, inputs_of, has, IsWith, address_taken, new_command, new_device, holds_bound, devices_then, soiled_then, or_none}
+use Rattle.driver_rows.proofs.WriteEffects.Followed.{followed}
 use Rattle.driver_rows.proofs.write_effects.starts.note_plain_write.Goals as goal
 
 pub returns-clause-ok : goal.returns-clause-ok

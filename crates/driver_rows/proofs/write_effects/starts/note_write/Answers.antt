@@ -1,4 +1,5 @@
-use Rattle.driver_rows.proofs.Laws.{◌≡◌, refl, sym, ◌∙◌, ap, subst, option_and_then, device_context_bytes, input_context_bytes, unfinished, learned, taken_device, with_word, Write, taken, device_contexts, IsWith, LiesOnWords, address_taken, new_command, may_be_given, entry_fits, lies_well, new_device, given_fits, holds_bound, holds_contexts, from_three, devices_then, soiled_then, followed}
+use Rattle.driver_rows.proofs.Laws.{◌≡◌, refl, sym, ◌∙◌, ap, subst, option_and_then, device_context_bytes, input_context_bytes, unfinished, learned, taken_device, with_word, Write, taken, device_contexts, IsWith, LiesOnWords, address_taken, new_command, may_be_given, entry_fits, lies_well, new_device, given_fits, holds_bound, holds_contexts, from_three, devices_then, soiled_then}
+use Rattle.driver_rows.proofs.WriteEffects.Followed.{followed}
 use Rattle.driver_rows.proofs.write_effects.starts.note_write.Goals as goal
 
 pub returns-clause-ok : goal.returns-clause-ok

@@ -1,4 +1,4 @@
-use Rattle.driver_rows.proofs.Laws.{sym, refl, ◌∙◌}
+use Rattle.driver_rows.proofs.Words.{sym, refl, ◌∙◌}
 use Rattle.driver_rows.proofs.writes.checks.block_refusal.Goals as goal
 
 pub returns-then-is_being_moved : goal.returns-then-is_being_moved

@@ -1,5 +1,4 @@
-use Rattle.driver_rows.proofs.Words.{◌≡◌, refl, ap, sym, ◌∙◌, put, block_at, word, is_set, link_aligned, link_ends, is_wrong_link, leads_wrong, interrupts}
-use Rattle.driver_rows.proofs.MemoryWrites.Given.{link_there, wrong_is, interrupts_is}
+use Rattle.driver_rows.proofs.Laws.{arith, ◌≡◌, refl, sym, ◌∙◌, word, is_set, link_aligned, link_ends, is_wrong_link, leads_wrong, interrupts, link_there, wrong_is, interrupts_is}
 use Rattle.driver_rows.proofs.writes.crossings.crossing_refusal.Goals.{After-block_after-link}
 use Rattle.driver_rows.proofs.writes.crossings.crossing_refusal.Goals as goal
 
@@ -13,10 +12,7 @@ block_after-link-requires-clause-ends g c = rw c.link.ensures (link_ends c.args.
 tests_are : (g : _) (c : After-block_after-link g) →
     (leads_wrong c.args.shape.now (g.M.WordMemory.words c.args.memory.now) c.args.at c.args.word c.args.crossing ≡ is_wrong_link c.args.shape.now c.link_crossed-segment.result c.block_after-link.result)
     × (interrupts c.args.shape.now (g.M.WordMemory.words c.args.memory.now) c.args.at c.args.word c.args.crossing ≡ is_set (word c.block_after-link.result 3) 5)
-tests_are g c =
-    let of = c.link_crossed-segment.ensures.value in
-    let is = c.block_after-link.ensures ∙ ap (λ b. block_at (put (g.M.WordMemory.words c.args.memory.now) c.args.at c.args.word) b) (c.link.ensures ∙ link_there c.args.shape.now c.args.crossing c.link_crossed-segment.result of) in
-    (wrong_is c.args.shape.now _ c.args.at c.args.word c.args.crossing _ c.block_after-link.result of is, interrupts_is c.args.shape.now _ c.args.at c.args.word c.args.crossing _ c.block_after-link.result of is)
+tests_are g c = grind (arith, link_there, wrong_is, interrupts_is)
 
 pub returns-then-is_wrong_link : goal.returns-then-is_wrong_link
 returns-then-is_wrong_link g c =

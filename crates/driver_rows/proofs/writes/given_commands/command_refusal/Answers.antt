@@ -1,4 +1,4 @@
-use Rattle.driver_rows.proofs.Laws.{sym, refl, ◌∙◌}
+use Rattle.driver_rows.proofs.Words.{sym, refl, ◌∙◌}
 use Rattle.driver_rows.proofs.writes.given_commands.command_refusal.Goals as goal
 
 pub has_left_out_endpoint-requires : goal.has_left_out_endpoint-requires

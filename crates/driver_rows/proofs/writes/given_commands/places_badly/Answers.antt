@@ -1,4 +1,4 @@
-use Rattle.driver_rows.proofs.Laws.{sym, refl, ◌∙◌, places_badly}
+use Rattle.driver_rows.proofs.Words.{sym, refl, ◌∙◌, places_badly}
 use Rattle.driver_rows.proofs.writes.given_commands.places_badly.Goals as goal
 
 pub returns-then-is_bound_again : goal.returns-then-is_bound_again

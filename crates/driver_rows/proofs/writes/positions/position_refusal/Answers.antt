@@ -1,5 +1,4 @@
-use Rattle.driver_rows.proofs.Words.{◌≡◌, ◌≤◌, refl, ap, sym, ◌∙◌, false, not, if◌then◌else◌, put, block_at, same_words, with_cycle, floor_number, RingView, FollowsRing, is_other_than_declared, is_not_declared, address_aligned, address_ends, from_not}
-use Rattle.driver_rows.proofs.MemoryWrites.Given.{not_declared, other_is, declared_there, cycle_bit}
+use Rattle.driver_rows.proofs.Laws.{arith, ◌≡◌, ◌≤◌, refl, ap, sym, ◌∙◌, false, not, floor_number, RingView, FollowsRing, is_other_than_declared, is_not_declared, address_aligned, address_ends, from_not, not_declared, other_is, declared_there, cycle_bit}
 use Rattle.driver_rows.proofs.writes.positions.position_refusal.Goals.{After-have_same_words}
 use Rattle.driver_rows.proofs.writes.positions.position_refusal.Goals as goal
 
@@ -15,14 +14,7 @@ block_after-given-requires-clause-ends g c = rw c.address.ensures (address_ends 
 -- the first two tests ask the block that the write leaves
 tests_are : (g : _) (c : After-have_same_words g) (v : RingView) → FollowsRing c.args.shape.now v c.args.known.now → floor_number v ≤ c.args.position →
     (is_other_than_declared c.args.shape.now v (g.M.WordMemory.words c.args.memory.now) c.args.at c.args.word c.args.position ≡ not c.have_same_words.result) × (is_not_declared v c.args.position ≡ false)
-tests_are g c v f from =
-    let there = sym (c.declared.ensures.value c.args.shape.now v f from) ∙ c.in-Some.is in
-    let is = c.block_after-given.ensures ∙ ap (λ b. block_at (put (g.M.WordMemory.words c.args.memory.now) c.args.at c.args.word) b) c.address.ensures in
-    let cycled = c.with_cycle.ensures.value ∙ ap (λ b. with_cycle c.in-Some.declared (if b then 1 else 0)) c.cycle.ensures ∙ ap (λ n. with_cycle c.in-Some.declared n) (cycle_bit c.args.shape.now c.args.position) in (
-      other_is c.args.shape.now v (g.M.WordMemory.words c.args.memory.now) c.args.at c.args.word c.args.position c.in-Some.declared c.block_after-given.result there is
-          ∙ ap not (ap (λ b. same_words c.block_after-given.result b) (sym cycled) ∙ sym c.have_same_words.ensures),
-      declared_there c.args.shape.now v (g.M.WordMemory.words c.args.memory.now) c.args.at c.args.word c.args.position c.in-Some.declared c.block_after-given.result there is,
-    )
+tests_are g c v f from = grind (arith, cycle_bit, other_is, declared_there)
 
 pub returns-then-not-have_same_words : goal.returns-then-not-have_same_words
 returns-then-not-have_same_words g c = λ v f from.

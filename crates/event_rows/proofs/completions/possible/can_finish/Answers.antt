@@ -1,5 +1,4 @@
-use Rattle.event_rows.proofs.Laws.{◌∙◌, Some, ap, sym, not, may_answer_slot, can_succeed, Config, register_or_zero, answers_other}
-use Rattle.event_rows.proofs.CommandCompletions.Ends.{on_success, on_failure}
+use Rattle.event_rows.proofs.Laws.{◌∙◌, Some, ap, sym, not, may_answer_slot, can_succeed, Config, register_or_zero, answers_other, on_success, on_failure}
 use Rattle.event_rows.proofs.completions.possible.can_finish.Goals as goal
 
 pub returns-then-not-may_answer : goal.returns-then-not-may_answer

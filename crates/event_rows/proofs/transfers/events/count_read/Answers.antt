@@ -1,4 +1,4 @@
-use Rattle.event_rows.proofs.Laws.{follows_counted}
+use Rattle.event_rows.proofs.TransferEvents.EventCounts.{follows_counted}
 use Rattle.event_rows.proofs.transfers.events.count_read.Goals as goal
 
 pub returns-clause-followed : goal.returns-clause-followed

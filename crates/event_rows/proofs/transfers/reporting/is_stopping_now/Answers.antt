@@ -1,5 +1,4 @@
-use Rattle.event_rows.proofs.Laws.{sym, ◌∙◌, is_command_kind, found_at, read_at, stop_on, commanded}
-use Rattle.event_rows.proofs.TransferEvents.Reports.{no_stop}
+use Rattle.event_rows.proofs.Laws.{sym, ◌∙◌, is_command_kind, found_at, read_at, stop_on, commanded, no_stop}
 use Rattle.event_rows.proofs.transfers.reporting.is_stopping_now.Goals as goal
 
 pub returns-in_default : goal.returns-in_default

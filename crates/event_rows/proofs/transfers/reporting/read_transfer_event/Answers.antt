@@ -1,4 +1,4 @@
-use Rattle.event_rows.proofs.Laws.{◌≡◌, None, ap, false, refl, sym, ◌∙◌, endpoint, slot, is_off, Known, FollowsDevices, can_report_at, event_at, is_impossible_transfer}
+use Rattle.event_rows.proofs.Words.{◌≡◌, None, ap, false, refl, sym, ◌∙◌, endpoint, slot, is_off, Known, FollowsDevices, can_report_at, event_at, is_impossible_transfer}
 use Rattle.event_rows.proofs.transfers.reporting.read_transfer_event.Goals.{After-is_off}
 use Rattle.event_rows.proofs.transfers.reporting.read_transfer_event.Goals as goal
 

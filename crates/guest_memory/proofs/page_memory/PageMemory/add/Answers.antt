@@ -1,5 +1,4 @@
-use Rattle.guest_memory.proofs.Words.{ℕ, List, ◌/◌, ◌%◌, refl, ap, arith, slice_index, ◌==◌, if◌then◌else◌}
-use Rattle.guest_memory.proofs.Linked.{count, tree_linked, at_linked, words_linked}
+use Rattle.guest_memory.proofs.LowerLaws.{ℕ, List, ◌/◌, ◌%◌, refl, ap, arith, slice_index, ◌==◌, if◌then◌else◌, count, tree_linked, at_linked, words_linked}
 use Rattle.guest_memory.proofs.page_memory.PageMemory.add.Goals as goal
 
 pub invariant_of-self-2 : goal.invariant_of-self-2

@@ -1,5 +1,4 @@
-use Rattle.guest_memory.proofs.Words.{◌-◌, length, numbers, nexts}
-use Rattle.guest_memory.proofs.OnWay.{IsOnWay}
+use Rattle.guest_memory.proofs.LowerLaws.{◌-◌, length, numbers, nexts, IsOnWay}
 use Rattle.guest_memory.proofs.page_memory.PageMemory.seek.Given as goal
 
 abbrev pub invariant-loop-at : goal.invariant-loop-at

@@ -1,5 +1,4 @@
-use Rattle.leases.proofs.Words.{◌∙◌, sym, ap, slice_get}
-use Rattle.leases.proofs.LeaseBooks.Ending.{at_some}
+use Rattle.leases.proofs.Laws.{◌∙◌, sym, ap, slice_get, at_some}
 use Rattle.leases.proofs.book.lease_book.end_at.Goals as goal
 
 pub returns-then-is_open_as : goal.returns-then-is_open_as

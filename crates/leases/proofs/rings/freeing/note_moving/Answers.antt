@@ -1,5 +1,4 @@
-use Rattle.leases.proofs.Words.{on_more, ◌<◌, ◌≤◌, ◌∷◌, ◌∙◌, ℕ, List, [], arith, ap, refl, subst, sym, command_id, open_leases, Lent, passed_on, with_begun, shape_there}
-use Rattle.leases.proofs.RingLeases.MovingRings.{alone, alone_command, at_end, command_block, command_free, first_restored, freed_given, freed_later, in_rings, last_restored, opened_alone, opened_own, other, own_first, own_step, same_left}
+use Rattle.leases.proofs.Laws.{on_more, ◌<◌, ◌≤◌, ◌∷◌, ◌∙◌, ℕ, List, [], arith, ap, refl, subst, sym, command_id, open_leases, Lent, passed_on, with_begun, shape_there, alone, alone_command, at_end, command_block, command_free, first_restored, freed_given, freed_later, in_rings, last_restored, opened_alone, opened_own, other, own_first, own_step, same_left}
 use Rattle.leases.proofs.rings.freeing.note_moving.Goals as goal
 
 pub returns-then-ring-commands : goal.returns-then-ring-commands

@@ -1,4 +1,4 @@
-use Rattle.leases.proofs.Words.{◌≤◌, ◌∙◌, List, length, map, take, take_all, arith, ap, subst, sym, Block, Lent, with_begun, shape_there, Restoring, among, next_begun, next_free, begun_none, restored_lent}
+use Rattle.leases.proofs.Laws.{◌≤◌, ◌∙◌, List, length, map, take, take_all, arith, ap, subst, sym, Block, Lent, with_begun, shape_there, Restoring, among, next_begun, next_free, begun_none, restored_lent}
 use Rattle.leases.proofs.rings.freeing.note_restoring.Goals as goal
 
 pub loop-position-init : goal.loop-position-init

@@ -1,4 +1,4 @@
-use Rattle.leases.proofs.Words.{List, map, take, Header, Lease, Known, Block, Lent, with_begun, Restoring}
+use Rattle.leases.proofs.Laws.{List, map, take, Header, Lease, Known, Block, Lent, with_begun, Restoring}
 use Rattle.leases.proofs.rings.freeing.note_restoring.Given as goal
 
 -- the leases of the positions before the index have begun

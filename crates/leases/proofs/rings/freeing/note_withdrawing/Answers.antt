@@ -1,4 +1,4 @@
-use Rattle.leases.proofs.Words.{◌≡◌, ◌+◌, ◌≤◌, ◌∙◌, List, map, arith, ap, subst, sym, Lent, ended_where, shape_there, among, ends_none, ends_one, is_between, withdrawn_lent}
+use Rattle.leases.proofs.Laws.{◌≡◌, ◌+◌, ◌≤◌, ◌∙◌, List, map, arith, ap, subst, sym, Lent, ended_where, shape_there, among, ends_none, ends_one, is_between, withdrawn_lent}
 use Rattle.leases.proofs.rings.freeing.note_withdrawing.Goals as goal
 
 pub loop-number-init : goal.loop-number-init

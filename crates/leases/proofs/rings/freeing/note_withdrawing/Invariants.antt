@@ -1,4 +1,4 @@
-use Rattle.leases.proofs.Words.{◌≡◌, List, map, Header, shape_of, Lease, Lent, ended_where, is_between}
+use Rattle.leases.proofs.Laws.{◌≡◌, List, map, Header, shape_of, Lease, Lent, ended_where, is_between}
 use Rattle.leases.proofs.rings.freeing.note_withdrawing.Given as goal
 
 abbrev pub invariant-loop-number : goal.invariant-loop-number

@@ -1,6 +1,4 @@
-use Rattle.leases.proofs.Words.{◌≡◌, ◌+◌, ◌≤◌, ◌∙◌, true, ap, arith, subst, floor_number, open_leases, place_count, shape_of, is_among, is_passed, ended_alike, is_of_ring}
-use Rattle.leases.proofs.LeaseRows.OtherRows.{are_shaped}
-use Rattle.leases.proofs.RingLeases.WithinALap.{all_passed}
+use Rattle.leases.proofs.Laws.{◌≡◌, ◌+◌, ◌≤◌, ◌∙◌, true, ap, arith, subst, floor_number, open_leases, place_count, shape_of, is_among, is_passed, ended_alike, is_of_ring, are_shaped, all_passed}
 use Rattle.leases.proofs.rings.going.note_going.Goals as goal
 
 pub returns : goal.returns

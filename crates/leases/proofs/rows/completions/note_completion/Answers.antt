@@ -1,6 +1,6 @@
-use Rattle.leases.proofs.Words.{◌≡◌, ◌+◌, ◌∙◌, ◌==◌, ℕ, List, Bool, get_or, refl, sym, subst, ap, arith, Some, None, map, code, is_command_kind, command_at, next_command, Lent, ended_where, is_passed, some_end, ring_here, shape_there, among_at, HoldsAll, driven, among_drivers, record_there}
-use Rattle.leases.proofs.LeaseRows.CompletionRows.{command_behind, completion_ends, endpoint_rings, has_commands, id, next_here, none_behind, shape_is, some_commands}
-use Rattle.leases.proofs.LeaseRows.LentEvents.{entries, floors}
+use Rattle.leases.proofs.Laws.{◌≡◌, ◌+◌, ◌∙◌, ◌==◌, ℕ, List, Bool, get_or, refl, sym, subst, ap, arith, Some, None, map, code, is_command_kind, command_at, next_command, Lent, ended_where, is_passed, some_end, ring_here, shape_there, among_at, HoldsAll, driven, among_drivers, record_there, command_behind, completion_ends, endpoint_rings, has_commands, id, next_here, none_behind, some_commands, entries}
+use Rattle.leases.proofs.LeaseRows.CompletionRows.{shape_is}
+use Rattle.leases.proofs.LeaseRows.LentEvents.{floors}
 use Rattle.leases.proofs.rows.completions.note_completion.Goals as goal
 
 pub returns-in_default : goal.returns-in_default

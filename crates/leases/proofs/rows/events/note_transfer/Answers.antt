@@ -1,5 +1,4 @@
-use Rattle.leases.proofs.Words.{◌∙◌, ◌==◌, ℕ, get_or, refl, sym, ap, arith, eqb-true, code, endpoint, named, come_to, some_end, ring_here, shape_there, among_at, held_still, record_there}
-use Rattle.leases.proofs.LeaseRows.TransferRows.{comes, driver_kind, keeps, other_lent, ring_keeps, ring_of_header, transfer_ends, unbound_lent, unnamed_lent}
+use Rattle.leases.proofs.Laws.{◌∙◌, ◌==◌, ℕ, get_or, refl, sym, ap, arith, eqb-true, code, endpoint, named, come_to, some_end, ring_here, shape_there, among_at, held_still, record_there, comes, driver_kind, keeps, other_lent, ring_keeps, ring_of_header, transfer_ends, unbound_lent, unnamed_lent}
 use Rattle.leases.proofs.rows.events.note_transfer.Goals as goal
 
 pub returns-then-not-is_transfer : goal.returns-then-not-is_transfer

@@ -1,4 +1,4 @@
-use Rattle.leases.proofs.Words.{failed_behind, moves_when, slot_still, succeeded_behind}
+use Rattle.leases.proofs.LeaseRows.EndedRanges.{failed_behind, moves_when, slot_still, succeeded_behind}
 use Rattle.leases.proofs.rows.left_behind.end_command.Goals as goal
 
 pub returns-then-not-success : goal.returns-then-not-success

@@ -1,4 +1,4 @@
-use Rattle.leases.proofs.Words.{sym, ◌∙◌, [], no_context, one_context, ends_all, lent_of, none_ended, one_ended}
+use Rattle.leases.proofs.Laws.{sym, ◌∙◌, [], no_context, one_context, ends_all, lent_of, none_ended, one_ended}
 use Rattle.leases.proofs.rows.left_behind.end_context_of.Goals as goal
 
 pub returns-in_default : goal.returns-in_default

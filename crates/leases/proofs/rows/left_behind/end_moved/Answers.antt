@@ -1,4 +1,4 @@
-use Rattle.leases.proofs.Words.{◌≤◌, ◌∙◌, ◌==◌, ℕ, get_or, refl, sym, subst, ap, arith, Some, eqb-true, target, floor_number, number, ring_here, shape_there, among_at, MovesOn, record_there, endpoint_driven, endpoint_named, ends_all, moved_is, moved_none, moves_none, none_past, some_past}
+use Rattle.leases.proofs.Laws.{◌≤◌, ◌∙◌, ◌==◌, ℕ, get_or, refl, sym, subst, ap, arith, Some, eqb-true, target, floor_number, number, ring_here, shape_there, among_at, MovesOn, record_there, endpoint_driven, endpoint_named, ends_all, moved_is, moved_none, moves_none, none_past, some_past}
 use Rattle.leases.proofs.rows.left_behind.end_moved.Goals as goal
 
 pub returns-in_default : goal.returns-in_default

@@ -1,4 +1,4 @@
-use Rattle.leases.proofs.Words.{sym, ◌∙◌, device_lent, disables_none, ends_all, leaves_empty, leaves_none, leaves_two, lent_of, none_ended, two_ended}
+use Rattle.leases.proofs.Laws.{sym, ◌∙◌, device_lent, disables_none, ends_all, leaves_empty, leaves_none, leaves_two, lent_of, none_ended, two_ended}
 use Rattle.leases.proofs.rows.left_behind.end_slot_of.Goals as goal
 
 pub returns-in_default : goal.returns-in_default

@@ -1,5 +1,4 @@
-use Rattle.leases.proofs.Words.{◌<◌, length, get_or, ap, sym, ◌∙◌, arith}
-use Rattle.leases.proofs.LeaseRows.EventSegments.{event_count, no_events}
+use Rattle.leases.proofs.Laws.{◌<◌, length, get_or, ap, sym, ◌∙◌, arith, event_count, no_events}
 use Rattle.leases.proofs.rows.other_rows.event_segments.Goals as goal
 
 pub returns-then-is_event_ring-clause-exact : goal.returns-then-is_event_ring-clause-exact

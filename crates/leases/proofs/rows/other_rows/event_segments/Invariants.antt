@@ -1,4 +1,4 @@
-use Rattle.leases.proofs.Words.{◌≡◌, ◌<◌, ℕ, false, get_or, Ring, is_event_kind}
+use Rattle.leases.proofs.BaseWords.{◌≡◌, ◌<◌, ℕ, false, get_or, Ring, is_event_kind}
 use Rattle.leases.proofs.rows.other_rows.event_segments.Given as goal
 
 -- no ring so far is an event ring

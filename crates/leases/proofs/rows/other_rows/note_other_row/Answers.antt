@@ -1,4 +1,4 @@
-use Rattle.leases.proofs.Words.{sym, subst, Row, HoldsAll, IsNextRow, IsOtherRow, grown, on_more, other_held}
+use Rattle.leases.proofs.Laws.{sym, subst, Row, HoldsAll, IsNextRow, IsOtherRow, grown, on_more, other_held}
 use Rattle.leases.proofs.rows.other_rows.note_other_row.Goals as goal
 
 pub returns-in-Reg : goal.returns-in-Reg

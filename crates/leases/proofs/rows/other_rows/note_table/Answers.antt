@@ -1,4 +1,4 @@
-use Rattle.leases.proofs.Words.{◌*◌, ap, SegmentTable, held_still, lent_register, on_more, table_begins}
+use Rattle.leases.proofs.Laws.{◌*◌, ap, SegmentTable, held_still, lent_register, on_more, table_begins}
 use Rattle.leases.proofs.rows.other_rows.note_table.Goals as goal
 
 pub returns-in-Erstba : goal.returns-in-Erstba

@@ -1,4 +1,4 @@
-use Rattle.leases.proofs.Words.{sym, ◌∙◌}
+use Rattle.leases.proofs.BaseWords.{sym, ◌∙◌}
 use Rattle.leases.proofs.rows.rows.note_event.Goals as goal
 
 pub returns-in-CommandCompletion : goal.returns-in-CommandCompletion

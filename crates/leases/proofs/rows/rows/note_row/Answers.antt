@@ -1,5 +1,4 @@
-use Rattle.leases.proofs.Words.{sym, subst, Row, known, lents, grown, IsPlaced, HoldsAll, IsNextRow, on_more, other_row}
-use Rattle.leases.proofs.LeaseRows.Histories.{behind_history, next_row}
+use Rattle.leases.proofs.Laws.{sym, subst, Row, known, lents, grown, IsPlaced, HoldsAll, IsNextRow, on_more, other_row, behind_history, next_row}
 use Rattle.leases.proofs.rows.rows.note_row.Goals as goal
 
 pub returns-in-Write-clause-step : goal.returns-in-Write-clause-step

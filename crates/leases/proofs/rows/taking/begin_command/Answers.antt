@@ -1,4 +1,4 @@
-use Rattle.leases.proofs.Words.{taken_device, on_more, all_more, still_free_slot}
+use Rattle.leases.proofs.Laws.{taken_device, on_more, all_more, still_free_slot}
 use Rattle.leases.proofs.rows.taking.begin_command.Goals as goal
 
 pub returns : goal.returns

@@ -1,4 +1,4 @@
-use Rattle.leases.proofs.Words.{sym, ◌∙◌, on_both, no_context, none_more, one_context, same_more}
+use Rattle.leases.proofs.Laws.{sym, ◌∙◌, on_both, no_context, none_more, one_context, same_more}
 use Rattle.leases.proofs.rows.taking.begin_context_of.Goals as goal
 
 pub returns-in-None : goal.returns-in-None

@@ -1,4 +1,4 @@
-use Rattle.leases.proofs.Words.{◌≡◌, ◌+◌, ◌%◌, ◌^◌, ◌≤◌, ◌∙◌, ℕ, true, refl, ap, sym, subst, arith, Option, Some, is_some, Range, SlotEntry, DeviceContext, device_named, entry_of, taken_device, is_use_free, EntryFits, SlotIsFree, on_both, all_more, same_more, slot_is, still_free, takes_no_more, takes_none, takes_one, entry_aligned, named_at, none_taken}
+use Rattle.leases.proofs.Laws.{◌≡◌, ◌+◌, ◌%◌, ◌^◌, ◌≤◌, ◌∙◌, ℕ, true, refl, ap, sym, subst, arith, Option, Some, is_some, Range, SlotEntry, DeviceContext, device_named, entry_of, taken_device, is_use_free, EntryFits, SlotIsFree, on_both, all_more, same_more, slot_is, still_free, takes_no_more, takes_none, takes_one, entry_aligned, named_at, none_taken}
 use Rattle.leases.proofs.rows.taking.begin_device_of.Goals as goal
 
 pub returns-in_default : goal.returns-in_default

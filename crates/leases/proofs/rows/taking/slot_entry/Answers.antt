@@ -1,4 +1,4 @@
-use Rattle.leases.proofs.Words.{◌≡◌, ◌∙◌, ap, arith, unwrap_or, register_or_zero, Dcbaap, entry_of}
+use Rattle.leases.proofs.BaseWords.{◌≡◌, ◌∙◌, ap, arith, unwrap_or, register_or_zero, Dcbaap, entry_of}
 use Rattle.leases.proofs.rows.taking.slot_entry.Goals as goal
 
 pub returns-in-Some : goal.returns-in-Some

@@ -1,7 +1,5 @@
-use Rattle.leases.proofs.Words.{◌≡◌, ◌∙◌, ◌∷◌, List, get_or, refl, sym, subst, ap, Some, [], touches, Lent, with_begun, Block, Link, others_begin, none_here, ring_here, shape_there, among_at, HoldsAll, held_still, on_more, begun_twice, at_ring, command_context_free, command_fits, command_slot_free, given_kind, given_there_is, lent_command, lent_link, lent_none, lent_nowhere, lent_without, link_is_free, place_free}
+use Rattle.leases.proofs.Laws.{◌≡◌, ◌∙◌, ◌∷◌, List, get_or, refl, sym, subst, ap, Some, [], touches, Lent, with_begun, Block, Link, others_begin, none_here, ring_here, shape_there, among_at, HoldsAll, held_still, on_more, begun_twice, at_ring, command_context_free, command_fits, command_slot_free, given_kind, given_there_is, lent_command, lent_link, lent_none, lent_nowhere, lent_without, link_is_free, place_free, in_events, not_touched, crosses, shape_is}
 use Rattle.ring_knowledge.specs.declared.ring_record.RingGiving.TheVariants.{Position, Crossing}
-use Rattle.leases.proofs.LeaseRows.GivenHere.{in_events, not_touched}
-use Rattle.leases.proofs.LeaseRows.RowWrites.{crosses, shape_is}
 use Rattle.leases.proofs.rows.writes.note_write.Goals as goal
 
 pub returns-in_default : goal.returns-in_default

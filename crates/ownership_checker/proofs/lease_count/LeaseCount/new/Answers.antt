@@ -1,5 +1,4 @@
-use Rattle.ownership_checker.proofs.Words.{◌∙◌, [], ap, length, length-map, lease_of, lents}
-use Rattle.leases.proofs.LeaseBooks.FirstBook.{first_list}
+use Rattle.ownership_checker.proofs.Words.{◌∙◌, [], ap, length, length-map, lease_of, lents, first_list}
 use Rattle.ownership_checker.proofs.lease_count.LeaseCount.new.Goals as goal
 
 pub returns : goal.returns

@@ -1,5 +1,4 @@
-use Rattle.ownership_checker.proofs.Words.{◌∙◌, ◌+◌, ap, sym, on_more}
-use Rattle.ownership_checker.proofs.Streams.{one_begun}
+use Rattle.ownership_checker.proofs.Laws.{◌∙◌, ◌+◌, ap, sym, on_more, one_begun}
 use Rattle.ownership_checker.proofs.lease_count.LeaseCountLeaseLog.begin_link.Goals as goal
 
 pub returns : goal.returns

@@ -1,5 +1,4 @@
-use Rattle.ownership_checker.proofs.Words.{◌∙◌, sym}
-use Rattle.ownership_checker.proofs.Streams.{as_many_ended}
+use Rattle.ownership_checker.proofs.Laws.{◌∙◌, sym, as_many_ended}
 use Rattle.ownership_checker.proofs.lease_count.LeaseCountLeaseLog.end_passed.Goals as goal
 
 pub returns : goal.returns

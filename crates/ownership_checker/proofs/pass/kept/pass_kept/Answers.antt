@@ -1,5 +1,5 @@
-use Rattle.ownership_checker.proofs.Words.{◌≡◌, Some, arith, subst, sym, Refusal, ring_verdict}
-use Rattle.ownership_checker.proofs.RingPasses.KeptRows.{begun, ended, few, refused, row_more}
+use Rattle.ownership_checker.proofs.Laws.{◌≡◌, Some, arith, subst, sym, Refusal, ring_verdict, begun, few, refused, row_more}
+use Rattle.ownership_checker.proofs.RingPasses.KeptRows.{ended}
 use Rattle.ownership_checker.proofs.pass.kept.pass_kept.Goals as goal
 
 pub loop-row-init : goal.loop-row-init

@@ -1,5 +1,4 @@
-use Rattle.ownership_checker.proofs.Words.{◌∙◌, ap, refl, err_from_is_err_and, Ring}
-use Rattle.ownership_checker.proofs.RingPasses.RowsRead.{bad_behind, bad_so, ended, ended_bad, ended_refused, fewer_left, fits_so, given, refused_at, row_passed, underway, whole_so}
+use Rattle.ownership_checker.proofs.Laws.{arith, ◌∙◌, ap, refl, err_from_is_err_and, bad_behind, bad_so, ended, ended_bad, ended_refused, fewer_left, fits_so, given, refused_at, row_passed, underway, whole_so}
 use Rattle.ownership_checker.proofs.pass.reading.pass_rows.Goals as goal
 
 pub loop-pass-init : goal.loop-pass-init
@@ -17,10 +16,7 @@ returns-clause-whole g c =
     whole_so c.loop-pass.invariant.0 (ended c.loop-pass.reader c.next_row.new.self c.in_default.is told.same told.over told.answer) (λ ended. ap (g.S.Source.held) (c.next_row.ensures.nothing ended).2) c.into_log.result c.into_log.ensures.harmless c.into_log.ensures.logged
 
 pub ring_comes-requires-clause-transfers : goal.ring_comes-requires-clause-transfers
-ring_comes-requires-clause-transfers g c =
-    let told = c.in_ok-number.ensures in
-    let next = given c.loop-pass.reader c.next_row.new.self c.in-Some.is told.same told.over told.answer in
-    ap (λ (q : Ring). q.shape.kind) c.into_ring.ensures ∙ (fits_so c.loop-pass.invariant.0 next c.in-Comes.is).kind
+ring_comes-requires-clause-transfers g c = grind (arith, given, fits_so)
 
 pub loop-pass-smaller-in-Ok : goal.loop-pass-smaller-in-Ok
 loop-pass-smaller-in-Ok g c = fewer_left (given c.loop-pass.reader c.next_row.new.self c.in-Some.is c.in_ok-number.ensures.same c.in_ok-number.ensures.over c.in_ok-number.ensures.answer)

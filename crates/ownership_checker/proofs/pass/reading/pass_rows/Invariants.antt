@@ -1,5 +1,4 @@
-use Rattle.ownership_checker.proofs.Words.{◌≡◌, ◌-◌, most_streamed_lines}
-use Rattle.ownership_checker.proofs.RingPasses.RowsRead.{IsUnderway}
+use Rattle.ownership_checker.proofs.Laws.{◌≡◌, ◌-◌, most_streamed_lines, IsUnderway}
 use Rattle.ownership_checker.proofs.pass.reading.pass_rows.Given as goal
 
 abbrev pub invariant-loop-pass : goal.invariant-loop-pass

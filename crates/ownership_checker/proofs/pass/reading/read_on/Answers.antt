@@ -1,5 +1,4 @@
-use Rattle.ownership_checker.proofs.Words.{◌∙◌, ap, refl, err_from_is_err_and}
-use Rattle.ownership_checker.proofs.RingPasses.RowsRead.{all_read_on, bad_read_on, ended, fewer_left, given, none_read_on, row_read_on}
+use Rattle.ownership_checker.proofs.Laws.{◌∙◌, ap, refl, err_from_is_err_and, all_read_on, bad_read_on, ended, fewer_left, given, none_read_on, row_read_on}
 use Rattle.ownership_checker.proofs.pass.reading.read_on.Goals as goal
 
 pub loop-next-init : goal.loop-next-init

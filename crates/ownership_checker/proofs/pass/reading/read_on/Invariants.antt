@@ -1,5 +1,4 @@
-use Rattle.ownership_checker.proofs.Words.{◌≡◌, ◌-◌, most_streamed_lines}
-use Rattle.ownership_checker.proofs.RingPasses.RowsRead.{IsReadOn}
+use Rattle.ownership_checker.proofs.Laws.{◌≡◌, ◌-◌, most_streamed_lines, IsReadOn}
 use Rattle.ownership_checker.proofs.pass.reading.read_on.Given as goal
 
 abbrev pub invariant-loop-next : goal.invariant-loop-next

@@ -1,6 +1,5 @@
-use Rattle.ownership_checker.proofs.Words.{true, false, sym, ◌∙◌}
-use Rattle.ownership_checker.proofs.JudgedRows.Keeping.{set_up}
-use Rattle.ownership_checker.proofs.JudgedRows.EventRows.{by_kind, by_place, event_step, impossible, is_started, left_out, left_out_possible, not_negated, when_true}
+use Rattle.ownership_checker.proofs.Laws.{true, false, sym, ◌∙◌, set_up, by_kind, event_step, impossible, is_started, left_out, left_out_possible, not_negated, when_true}
+use Rattle.ownership_checker.proofs.JudgedRows.EventRows.{by_place}
 use Rattle.ownership_checker.proofs.rows.events.check_event.Goals as goal
 
 pub returns-then-is_no_event-clause-refused : goal.returns-then-is_no_event-clause-refused

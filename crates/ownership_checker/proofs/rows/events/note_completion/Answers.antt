@@ -1,5 +1,4 @@
-use Rattle.ownership_checker.proofs.JudgedRows.Keeping.{set_up}
-use Rattle.ownership_checker.proofs.JudgedRows.EventRows.{on_true}
+use Rattle.ownership_checker.proofs.Laws.{set_up, on_true}
 use Rattle.ownership_checker.proofs.rows.events.note_completion.Goals as goal
 
 pub returns-clause-possible : goal.returns-clause-possible

@@ -1,5 +1,4 @@
-use Rattle.ownership_checker.proofs.Words.{ap, sym, ◌∙◌, refl, not}
-use Rattle.ownership_checker.proofs.JudgedRows.EventRows.{noted_transfer, noted_completion, noted_other, of_completion, of_transfer, on_true, other_possible, within_profile}
+use Rattle.ownership_checker.proofs.Laws.{ap, sym, ◌∙◌, refl, not, noted_transfer, noted_completion, noted_other, of_completion, of_transfer, on_true, other_possible, within_profile}
 use Rattle.ownership_checker.proofs.rows.events.note_event.Goals as goal
 
 pub returns-in-TransferEvent-clause-possible : goal.returns-in-TransferEvent-clause-possible

@@ -1,6 +1,4 @@
-use Rattle.ownership_checker.proofs.Words.{sym, ◌∙◌}
-use Rattle.ownership_checker.proofs.JudgedRows.CleanHistories.{lenient_row}
-use Rattle.ownership_checker.proofs.JudgedRows.Keeping.{contexts_fit}
+use Rattle.ownership_checker.proofs.Laws.{sym, ◌∙◌, lenient_row, contexts_fit}
 use Rattle.ownership_checker.proofs.rows.row.check_giving_word.Goals as goal
 
 pub returns-in_ok-note_plain_write-in-Ok-None-clause-ok : goal.returns-in_ok-note_plain_write-in-Ok-None-clause-ok

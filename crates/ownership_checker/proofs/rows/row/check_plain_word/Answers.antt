@@ -1,4 +1,4 @@
-use Rattle.ownership_checker.proofs.JudgedRows.CleanHistories.{lenient_row}
+use Rattle.ownership_checker.proofs.Words.{lenient_row}
 use Rattle.ownership_checker.proofs.rows.row.check_plain_word.Goals as goal
 
 pub returns-in-Some-clause-refused : goal.returns-in-Some-clause-refused

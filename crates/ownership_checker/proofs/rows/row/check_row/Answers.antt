@@ -1,5 +1,4 @@
-use Rattle.ownership_checker.proofs.Words.{sym, ◌∙◌, ap, Sub, Write, Reg, Bell, Read}
-use Rattle.ownership_checker.proofs.JudgedRows.Kinds.{placed_bad, placed_ok, stopped_refused, word_ok, word_bad, row_ok, row_bad, declared_ok, declared_bad, register_ok, register_bad}
+use Rattle.ownership_checker.proofs.Laws.{sym, ◌∙◌, ap, Sub, Write, Reg, Bell, Read, placed_bad, placed_ok, stopped_refused, word_ok, word_bad, row_ok, row_bad, declared_ok, declared_bad, register_ok, register_bad}
 use Rattle.ownership_checker.proofs.rows.row.check_row.Goals as goal
 
 pub returns-then-is_stopped-clause-refused : goal.returns-then-is_stopped-clause-refused

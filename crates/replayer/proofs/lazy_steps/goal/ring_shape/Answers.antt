@@ -1,5 +1,4 @@
-use Rattle.replayer.proofs.Words.{ap, sym, ◌∙◌, Ring}
-use Rattle.replayer.proofs.LazySteps.RingShapes.{no_ring, one_ring}
+use Rattle.replayer.proofs.MiddleLaws.{ap, sym, ◌∙◌, Ring, no_ring, one_ring}
 use Rattle.replayer.proofs.lazy_steps.goal.ring_shape.Goals as goal
 
 pub returns-in-None : goal.returns-in-None

@@ -1,5 +1,4 @@
-use Rattle.replayer.proofs.Words.{arith, ◌∙◌, shape_behind}
-use Rattle.replayer.proofs.LazySteps.PointerTables.{some_taken, none_taken}
+use Rattle.replayer.proofs.MiddleLaws.{arith, ◌∙◌, shape_behind, some_taken, none_taken}
 use Rattle.replayer.proofs.lazy_steps.goal.spot_taken.Goals as goal
 
 pub returns-then-blocks-eq0 : goal.returns-then-blocks-eq0

@@ -1,6 +1,7 @@
-use Rattle.replayer.proofs.Words.{refl, ◌≡◌, ◌+◌, ◌==◌, true, false, arith, nat_tests, number, RingSpot, stop_goal, place_of}
-use Rattle.replayer.proofs.lazy_steps.goal.stop_goal.Goals as goal
+use Rattle.replayer.proofs.Words.{refl, ◌≡◌, ◌+◌, ◌==◌, true, false, arith, nat_tests, number, RingSpot, stop_goal}
+use Rattle.replayer.specs.LazySteps.Goals.{place_of}
 use Rattle.replayer.proofs.lazy_steps.goal.stop_goal.Goals.{else-need-gt0-via-then-need-gt0+else-need-number, else-need-gt0-via-else-need-gt0}
+use Rattle.replayer.proofs.lazy_steps.goal.stop_goal.Goals as goal
 
 pub returns-then-need-number : goal.returns-then-need-number
 unfolding stop_goal

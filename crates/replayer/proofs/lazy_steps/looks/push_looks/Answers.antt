@@ -1,5 +1,4 @@
-use Rattle.replayer.proofs.Words.{◌<◌, ◌≤◌, ◌∙◌, sym, arith, nat_tests, rank, shape_behind}
-use Rattle.replayer.proofs.LazySteps.Walks.{one_look, no_look}
+use Rattle.replayer.proofs.MiddleLaws.{◌<◌, ◌≤◌, ◌∙◌, sym, arith, nat_tests, rank, shape_behind, one_look, no_look}
 use Rattle.replayer.proofs.lazy_steps.looks.push_looks.Goals as goal
 
 pub loop-to-preserved : goal.loop-to-preserved

@@ -1,5 +1,4 @@
-use Rattle.replayer.proofs.Words.{refl, ℕ, ◌-◌, ◌<◌, length, arith, get_or, drop, ◌∙◌, ap, length-replicate, need_in}
-use Rattle.replayer.proofs.LazySteps.Filling.{none_filled, all_zero, turn_notes, turn_table}
+use Rattle.replayer.proofs.MiddleLaws.{refl, ℕ, ◌-◌, ◌<◌, length, arith, get_or, drop, ◌∙◌, ap, length-replicate, need_in, none_filled, all_zero, turn_notes, turn_table}
 use Rattle.replayer.proofs.lazy_steps.needs.fill_back.Goals as goal
 
 pub loop-left-init : goal.loop-left-init

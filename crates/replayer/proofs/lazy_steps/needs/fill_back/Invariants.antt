@@ -1,5 +1,4 @@
-use Rattle.replayer.proofs.Words.{◌≡◌, ◌≤◌, drop, length, need_in, IsTable}
-use Rattle.replayer.proofs.LazySteps.Filling.{filled_from}
+use Rattle.replayer.proofs.MiddleLaws.{◌≡◌, ◌≤◌, drop, length, need_in, IsTable, filled_from}
 use Rattle.replayer.proofs.lazy_steps.needs.fill_back.Given as goal
 
 abbrev pub invariant-loop-left : goal.invariant-loop-left

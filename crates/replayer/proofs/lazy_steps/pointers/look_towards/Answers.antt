@@ -1,5 +1,4 @@
-use Rattle.replayer.proofs.Words.{◌++◌, ◌∙◌, List, map, ap, Shape, Step, Look, looks_to, spots_before, shape_behind, spot_in}
-use Rattle.replayer.proofs.RowNotes.Lists.{on_more}
+use Rattle.replayer.proofs.MiddleLaws.{◌++◌, ◌∙◌, List, map, ap, Shape, Step, Look, looks_to, spots_before, shape_behind, spot_in, on_more}
 use Rattle.replayer.proofs.lazy_steps.pointers.look_towards.Goals as goal
 
 pub returns : goal.returns

@@ -1,5 +1,4 @@
-use Rattle.replayer.proofs.Words.{arith, length, sym, ◌<◌}
-use Rattle.replayer.proofs.LazySteps.PointerTables.{further_in, no_further}
+use Rattle.replayer.proofs.MiddleLaws.{arith, length, sym, ◌<◌, further_in, no_further}
 use Rattle.replayer.proofs.lazy_steps.pointers.move_on.Goals as goal
 
 pub returns-then-is_before-clause-moved : goal.returns-then-is_before-clause-moved

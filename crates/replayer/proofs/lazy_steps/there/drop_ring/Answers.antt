@@ -1,5 +1,4 @@
-use Rattle.replayer.proofs.Words.{◌≡◌, ◌==◌, ◌<◌, ◌∙◌, [], List, not, filter, ap, length, sym, arith, Header, Ring, length-remove, none_dropped, nothing_listed, one_dropped, without_is}
-use Rattle.std.specs.List.{remove}
+use Rattle.replayer.proofs.Words.{◌≡◌, ◌==◌, ◌<◌, ◌∙◌, [], List, not, filter, ap, length, sym, arith, Header, Ring, length-remove, none_dropped, nothing_listed, one_dropped, without_is, remove}
 use Rattle.replayer.proofs.lazy_steps.there.drop_ring.Goals as goal
 
 pub returns-in-None : goal.returns-in-None

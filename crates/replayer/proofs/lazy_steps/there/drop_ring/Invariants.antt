@@ -1,4 +1,4 @@
-use Rattle.std.proofs.Common.{◌≡◌, ◌==◌, ◌+◌, length, filter, not}
+use Rattle.replayer.proofs.Words.{◌≡◌, ◌==◌, ◌+◌, length, filter, not}
 use Rattle.replayer.proofs.lazy_steps.there.drop_ring.Given as goal
 
 -- all rings that were taken out had this ID

@@ -1,6 +1,4 @@
-use Rattle.replayer.proofs.Words.{drop_all, header_behind, rows_behind, drop, sym}
-use Rattle.replayer.proofs.LazySteps.RowsToCome.{other_header, other_rows}
-use Rattle.replayer.proofs.Runs.{from_here}
+use Rattle.replayer.proofs.MiddleLaws.{drop_all, header_behind, rows_behind, drop, sym, other_header, other_rows, from_here}
 use Rattle.replayer.proofs.lazy_steps.walk.follow_note.Goals as goal
 
 pub returns-in_default : goal.returns-in_default

@@ -1,5 +1,4 @@
-use Rattle.replayer.proofs.Words.{◌+◌, drop, sym, ◌∙◌, refl, arith, Header, List, TraceRow, spot_in}
-use Rattle.replayer.proofs.LazySteps.WalkedNotes.{first_notes, one_note, no_note, steps_with}
+use Rattle.replayer.proofs.MiddleLaws.{◌+◌, drop, sym, ◌∙◌, refl, arith, Header, List, TraceRow, spot_in, first_notes, one_note, no_note, steps_with}
 use Rattle.replayer.proofs.lazy_steps.walk.walk_notes.Goals as goal
 
 pub loop-note-init : goal.loop-note-init

@@ -1,5 +1,4 @@
-use Rattle.replayer.proofs.Words.{◌≡◌, drop, length, Data, KeepHeaders, steps_of, spot_in, IsFinder}
-use Rattle.replayer.proofs.LazySteps.WalkedNotes.{steps_with}
+use Rattle.replayer.proofs.MiddleLaws.{◌≡◌, drop, length, Data, KeepHeaders, steps_of, spot_in, IsFinder, steps_with}
 use Rattle.replayer.proofs.lazy_steps.walk.walk_notes.Given as goal
 
 abbrev pub invariant-loop-note : goal.invariant-loop-note

@@ -1,5 +1,4 @@
-use Rattle.replayer.proofs.Words.{◌∙◌, append-nil, eq-eqb, ne_eqb, sym, code, slot, placed_by}
-use Rattle.replayer.proofs.RowNotes.Lists.{on_more}
+use Rattle.replayer.proofs.MiddleLaws.{◌∙◌, append-nil, eq-eqb, ne_eqb, sym, code, slot, placed_by, on_more}
 use Rattle.replayer.proofs.row_notes.completions.add_placed_by.Goals as goal
 
 pub returns-then-code-ne1 : goal.returns-then-code-ne1

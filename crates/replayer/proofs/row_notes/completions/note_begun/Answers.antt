@@ -1,5 +1,5 @@
-use Rattle.replayer.specs.declared.lazy_steps.note.Note.TheVariants.{Begun}
-use Rattle.replayer.proofs.RowNotes.Lists.{none_left, one_more}
+use Rattle.replayer.proofs.MiddleLaws.{Begun, none_left}
+use Rattle.replayer.proofs.RowNotes.Lists.{one_more}
 use Rattle.replayer.proofs.row_notes.completions.note_begun.Goals as goal
 
 pub loop-ring-preserved : goal.loop-ring-preserved

@@ -1,7 +1,4 @@
-use Rattle.replayer.proofs.Words.{◌∙◌, ◌++◌, ◌∷◌, [], ap, map, code, completing_look, open_stopped, Begun, said_well, was_started}
-use Rattle.replayer.proofs.RowNotes.Kept.{some_command}
-use Rattle.replayer.proofs.RowNotes.Lists.{from_none, in_turn}
-use Rattle.replayer.proofs.RowNotes.Notings.{may_place, placed_is}
+use Rattle.replayer.proofs.MiddleLaws.{◌∙◌, ◌++◌, ◌∷◌, [], ap, map, code, completing_look, open_stopped, Begun, said_well, was_started, some_command, from_none, in_turn, may_place, placed_is}
 use Rattle.replayer.proofs.row_notes.completions.note_completion.Goals as goal
 
 pub add_placed_by-requires : goal.add_placed_by-requires

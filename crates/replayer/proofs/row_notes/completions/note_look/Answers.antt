@@ -1,6 +1,4 @@
-use Rattle.replayer.proofs.Words.{◌≡◌, ◌∙◌, ◌++◌, ◌∷◌, [], ap, sym, none-some, same_Some, completing_look, open_stopped}
-use Rattle.replayer.proofs.RowNotes.Lists.{on_more}
-use Rattle.replayer.proofs.RowNotes.Looks.{place_of}
+use Rattle.replayer.proofs.MiddleLaws.{◌≡◌, ◌∙◌, ◌++◌, ◌∷◌, [], ap, sym, none-some, same_Some, completing_look, open_stopped, on_more, place_of}
 use Rattle.replayer.proofs.row_notes.completions.note_look.Goals as goal
 
 pub returns-in_default : goal.returns-in_default

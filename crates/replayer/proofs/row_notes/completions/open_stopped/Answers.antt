@@ -1,5 +1,4 @@
-use Rattle.replayer.proofs.Words.{sym, open_stopped}
-use Rattle.replayer.proofs.RowNotes.Looks.{failed_stop}
+use Rattle.replayer.proofs.MiddleLaws.{sym, open_stopped, failed_stop}
 use Rattle.replayer.proofs.row_notes.completions.open_stopped.Goals as goal
 
 pub returns-in_default : goal.returns-in_default

@@ -1,5 +1,4 @@
-use Rattle.replayer.proofs.Words.{◌∙◌, sym, if_open, open_stopped}
-use Rattle.replayer.proofs.RowNotes.Looks.{no_stop}
+use Rattle.replayer.proofs.MiddleLaws.{◌∙◌, sym, if_open, open_stopped, no_stop}
 use Rattle.replayer.proofs.row_notes.completions.stopped_by.Goals as goal
 
 pub returns-in_default : goal.returns-in_default

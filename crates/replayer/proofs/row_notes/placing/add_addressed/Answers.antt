@@ -1,5 +1,4 @@
-use Rattle.replayer.proofs.Words.{◌∙◌, ◌++◌, ap, View, context_cycle, context_pointer, Running, Places, ring_placed, listed}
-use Rattle.replayer.proofs.RowNotes.Lists.{on_more}
+use Rattle.replayer.proofs.MiddleLaws.{◌∙◌, ◌++◌, ap, View, context_cycle, context_pointer, Running, Places, ring_placed, listed, on_more}
 use Rattle.replayer.proofs.row_notes.placing.add_addressed.Goals as goal
 
 pub returns : goal.returns

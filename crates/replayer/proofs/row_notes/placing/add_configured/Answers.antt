@@ -1,6 +1,4 @@
-use Rattle.replayer.proofs.Words.{◌∙◌, ◌++◌, ap, arith, View, rings_added}
-use Rattle.replayer.proofs.RowNotes.Lists.{nothing_more}
-use Rattle.replayer.proofs.RowNotes.Placings.{added_end}
+use Rattle.replayer.proofs.MiddleLaws.{◌∙◌, ◌++◌, ap, arith, View, rings_added, nothing_more, added_end}
 use Rattle.replayer.proofs.row_notes.placing.add_configured.Goals as goal
 
 pub returns : goal.returns

@@ -1,6 +1,4 @@
-use Rattle.replayer.proofs.Words.{◌+◌, ◌∙◌, ◌++◌, ap, sym, append_assoc, listed, rings_added}
-use Rattle.replayer.proofs.RowNotes.Lists.{on_more}
-use Rattle.replayer.proofs.RowNotes.Placings.{added_later, added_next, pointed_from}
+use Rattle.replayer.proofs.MiddleLaws.{◌+◌, ◌∙◌, ◌++◌, ap, sym, append_assoc, listed, rings_added, on_more, added_later, added_next, pointed_from}
 use Rattle.replayer.proofs.row_notes.placing.add_endpoint.Goals as goal
 
 pub returns-then-not-adds : goal.returns-then-not-adds

@@ -1,6 +1,4 @@
-use Rattle.replayer.proofs.Words.{◌∙◌, ◌++◌, ap, Stopped, ring_placed, listed, words_are}
-use Rattle.replayer.proofs.RowNotes.Lists.{nothing_more, on_more}
-use Rattle.replayer.proofs.RowNotes.Placings.{of_address, of_configure, of_deconfigure, of_dequeue, of_others}
+use Rattle.replayer.proofs.MiddleLaws.{◌∙◌, ◌++◌, ap, Stopped, ring_placed, listed, words_are, nothing_more, on_more, of_address, of_configure, of_deconfigure, of_dequeue, of_others}
 use Rattle.replayer.proofs.row_notes.placing.add_placed.Goals as goal
 
 pub returns-in-AddressDevice : goal.returns-in-AddressDevice

@@ -1,5 +1,4 @@
-use Rattle.replayer.proofs.Words.{◌∙◌, sym, is_off_of, on_is}
-use Rattle.replayer.proofs.RowNotes.Placings.{placed_off, placed_on}
+use Rattle.replayer.proofs.MiddleLaws.{◌∙◌, sym, is_off_of, on_is, placed_off, placed_on}
 use Rattle.replayer.proofs.row_notes.placing.ring_placed.Goals as goal
 
 pub returns-in-Disabled : goal.returns-in-Disabled

@@ -1,6 +1,4 @@
-use Rattle.replayer.proofs.Words.{append-nil, ◌≡◌, ◌∙◌, ◌++◌, ◌∷◌, [], Some, ap, get_or, sym, same_Some, slice_get-get_or, slice_get_within, Ring, RingSpot, transfer_notes, IsNamedAt}
-use Rattle.replayer.proofs.RowNotes.Lists.{on_more, one_behind}
-use Rattle.replayer.proofs.RowNotes.Looks.{transfer_is}
+use Rattle.replayer.proofs.MiddleLaws.{append-nil, ◌≡◌, ◌∙◌, ◌++◌, ◌∷◌, [], Some, ap, get_or, sym, same_Some, slice_get-get_or, slice_get_within, Ring, RingSpot, transfer_notes, IsNamedAt, on_more, one_behind, transfer_is}
 use Rattle.replayer.proofs.row_notes.reports.note_named.Goals as goal
 
 pub returns-in_default : goal.returns-in_default

@@ -1,6 +1,4 @@
-use Rattle.std.proofs.Common.{◌∙◌, ◌++◌, ap}
-use Rattle.replayer.proofs.RowNotes.Lists.{on_more, one_behind}
-use Rattle.replayer.proofs.RowNotes.Notings.{report_notes}
+use Rattle.replayer.proofs.MiddleLaws.{◌∙◌, ◌++◌, ap, on_more, one_behind, report_notes}
 use Rattle.replayer.proofs.row_notes.reports.note_report.Goals as goal
 
 pub returns : goal.returns

@@ -1,5 +1,4 @@
-use Rattle.replayer.proofs.Words.{◌∙◌, ap, sym, none-some, same_Some, is_stopping, reporting_look}
-use Rattle.replayer.proofs.RowNotes.Looks.{place_of}
+use Rattle.replayer.proofs.MiddleLaws.{◌∙◌, ap, sym, none-some, same_Some, is_stopping, reporting_look, place_of}
 use Rattle.replayer.proofs.row_notes.reports.reporting_look.Goals as goal
 
 pub returns-then-not-is_stopping : goal.returns-then-not-is_stopping

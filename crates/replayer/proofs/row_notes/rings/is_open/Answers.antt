@@ -1,5 +1,4 @@
-use Rattle.replayer.proofs.Words.{sym, ◌∙◌, read_at}
-use Rattle.replayer.proofs.RowNotes.Kept.{kept_there, not_there}
+use Rattle.replayer.proofs.MiddleLaws.{sym, ◌∙◌, read_at, kept_there, not_there}
 use Rattle.replayer.proofs.row_notes.rings.is_open.Goals as goal
 
 pub returns-in_default : goal.returns-in_default

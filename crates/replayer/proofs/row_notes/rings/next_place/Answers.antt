@@ -1,5 +1,4 @@
-use Rattle.replayer.proofs.Words.{◌≡◌, Some, get_or, ap, sym, ◌∙◌, same_Some, slice_get-get_or, slice_get_within, Ring, command_id, next_command, no_command_ring, IsCommandNumber, command_id_is, command_number, has_commands, read_at}
-use Rattle.replayer.proofs.RowNotes.Kept.{next_there}
+use Rattle.replayer.proofs.MiddleLaws.{◌≡◌, Some, get_or, ap, sym, ◌∙◌, same_Some, slice_get-get_or, slice_get_within, Ring, command_id, next_command, no_command_ring, IsCommandNumber, command_id_is, command_number, has_commands, read_at, next_there}
 use Rattle.replayer.proofs.row_notes.rings.next_place.Goals as goal
 
 pub returns-in_default : goal.returns-in_default

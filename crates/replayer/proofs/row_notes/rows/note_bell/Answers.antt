@@ -1,5 +1,4 @@
-use Rattle.replayer.proofs.Words.{◌∙◌, append-nil, eq-eqb, ne_eqb, sym, row_notes}
-use Rattle.replayer.proofs.RowNotes.Lists.{on_more}
+use Rattle.replayer.proofs.MiddleLaws.{◌∙◌, append-nil, eq-eqb, ne_eqb, sym, row_notes, on_more}
 use Rattle.replayer.proofs.row_notes.rows.note_bell.Goals as goal
 
 pub returns-then-slot-eq0 : goal.returns-then-slot-eq0

@@ -1,7 +1,4 @@
-use Rattle.replayer.proofs.Words.{◌∙◌, ◌++◌, ap, refl, sym, TransferEvent, kind, Read, event_facts}
-use Rattle.replayer.proofs.RowNotes.Kept.{some_command}
-use Rattle.replayer.proofs.RowNotes.Lists.{both_ok}
-use Rattle.replayer.proofs.RowNotes.Notings.{alone, completed, completion_possible, notes_read, other_notes}
+use Rattle.replayer.proofs.MiddleLaws.{◌∙◌, ◌++◌, ap, refl, sym, TransferEvent, kind, Read, event_facts, some_command, both_ok, alone, completed, completion_possible, notes_read, other_notes}
 use Rattle.replayer.proofs.row_notes.rows.note_event.Goals as goal
 
 pub returns-in_ok-note_report-in-TransferEvent : goal.returns-in_ok-note_report-in-TransferEvent

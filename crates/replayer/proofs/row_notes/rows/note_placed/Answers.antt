@@ -1,5 +1,5 @@
-use Rattle.replayer.proofs.Words.{Placed, ◌∙◌, ◌++◌, ◌∷◌, [], ap, get_or, learned, placed_note}
-use Rattle.replayer.proofs.RowNotes.Lists.{none_left, one_more}
+use Rattle.replayer.proofs.MiddleLaws.{Placed, ◌∙◌, ◌++◌, ◌∷◌, [], ap, get_or, learned, placed_note, none_left}
+use Rattle.replayer.proofs.RowNotes.Lists.{one_more}
 use Rattle.replayer.proofs.row_notes.rows.note_placed.Goals as goal
 
 pub loop-ring-preserved : goal.loop-ring-preserved

@@ -1,6 +1,4 @@
-use Rattle.replayer.proofs.Words.{◌∙◌, ◌++◌, ap, sym, row_notes}
-use Rattle.replayer.proofs.RowNotes.Lists.{more_ok}
-use Rattle.replayer.proofs.RowNotes.Notings.{alone, none_said, quiet}
+use Rattle.replayer.proofs.MiddleLaws.{◌∙◌, ◌++◌, ap, sym, row_notes, more_ok, alone, none_said, quiet}
 use Rattle.replayer.proofs.row_notes.rows.note_row.Goals as goal
 
 pub returns-in_ok-note_bell-in-Bell : goal.returns-in_ok-note_bell-in-Bell

@@ -1,5 +1,4 @@
-use Rattle.replayer.proofs.Words.{◌≡◌, ◌∙◌, sym, subst, reverse, AreSteps, lazy_steps, kept_now}
-use Rattle.replayer.proofs.Schedules.Fitting.{lazy_steps_are, rows_fit}
+use Rattle.replayer.proofs.MiddleLaws.{◌≡◌, ◌∙◌, sym, subst, reverse, AreSteps, lazy_steps, kept_now, lazy_steps_are, rows_fit}
 use Rattle.replayer.proofs.scheduler.harmful.lazy_schedule_behind.Goals as goal
 
 pub make_all-requires : goal.make_all-requires

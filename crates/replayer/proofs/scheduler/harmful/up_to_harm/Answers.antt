@@ -1,5 +1,4 @@
-use Rattle.replayer.proofs.Words.{arith, common_steps}
-use Rattle.replayer.proofs.Schedules.HarmsFound.{does_harm, within_steps}
+use Rattle.replayer.proofs.MiddleLaws.{arith, common_steps, does_harm, within_steps}
 use Rattle.replayer.proofs.scheduler.harmful.up_to_harm.Goals as goal
 
 pub slice_bounds-done-end : goal.slice_bounds-done-end

@@ -1,6 +1,4 @@
-use Rattle.replayer.proofs.Words.{◌≡◌, ◌∙◌, ◌+◌, ◌*◌, ◌≤◌, List, arith, length, reverse, All, Header, Step, TraceRow, IsHeader, AreSteps, IsTraceRow, scene_replayed, NoHarm, AreKept, FitsFields, rings_headline, AreClean, kept_now, IsTimely, lazy_steps, ContainsAll, all_are_read, few_steps}
-use Rattle.replayer.proofs.Schedules.Fitting.{lazy_steps_are, rows_fit}
-use Rattle.replayer.proofs.Schedules.Replays.{without_harm}
+use Rattle.replayer.proofs.MiddleLaws.{◌≡◌, ◌∙◌, ◌+◌, ◌*◌, ◌≤◌, List, arith, length, reverse, All, Header, Step, TraceRow, IsHeader, AreSteps, IsTraceRow, scene_replayed, NoHarm, AreKept, FitsFields, rings_headline, AreClean, kept_now, IsTimely, lazy_steps, ContainsAll, all_are_read, few_steps, lazy_steps_are, rows_fit, without_harm}
 use Rattle.replayer.proofs.scheduler.lazy.lazy_schedule.Goals as goal
 
 module _ (h : Header) (headed : IsHeader h) (rows slice : List TraceRow) (fitting : All IsTraceRow rows) (value : slice ≡ rows) (clean : AreClean h (reverse slice)) (steps made : List Step) (new : steps ≡ made) (lazy : made ≡ lazy_steps h slice) where

@@ -1,6 +1,5 @@
-use Rattle.replayer.proofs.Words.{◌∙◌, reverse, sym, kept_now}
+use Rattle.replayer.proofs.MiddleLaws.{◌∙◌, reverse, sym, kept_now, all_headers, rows_fit}
 use Rattle.replayer.proofs.LazySteps.StepsOfRows.{steps_law}
-use Rattle.replayer.proofs.Schedules.Fitting.{all_headers, rows_fit}
 use Rattle.replayer.proofs.scheduler.lazy.steps_of.Goals as goal
 
 pub notes_of-requires-clause-headed : goal.notes_of-requires-clause-headed

@@ -1,5 +1,4 @@
-use Rattle.replayer.specs.LazySteps.Notes.{any_notes}
-use Rattle.replayer.proofs.RowNotes.Lists.{on_more}
+use Rattle.replayer.proofs.MiddleLaws.{any_notes, on_more}
 use Rattle.replayer.proofs.scheduler.notes.note_beginning.Goals as goal
 
 pub returns : goal.returns

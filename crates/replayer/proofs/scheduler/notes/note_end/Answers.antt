@@ -1,5 +1,4 @@
-use Rattle.replayer.proofs.Words.{◌∙◌, ◌∷◌, ◌++◌, [], ap, append_assoc, Data, Begun, Placed, any_notes}
-use Rattle.replayer.proofs.RowNotes.Lists.{on_more}
+use Rattle.replayer.proofs.MiddleLaws.{◌∙◌, ◌∷◌, ◌++◌, [], ap, append_assoc, Data, Begun, Placed, any_notes, on_more}
 use Rattle.replayer.proofs.scheduler.notes.note_end.Goals as goal
 
 pub returns : goal.returns

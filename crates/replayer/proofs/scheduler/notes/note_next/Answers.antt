@@ -1,6 +1,4 @@
-use Rattle.replayer.proofs.Words.{◌∙◌, ◌++◌, ap, sym, header_now, known_now, any_notes}
-use Rattle.replayer.proofs.RowNotes.Lists.{nothing_more, on_more}
-use Rattle.replayer.proofs.Schedules.Noting.{on_any}
+use Rattle.replayer.proofs.MiddleLaws.{◌∙◌, ◌++◌, ap, sym, header_now, known_now, any_notes, nothing_more, on_more, on_any}
 use Rattle.replayer.proofs.scheduler.notes.note_next.Goals as goal
 
 pub returns-in-Plain-clause-noted : goal.returns-in-Plain-clause-noted

@@ -1,5 +1,4 @@
-use Rattle.replayer.proofs.Words.{◌≡◌, ℕ, List, ◌++◌, ap, refl, subst, All, map, Row, Known, learned, known_now, IsTransferRing, FollowsTrace, placed_note}
-use Rattle.replayer.proofs.Schedules.Noting.{followed, plain_noted}
+use Rattle.replayer.proofs.MiddleLaws.{◌≡◌, ℕ, List, ◌++◌, ap, refl, subst, All, map, Row, Known, learned, known_now, IsTransferRing, FollowsTrace, placed_note, followed, plain_noted}
 use Rattle.replayer.proofs.scheduler.notes.note_plain.Goals as goal
 
 pub returns-clause-noted : goal.returns-clause-noted

@@ -1,5 +1,4 @@
-use Rattle.replayer.proofs.Words.{arith, sym}
-use Rattle.replayer.proofs.Schedules.Noting.{ended, ended_clean, few, refused, started, stepped}
+use Rattle.replayer.proofs.MiddleLaws.{arith, sym, ended, ended_clean, few, refused, started, stepped}
 use Rattle.replayer.proofs.scheduler.notes.notes_of.Goals as goal
 
 pub loop-row-init : goal.loop-row-init

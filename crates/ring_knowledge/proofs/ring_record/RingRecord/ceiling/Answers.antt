@@ -1,5 +1,4 @@
-use Rattle.ring_knowledge.proofs.Words.{ap, sym, ◌∙◌, unwrap_or, ceiling, given_count}
-use Rattle.ring_knowledge.proofs.GivenCount.{count_is}
+use Rattle.ring_knowledge.proofs.Laws.{ap, sym, ◌∙◌, unwrap_or, ceiling, given_count, count_is}
 use Rattle.ring_knowledge.proofs.ring_record.RingRecord.ceiling.Goals as goal
 
 pub returns : goal.returns

@@ -1,8 +1,6 @@
-use Rattle.ring_knowledge.proofs.Words.{rules, ◌≡◌, ◌%◌, ◌<◌, ◌≤◌, ◌+◌, ◌-◌, ◌∙◌, Some, ap, sym, arith, max, eqb-true, eqb-false, number, place_count, cycle_of, link_crossed, place_at-Link}
-use Rattle.ring_knowledge.proofs.DueNumbers.{crossing_behind}
-use Rattle.ring_knowledge.proofs.DueWrites.{gives_crossing-link, gives_crossing-other_word, gives_crossing-other_cycle}
-use Rattle.ring_knowledge.proofs.ring_record.RingRecord.crossing_by.Goals as goal
+use Rattle.ring_knowledge.proofs.Laws.{rules, ◌≡◌, ◌%◌, ◌<◌, ◌≤◌, ◌+◌, ◌-◌, ◌∙◌, Some, ap, sym, arith, max, eqb-true, eqb-false, number, place_count, cycle_of, link_crossed, place_at-Link, crossing_behind, gives_crossing-link, gives_crossing-other_word, gives_crossing-other_cycle}
 use Rattle.ring_knowledge.proofs.ring_record.RingRecord.crossing_by.Goals.{After-next_with_rest-before}
+use Rattle.ring_knowledge.proofs.ring_record.RingRecord.crossing_by.Goals as goal
 
 pub returns-then-index-ne3-clause-gives : goal.returns-then-index-ne3-clause-gives
 returns-then-index-ne3-clause-gives c =

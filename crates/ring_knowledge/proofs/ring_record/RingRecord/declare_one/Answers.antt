@@ -1,5 +1,4 @@
-use Rattle.ring_knowledge.proofs.Words.{refl, [], ◌∷◌, arith, is_step_given, is_way_given}
-use Rattle.ring_knowledge.proofs.DeclaredMore.{declared_marks}
+use Rattle.ring_knowledge.proofs.Laws.{refl, [], ◌∷◌, arith, is_step_given, is_way_given, declared_marks}
 use Rattle.ring_knowledge.proofs.ring_record.RingRecord.declare_one.Goals as goal
 
 pub returns-clause-ok : goal.returns-clause-ok

@@ -1,5 +1,4 @@
-use Rattle.ring_knowledge.proofs.Words.{refl, is_step_given, is_way_given}
-use Rattle.ring_knowledge.proofs.DeclaredMore.{declared_marks, lengths_grown}
+use Rattle.ring_knowledge.proofs.Laws.{refl, is_step_given, is_way_given, declared_marks, lengths_grown}
 use Rattle.ring_knowledge.proofs.ring_record.RingRecord.declare_several.Goals as goal
 
 pub returns-clause-ok : goal.returns-clause-ok

@@ -1,5 +1,4 @@
-use Rattle.ring_knowledge.proofs.Words.{◌∙◌, ◌≤◌, arith, sym}
-use Rattle.ring_knowledge.proofs.Withdrawn.{length_is}
+use Rattle.ring_knowledge.proofs.Laws.{◌∙◌, ◌≤◌, arith, sym, length_is}
 use Rattle.ring_knowledge.proofs.ring_record.RingRecord.descriptor_length.Goals as goal
 
 pub returns : goal.returns

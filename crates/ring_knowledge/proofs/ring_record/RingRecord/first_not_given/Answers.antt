@@ -1,5 +1,4 @@
-use Rattle.ring_knowledge.proofs.Words.{rules, ◌∙◌, sym, ap, arith, cases_lt, number, is_step_given}
-use Rattle.ring_knowledge.proofs.GivenCount.{past_not_given}
+use Rattle.ring_knowledge.proofs.Laws.{rules, ◌∙◌, sym, ap, arith, cases_lt, number, is_step_given, past_not_given}
 use Rattle.ring_knowledge.proofs.ring_record.RingRecord.first_not_given.Goals as goal
 
 pub loop-q-preserved : goal.loop-q-preserved

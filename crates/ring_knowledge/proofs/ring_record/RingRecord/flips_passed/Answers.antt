@@ -1,10 +1,6 @@
-use Rattle.ring_knowledge.proofs.Words.{rules, none-some, RingView, no_flips, Some, AtData, ◌≡◌, ◌∙◌, ap, sym, arith, number, not, lt-ltb, le-ltb, place_at, place_count, floor_number, ceiling}
-use Rattle.ring_knowledge.proofs.DueNumbers.{IsDue}
-use Rattle.ring_knowledge.proofs.DueWrites.{data_is, found, data_no_link}
-use Rattle.ring_knowledge.proofs.FreeNumbers.{none_in}
-use Rattle.ring_knowledge.proofs.FlippedWords.{behind_at, kept_at, passed_at, no_flip}
-use Rattle.ring_knowledge.proofs.ring_record.RingRecord.flips_passed.Goals as goal
+use Rattle.ring_knowledge.proofs.Laws.{rules, none-some, RingView, no_flips, Some, AtData, ◌≡◌, ◌∙◌, ap, sym, arith, number, not, lt-ltb, le-ltb, place_at, place_count, floor_number, ceiling, IsDue, data_is, found, data_no_link, none_in, behind_at, kept_at, passed_at, no_flip}
 use Rattle.ring_knowledge.proofs.ring_record.RingRecord.flips_passed.Goals.{After-next_with_rest-position}
+use Rattle.ring_knowledge.proofs.ring_record.RingRecord.flips_passed.Goals as goal
 
 pub returns-then-is_empty : goal.returns-then-is_empty
 returns-then-is_empty c = λ v known. sym (no_flips c.args.shape.now v c.args.at c.args.word (λ p. known.marks.free p ∙ none_in c.args.self.now.free (c.is_empty.ensures.0 c.if-is_empty.true) p))

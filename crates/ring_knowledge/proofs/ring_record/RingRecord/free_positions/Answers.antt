@@ -1,5 +1,4 @@
-use Rattle.ring_knowledge.proofs.Words.{deref, rest_all, ◌≡◌, ◌∙◌, [], ap, sym, filter, nat_le, number}
-use Rattle.ring_knowledge.proofs.FreeNumbers.{all_there, unrestored_is}
+use Rattle.ring_knowledge.proofs.Laws.{deref, rest_all, ◌≡◌, ◌∙◌, [], ap, sym, filter, nat_le, number, all_there, unrestored_is}
 use Rattle.ring_knowledge.proofs.ring_record.RingRecord.free_positions.Goals as goal
 
 pub returns : goal.returns

@@ -1,5 +1,4 @@
-use Rattle.ring_knowledge.proofs.Words.{not-false, not-true, ◌∙◌, sym, false≢true}
-use Rattle.ring_knowledge.proofs.FreeNumbers.{none_in, some_in}
+use Rattle.ring_knowledge.proofs.Laws.{not-false, not-true, ◌∙◌, sym, false≢true, none_in, some_in}
 use Rattle.ring_knowledge.proofs.ring_record.RingRecord.has_free.Goals as goal
 
 pub returns-clause-none : goal.returns-clause-none

@@ -1,5 +1,4 @@
-use Rattle.ring_knowledge.proofs.Words.{◌∙◌, ap, arith, sym, number}
-use Rattle.ring_knowledge.proofs.DeclaredMore.{room_test}
+use Rattle.ring_knowledge.proofs.Laws.{◌∙◌, ap, arith, sym, number, room_test}
 use Rattle.ring_knowledge.proofs.ring_record.RingRecord.has_room.Goals as goal
 
 pub returns : goal.returns

@@ -1,5 +1,4 @@
-use Rattle.std.proofs.Common.{◌∙◌, ◌==◌, ap, sym, arith}
-use Rattle.ring_knowledge.proofs.Borders.{border_begins, border_ends}
+use Rattle.ring_knowledge.proofs.Laws.{◌∙◌, ◌==◌, ap, sym, arith, border_begins, border_ends}
 use Rattle.ring_knowledge.proofs.ring_record.RingRecord.is_border.Goals as goal
 
 pub returns-then-length_at-gt0 : goal.returns-then-length_at-gt0

@@ -1,6 +1,4 @@
-use Rattle.ring_knowledge.proofs.Words.{◌≡◌, ◌%◌, ◌∙◌, ap, sym, arith, not, contains, nat_cmp, place_count, place_count_pos}
-use Rattle.ring_knowledge.proofs.DueNumbers.{same_due}
-use Rattle.ring_knowledge.proofs.FreeNumbers.{none_in}
+use Rattle.ring_knowledge.proofs.Laws.{◌≡◌, ◌%◌, ◌∙◌, ap, sym, arith, not, contains, nat_cmp, place_count, place_count_pos, same_due, none_in}
 use Rattle.ring_knowledge.proofs.ring_record.RingRecord.is_kept.Goals as goal
 
 pub returns-then-is_empty : goal.returns-then-is_empty

@@ -1,5 +1,4 @@
-use Rattle.std.proofs.Common.{◌∙◌, arith}
-use Rattle.ring_knowledge.proofs.MoveTests.{no_move, one_move}
+use Rattle.ring_knowledge.proofs.Laws.{◌∙◌, arith, no_move, one_move}
 use Rattle.ring_knowledge.proofs.ring_record.RingRecord.is_move.Goals as goal
 
 pub returns-in-None : goal.returns-in-None

@@ -1,5 +1,4 @@
-use Rattle.ring_knowledge.proofs.Words.{deref, rest_all, rest_more, arith, ◌≤◌, ◌≡◌, ◌∙◌, [], ap, sym, not, number, list_any, and_from, le-leb}
-use Rattle.ring_knowledge.proofs.FreeNumbers.{first_passes, not_restored_is}
+use Rattle.ring_knowledge.proofs.Laws.{deref, rest_all, rest_more, arith, ◌≤◌, ◌≡◌, ◌∙◌, [], ap, sym, not, number, list_any, and_from, le-leb, first_passes, not_restored_is}
 use Rattle.ring_knowledge.proofs.ring_record.RingRecord.is_not_restored.Goals as goal
 
 pub returns-then-not-stands_declared : goal.returns-then-not-stands_declared

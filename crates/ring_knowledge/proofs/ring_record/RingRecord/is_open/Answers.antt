@@ -1,5 +1,4 @@
-use Rattle.ring_knowledge.proofs.Words.{◌≡◌, ℕ, Bool, true, false, Option, Some, None, refl, ap, sym, ◌∙◌, is_open}
-use Rattle.std.specs.Prelude.{is_none, is_some, not}
+use Rattle.ring_knowledge.proofs.Words.{◌≡◌, ℕ, Bool, true, false, Option, Some, None, refl, ap, sym, ◌∙◌, is_open, is_none, is_some, not}
 use Rattle.ring_knowledge.proofs.ring_record.RingRecord.is_open.Goals as goal
 
 none_is : (o : Option ℕ) (b : Bool) → is_some o ≡ not b → b ≡ is_none o

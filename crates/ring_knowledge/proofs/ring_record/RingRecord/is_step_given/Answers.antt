@@ -1,5 +1,4 @@
-use Rattle.ring_knowledge.proofs.Words.{rules, ◌%◌, ap, sym, ◌∙◌, refl, max, number}
-use Rattle.ring_knowledge.proofs.WholeDescriptors.{same_note, step_not_given, step_without_link, step_with_link}
+use Rattle.ring_knowledge.proofs.Laws.{rules, ◌%◌, ap, sym, ◌∙◌, refl, max, number, same_note, step_not_given, step_without_link, step_with_link}
 use Rattle.ring_knowledge.proofs.ring_record.RingRecord.is_step_given.Goals as goal
 
 pub returns-then-not-is_noted : goal.returns-then-not-is_noted

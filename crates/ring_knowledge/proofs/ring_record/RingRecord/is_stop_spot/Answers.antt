@@ -1,5 +1,4 @@
-use Rattle.ring_knowledge.proofs.Words.{ap, sym, ◌∙◌, is_stop_spot}
-use Rattle.ring_knowledge.proofs.StopSpots.{stop_at_link, stop_at_count, stop_elsewhere, stop_reached}
+use Rattle.ring_knowledge.proofs.Laws.{ap, sym, ◌∙◌, is_stop_spot, stop_at_link, stop_at_count, stop_elsewhere, stop_reached}
 use Rattle.ring_knowledge.proofs.ring_record.RingRecord.is_stop_spot.Goals as goal
 
 pub returns-then-position-self-clause-stop : goal.returns-then-position-self-clause-stop

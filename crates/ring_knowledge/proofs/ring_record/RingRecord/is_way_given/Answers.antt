@@ -1,6 +1,4 @@
-use Rattle.ring_knowledge.proofs.Words.{ap, sym, ◌∙◌, refl, max, number}
-use Rattle.ring_knowledge.proofs.WholeDescriptors.{same_note}
-use Rattle.ring_knowledge.proofs.StopSpots.{way_without_link, way_with_link}
+use Rattle.ring_knowledge.proofs.Laws.{ap, sym, ◌∙◌, refl, max, number, same_note, way_without_link, way_with_link}
 use Rattle.ring_knowledge.proofs.ring_record.RingRecord.is_way_given.Goals as goal
 
 pub returns-in-None : goal.returns-in-None

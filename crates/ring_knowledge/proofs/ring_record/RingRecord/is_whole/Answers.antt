@@ -1,5 +1,4 @@
-use Rattle.ring_knowledge.proofs.Words.{rules, ◌<◌, ◌≤◌, ◌-◌, ◌+◌, sym, ◌∙◌, arith, slice_index, ap, cases_lt, is_step_given}
-use Rattle.ring_knowledge.proofs.WholeDescriptors.{whole, not_whole}
+use Rattle.ring_knowledge.proofs.Laws.{rules, ◌<◌, ◌≤◌, ◌-◌, ◌+◌, sym, ◌∙◌, arith, slice_index, ap, cases_lt, is_step_given, whole, not_whole}
 use Rattle.ring_knowledge.proofs.ring_record.RingRecord.is_whole.Goals as goal
 
 pub returns-then-not-is_step_given : goal.returns-then-not-is_step_given

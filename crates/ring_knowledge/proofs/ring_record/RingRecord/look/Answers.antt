@@ -1,7 +1,4 @@
-use Rattle.ring_knowledge.proofs.Words.{◌≡◌, ◌∙◌, rules, false, ap, sym, get_or, number, option_map, place_at, arith, Position, Crossing, positions_of, crossings_of}
-use Rattle.ring_knowledge.proofs.DueWrites.{found, no_crossing_of_data, no_position_of_link, no_position_elsewhere, no_crossing_elsewhere}
-use Rattle.ring_knowledge.proofs.GivenWords.{positions_none, positions_marked, positions_found, crossings_none, crossings_marked, crossings_found, no_crossing_named, no_position_named}
-use Rattle.ring_knowledge.proofs.OwnedWords.{owned_data, unowned_data, owned_link, owned_nowhere}
+use Rattle.ring_knowledge.proofs.Laws.{◌≡◌, ◌∙◌, rules, false, ap, sym, get_or, number, option_map, place_at, arith, Position, Crossing, positions_of, crossings_of, found, no_crossing_of_data, no_position_of_link, no_position_elsewhere, no_crossing_elsewhere, positions_none, positions_marked, positions_found, crossings_none, crossings_marked, crossings_found, no_crossing_named, no_position_named, owned_data, unowned_data, owned_link, owned_nowhere}
 use Rattle.ring_knowledge.proofs.ring_record.RingRecord.look.Goals as goal
 
 -- ---- a word of a data place

@@ -1,5 +1,4 @@
-use Rattle.ring_knowledge.proofs.Words.{rules, is_placement, ◌≡◌, ◌∙◌, ap, sym, arith, ceiling, floor_number, is_move, place_count_pos, number}
-use Rattle.ring_knowledge.proofs.MoveTests.{no_move_between}
+use Rattle.ring_knowledge.proofs.Laws.{rules, is_placement, ◌≡◌, ◌∙◌, ap, sym, arith, ceiling, floor_number, is_move, place_count_pos, number, no_move_between}
 use Rattle.ring_knowledge.proofs.ring_record.RingRecord.may_be_bound.Goals as goal
 
 pub returns-then-ceiling-floor : goal.returns-then-ceiling-floor

@@ -1,5 +1,4 @@
-use Rattle.ring_knowledge.proofs.Words.{rules, ◌≡◌, ◌+◌, ◌<◌, ◌∙◌, sym, ap, arith, place_count, declared, ceiling, is_move}
-use Rattle.ring_knowledge.proofs.MoveTests.{no_move_between}
+use Rattle.ring_knowledge.proofs.Laws.{rules, ◌≡◌, ◌+◌, ◌<◌, ◌∙◌, sym, ap, arith, place_count, declared, ceiling, is_move, no_move_between}
 use Rattle.ring_knowledge.proofs.ring_record.RingRecord.may_move_on.Goals as goal
 
 pub returns-then-most-least : goal.returns-then-most-least

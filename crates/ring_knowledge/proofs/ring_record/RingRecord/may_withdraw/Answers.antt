@@ -1,6 +1,4 @@
-use Rattle.ring_knowledge.proofs.Words.{rules, not, list_any, range_with_len, contains, nat_cmp, eq-eqb, ne_eqb, descriptor_length}
-use Rattle.ring_knowledge.proofs.Ranges.{any_same_from}
-use Rattle.ring_knowledge.proofs.Withdrawn.{length_is}
+use Rattle.ring_knowledge.proofs.Laws.{rules, not, list_any, range_with_len, contains, nat_cmp, eq-eqb, ne_eqb, descriptor_length, any_same_from, length_is}
 use Rattle.ring_knowledge.proofs.ring_record.RingRecord.may_withdraw.Goals as goal
 
 pub returns-then-count-ne0 : goal.returns-then-count-ne0

@@ -1,5 +1,4 @@
-use Rattle.std.proofs.Common.{arith}
-use Rattle.ring_knowledge.proofs.NamedNow.{named_nowhere, named_first, named_beyond}
+use Rattle.ring_knowledge.proofs.Laws.{arith, named_nowhere, named_first, named_beyond}
 use Rattle.ring_knowledge.proofs.ring_record.RingRecord.named.Goals as goal
 
 pub returns-in-None-clause-value : goal.returns-in-None-clause-value

@@ -1,6 +1,4 @@
-use Rattle.std.proofs.Common.{◌∙◌, ap, refl, length, arith, replicate, false}
-use Rattle.ring_knowledge.proofs.NewRecord.{new_marks}
-use Rattle.ring_knowledge.proofs.GivenCount.{new_stop}
+use Rattle.ring_knowledge.proofs.Laws.{◌∙◌, ap, refl, length, arith, replicate, false, new_marks, new_stop}
 use Rattle.ring_knowledge.proofs.ring_record.RingRecord.new.Goals as goal
 
 pub returns : goal.returns

@@ -1,6 +1,4 @@
-use Rattle.ring_knowledge.proofs.Words.{◌≡◌, ◌%◌, ◌∙◌, rules, Some, true, refl, ap, sym, set, place_count, Writes, changed, Position, Crossing, positions_of, crossings_of}
-use Rattle.ring_knowledge.proofs.GivenCount.{counts_on, written_step}
-use Rattle.ring_knowledge.proofs.NotedWrites.{nothing_noted, position_noted, crossing_noted, over_a_link}
+use Rattle.ring_knowledge.proofs.Laws.{◌≡◌, ◌%◌, ◌∙◌, rules, Some, true, refl, ap, sym, set, place_count, Writes, changed, Position, Crossing, positions_of, crossings_of, counts_on, written_step, nothing_noted, position_noted, crossing_noted, over_a_link}
 use Rattle.ring_knowledge.proofs.ring_record.RingRecord.note_giving.Goals as goal
 
 pub returns-in-None : goal.returns-in-None

@@ -1,5 +1,4 @@
-use Rattle.ring_knowledge.proofs.Words.{◌∙◌, ap, subst, arith, number, after, Reaches, changed, is_reached, FollowsRing}
-use Rattle.ring_knowledge.proofs.PassedBlocks.{behind_reached}
+use Rattle.ring_knowledge.proofs.Laws.{◌∙◌, ap, subst, arith, number, after, Reaches, changed, is_reached, FollowsRing, behind_reached}
 use Rattle.ring_knowledge.proofs.ring_record.RingRecord.pass.Goals as goal
 
 pub returns-then-position-end : goal.returns-then-position-end

@@ -1,7 +1,6 @@
-use Rattle.ring_knowledge.proofs.Words.{rules, ◌≡◌, ◌%◌, ◌<◌, ◌≤◌, ◌+◌, ◌∙◌, sym, arith, eqb-true, eqb-false, number, place_count, cycle_of, place_at-Data}
-use Rattle.ring_knowledge.proofs.DueWrites.{gives-data, gives-other_word, gives-other_cycle}
-use Rattle.ring_knowledge.proofs.ring_record.RingRecord.position_by.Goals as goal
+use Rattle.ring_knowledge.proofs.Laws.{rules, ◌≡◌, ◌%◌, ◌<◌, ◌≤◌, ◌+◌, ◌∙◌, sym, arith, eqb-true, eqb-false, number, place_count, cycle_of, place_at-Data, gives-data, gives-other_word, gives-other_cycle}
 use Rattle.ring_knowledge.proofs.ring_record.RingRecord.position_by.Goals.{After-next_with_rest-position}
+use Rattle.ring_knowledge.proofs.ring_record.RingRecord.position_by.Goals as goal
 
 pub next_with_rest-position-requires-clause-rest : goal.next_with_rest-position-requires-clause-rest
 next_with_rest-position-requires-clause-rest c =

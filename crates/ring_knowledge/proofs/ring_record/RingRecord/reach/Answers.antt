@@ -1,6 +1,4 @@
-use Rattle.ring_knowledge.proofs.Words.{◌≡◌, ◌∙◌, Some, refl, ap, sym, arith, number, link_crossed, floor_number, is_step_given, is_way_given}
-use Rattle.ring_knowledge.proofs.ClearedMarks.{same_places, same_numbers}
-use Rattle.ring_knowledge.proofs.ReachedSpots.{reached_marks}
+use Rattle.ring_knowledge.proofs.Laws.{◌≡◌, ◌∙◌, Some, refl, ap, sym, arith, number, link_crossed, floor_number, is_step_given, is_way_given, same_places, same_numbers, reached_marks}
 use Rattle.ring_knowledge.proofs.ring_record.RingRecord.reach.Goals as goal
 
 pub returns : goal.returns

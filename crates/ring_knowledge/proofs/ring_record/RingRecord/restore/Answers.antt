@@ -1,5 +1,4 @@
-use Rattle.ring_knowledge.proofs.Words.{refl}
-use Rattle.ring_knowledge.proofs.Withdrawn.{restored_now}
+use Rattle.ring_knowledge.proofs.Laws.{refl, restored_now}
 use Rattle.ring_knowledge.proofs.ring_record.RingRecord.restore.Goals as goal
 
 pub returns : goal.returns

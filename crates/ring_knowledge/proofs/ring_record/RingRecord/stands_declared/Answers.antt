@@ -1,5 +1,4 @@
-use Rattle.ring_knowledge.proofs.Words.{◌-◌, ap, sym, ◌∙◌, ◌≡◌, if◌then◌else◌, slice_get, block_at, same_words, with_cycle, address_of, cycle_of, address_aligned}
-use Rattle.ring_knowledge.proofs.Declared.{nothing_declared, declared_here, cycle_bit}
+use Rattle.ring_knowledge.proofs.Laws.{◌-◌, ap, sym, ◌∙◌, ◌≡◌, if◌then◌else◌, slice_get, block_at, same_words, with_cycle, address_of, cycle_of, address_aligned, nothing_declared, declared_here, cycle_bit}
 use Rattle.ring_knowledge.proofs.ring_record.RingRecord.stands_declared.Goals as goal
 
 pub returns-in_default : goal.returns-in_default

@@ -1,6 +1,4 @@
-use Rattle.ring_knowledge.proofs.Words.{subst, sym, ◌∙◌, FollowsRing, Holds, Reaches, changed}
-use Rattle.ring_knowledge.proofs.StopSpots.{stop_reached}
-use Rattle.ring_knowledge.proofs.PassedBlocks.{held_reached}
+use Rattle.ring_knowledge.proofs.Laws.{subst, sym, ◌∙◌, FollowsRing, Holds, Reaches, changed, stop_reached, held_reached}
 use Rattle.ring_knowledge.proofs.ring_record.RingRecord.stop_at.Goals as goal
 
 pub returns : goal.returns

@@ -1,5 +1,4 @@
-use Rattle.ring_knowledge.proofs.Words.{ap, sym, ◌∙◌, stopped_number}
-use Rattle.ring_knowledge.proofs.StopSpots.{stopped_before, stopped_behind, stopped_at_link}
+use Rattle.ring_knowledge.proofs.Laws.{ap, sym, ◌∙◌, stopped_number, stopped_before, stopped_behind, stopped_at_link}
 use Rattle.ring_knowledge.proofs.ring_record.RingRecord.stopped_number.Goals as goal
 
 pub returns-then-position-self : goal.returns-then-position-self

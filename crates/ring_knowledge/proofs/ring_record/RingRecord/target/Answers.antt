@@ -1,5 +1,4 @@
-use Rattle.ring_knowledge.proofs.Words.{rules, number, declared}
-use Rattle.ring_knowledge.proofs.NamedNow.{target_is, few_within}
+use Rattle.ring_knowledge.proofs.Laws.{rules, number, declared, target_is, few_within}
 use Rattle.ring_knowledge.proofs.ring_record.RingRecord.target.Goals as goal
 
 pub returns-clause-value : goal.returns-clause-value

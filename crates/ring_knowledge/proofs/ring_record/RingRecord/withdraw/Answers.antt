@@ -1,6 +1,4 @@
-use Rattle.ring_knowledge.proofs.Words.{rules, length-no_ops, length, ◌-◌, ◌≤◌, arith, ◌≡◌, ◌∙◌, ◌%◌, ◌&&◌, ◌||◌, if◌then◌else◌, refl, ap, sym, number, floor_number, place_count, slice_index, is_in, is_noted, no_ops, contains, nat_cmp}
-use Rattle.ring_knowledge.proofs.WholeDescriptors.{same_note}
-use Rattle.ring_knowledge.proofs.Withdrawn.{back, from_in, none_before, none_free_before, same_sets, withdrawn_here, begins_at}
+use Rattle.ring_knowledge.proofs.Laws.{rules, length-no_ops, length, ◌-◌, ◌≤◌, arith, ◌≡◌, ◌∙◌, ◌%◌, ◌&&◌, ◌||◌, if◌then◌else◌, refl, ap, sym, number, floor_number, place_count, slice_index, is_in, is_noted, no_ops, contains, nat_cmp, same_note, back, from_in, none_before, none_free_before, same_sets, withdrawn_here, begins_at}
 use Rattle.ring_knowledge.proofs.ring_record.RingRecord.withdraw.Goals as goal
 
 pub returns-in-Err-clause-err : goal.returns-in-Err-clause-err

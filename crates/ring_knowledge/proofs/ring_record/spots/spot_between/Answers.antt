@@ -1,5 +1,4 @@
-use Rattle.ring_knowledge.proofs.Words.{sym, ◌∙◌, arith, rank_most}
-use Rattle.ring_knowledge.proofs.SpotsBetween.{none_between, first_between, first_beyond, first_other}
+use Rattle.ring_knowledge.proofs.Laws.{sym, ◌∙◌, arith, rank_most, none_between, first_between, first_beyond, first_other}
 use Rattle.ring_knowledge.proofs.ring_record.spots.spot_between.Goals as goal
 
 pub returns-in-None-clause-value : goal.returns-in-None-clause-value

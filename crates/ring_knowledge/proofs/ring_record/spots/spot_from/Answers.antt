@@ -1,6 +1,4 @@
-use Rattle.ring_knowledge.proofs.Words.{◌≡◌, ◌%◌, ap, sym, refl, ◌∙◌, arith, place_count}
-use Rattle.ring_knowledge.proofs.DueWrites.{found}
-use Rattle.ring_knowledge.proofs.SpotsAt.{nowhere_off, nowhere_else, first_position, first_crossing_at}
+use Rattle.ring_knowledge.proofs.Laws.{◌≡◌, ◌%◌, ap, sym, refl, ◌∙◌, arith, place_count, found, nowhere_off, nowhere_else, first_position, first_crossing_at}
 use Rattle.ring_knowledge.proofs.ring_record.spots.spot_from.Goals as goal
 
 pub returns-then-address-ne0-clause-spot : goal.returns-then-address-ne0-clause-spot

@@ -1,5 +1,4 @@
-use Rattle.ring_knowledge.proofs.Words.{◌∙◌, sym, arith, contains, nat_cmp}
-use Rattle.ring_knowledge.proofs.Ranges.{any_at, any_none}
+use Rattle.ring_knowledge.proofs.Laws.{◌∙◌, sym, arith, contains, nat_cmp, any_at, any_none}
 use Rattle.ring_knowledge.proofs.ring_record.withdrawals.has_some.Goals as goal
 
 pub returns-then-contains : goal.returns-then-contains

@@ -1,5 +1,4 @@
-use Rattle.ring_knowledge.proofs.Words.{◌≡◌, ◌+◌, ◌-◌, ◌∙◌, ap, sym, arith, suc, set, no_ops, no_op}
-use Rattle.ring_knowledge.proofs.Withdrawn.{none_no_op, one_no_op}
+use Rattle.ring_knowledge.proofs.Laws.{◌≡◌, ◌+◌, ◌-◌, ◌∙◌, ap, sym, arith, suc, set, no_ops, no_op, none_no_op, one_no_op}
 use Rattle.ring_knowledge.proofs.ring_record.withdrawals.put_no_ops.Goals as goal
 
 pub loop-position-init : goal.loop-position-init

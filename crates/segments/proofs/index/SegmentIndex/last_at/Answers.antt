@@ -1,5 +1,4 @@
-use Rattle.segments.proofs.Words.{Start, arith}
-use Rattle.segments.proofs.IndexSearch.{last_here}
+use Rattle.segments.proofs.UpperLaws.{Start, arith, last_here}
 use Rattle.segments.proofs.index.SegmentIndex.last_at.Goals.{else-next-starts-via-then-next-starts+else-starts-next, else-next-starts-via-else-next-starts}
 use Rattle.segments.proofs.index.SegmentIndex.last_at.Goals as goal
 

@@ -1,5 +1,4 @@
-use Rattle.segments.proofs.Words.{Start, ◌≡◌, ◌≤◌, List, true, false, length, sym, subst, ap, arith, leb, rules, IsNonDecreasingBy, IsPartitionPoint, IsPartitionPoint-from_clause, IsPartitionedBy-leb}
-use Rattle.segments.proofs.IndexSearch.{nothing_starts, last_found}
+use Rattle.segments.proofs.UpperLaws.{Start, ◌≡◌, ◌≤◌, List, true, false, length, sym, subst, ap, arith, leb, rules, IsNonDecreasingBy, IsPartitionPoint, IsPartitionPoint-from_clause, IsPartitionedBy-leb, nothing_starts, last_found}
 use Rattle.segments.proofs.index.SegmentIndex.last_by_search.Goals as goal
 
 pub returns-then-after-eq0 : goal.returns-then-after-eq0

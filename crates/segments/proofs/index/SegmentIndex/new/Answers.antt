@@ -1,5 +1,4 @@
-use Rattle.segments.proofs.Words.{rules, IsNonDecreasingBy-from_sort_by_key}
-use Rattle.segments.proofs.IndexSearch.{all_starts, each_starts}
+use Rattle.segments.proofs.UpperLaws.{rules, IsNonDecreasingBy-from_sort_by_key, all_starts, each_starts}
 use Rattle.segments.proofs.index.SegmentIndex.new.Goals as goal
 
 pub returns : goal.returns

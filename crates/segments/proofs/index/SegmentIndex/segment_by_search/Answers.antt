@@ -1,5 +1,4 @@
-use Rattle.segments.proofs.Words.{◌≡◌, ◌-◌, ◌≤◌, ℕ, List, true, false, length, sym, subst, ap, arith, leb, rules, IsNonDecreasingBy, IsPartitionPoint, IsPartitionPoint-from_clause, IsPartitionedBy-leb}
-use Rattle.segments.proofs.IndexSearch.{firsts_rise, segment_found}
+use Rattle.segments.proofs.UpperLaws.{◌≡◌, ◌-◌, ◌≤◌, ℕ, List, true, false, length, sym, subst, ap, arith, leb, rules, IsNonDecreasingBy, IsPartitionPoint, IsPartitionPoint-from_clause, IsPartitionedBy-leb, firsts_rise, segment_found}
 use Rattle.segments.proofs.index.SegmentIndex.segment_by_search.Goals as goal
 
 pub returns : goal.returns

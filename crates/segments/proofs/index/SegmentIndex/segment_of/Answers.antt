@@ -1,5 +1,4 @@
-use Rattle.segments.proofs.Words.{rules}
-use Rattle.segments.proofs.IndexSearch.{only_segment}
+use Rattle.segments.proofs.UpperLaws.{rules, only_segment}
 use Rattle.segments.proofs.index.SegmentIndex.segment_of.Goals as goal
 
 pub returns-then-len-eq1 : goal.returns-then-len-eq1

@@ -1,7 +1,4 @@
-use Rattle.segments.proofs.Words.{◌≡◌, ◌%◌, ◌+◌, ◌∙◌, arith, refl, data_count}
-use Rattle.segments.proofs.Blocks.{segment_at, before, before-next}
-use Rattle.segments.proofs.ShapeFacts.{shape_facts}
-use Rattle.segments.proofs.Lookups.{ahead_here, first_is, lap_place, segment_is, sees_from}
+use Rattle.segments.proofs.UpperLaws.{◌≡◌, ◌%◌, ◌+◌, ◌∙◌, arith, refl, data_count, segment_at, before, before-next, shape_facts, ahead_here, first_is, lap_place, segment_is, sees_from}
 use Rattle.segments.proofs.shape.RingShape.address.Goals as goal
 
 pub index-requires : goal.index-requires

@@ -1,5 +1,4 @@
-use Rattle.segments.proofs.Words.{AreMultiples, ◌%◌, ◌≢◌, ◌∙◌, ap, sym}
-use Rattle.segments.proofs.Lookups.{crossed_between}
+use Rattle.segments.proofs.UpperLaws.{AreMultiples, ◌%◌, ◌≢◌, ◌∙◌, ap, sym, crossed_between}
 use Rattle.segments.proofs.shape.RingShape.crossing.Goals as goal
 
 pub returns-then-q-from-ne0-clause-value : goal.returns-then-q-from-ne0-clause-value

@@ -1,11 +1,6 @@
-use Rattle.segments.proofs.Words.{Shape, IsSegmentOf, ◌≡◌, ◌≢◌, ◌%◌, ◌*◌, ◌-◌, ◌+◌, ◌<◌, ◌∙◌, arith, rules, refl, sym, ap, length, Some, mod-lt, data_count, link_crossed}
-use Rattle.segments.proofs.Blocks.{segment_at, before, before-next}
-use Rattle.segments.proofs.DataPlaces.{place_count_most}
-use Rattle.segments.proofs.ShapeFacts.{shape_facts}
-use Rattle.segments.proofs.Crossings.{crosses}
-use Rattle.segments.proofs.Lookups.{first_is, lap_place, segment_is, sees_from, past_before, past_all, crossed_here, crossed_nowhere, count_within}
-use Rattle.segments.proofs.shape.RingShape.crossing_by_segment.Goals as goal
+use Rattle.segments.proofs.UpperLaws.{Shape, IsSegmentOf, ◌≡◌, ◌≢◌, ◌%◌, ◌*◌, ◌-◌, ◌+◌, ◌<◌, ◌∙◌, arith, rules, refl, sym, ap, length, Some, mod-lt, data_count, link_crossed, segment_at, before, before-next, place_count_most, shape_facts, crosses, first_is, lap_place, segment_is, sees_from, past_before, past_all, crossed_here, crossed_nowhere, count_within}
 use Rattle.segments.proofs.shape.RingShape.crossing_by_segment.Goals.{After-data_blocks-data, After-from, After-from-2}
+use Rattle.segments.proofs.shape.RingShape.crossing_by_segment.Goals as goal
 
 -- the place before the crossing is one of the lap's
 lap : (c : After-from) → (c.args.q - 1) % c.from.result < 64 * 4096

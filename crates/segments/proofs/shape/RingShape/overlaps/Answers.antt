@@ -1,6 +1,4 @@
-use Rattle.segments.proofs.Words.{min, IsLastOf, IsLastStart, ◌≡◌, ◌+◌, ◌-◌, ◌*◌, ◌^◌, ◌∙◌, arith, ap, sym, subst, false, get_or_read, Shape, overlap, touches}
-use Rattle.segments.proofs.Blocks.{segment_at}
-use Rattle.segments.proofs.Touching.{nothing_touched, touched_last}
+use Rattle.segments.proofs.UpperLaws.{min, IsLastOf, IsLastStart, ◌≡◌, ◌+◌, ◌-◌, ◌*◌, ◌^◌, ◌∙◌, arith, ap, sym, subst, false, get_or_read, Shape, overlap, touches, segment_at, nothing_touched, touched_last}
 use Rattle.segments.proofs.shape.RingShape.overlaps.Goals as goal
 
 pub returns-in_default : goal.returns-in_default

@@ -1,5 +1,4 @@
-use Rattle.segments.proofs.Words.{◌∙◌}
-use Rattle.segments.proofs.Touching.{all_touch}
+use Rattle.segments.proofs.UpperLaws.{◌∙◌, all_touch}
 use Rattle.segments.proofs.shape.RingShape.overlaps_ring.Goals as goal
 
 pub returns : goal.returns

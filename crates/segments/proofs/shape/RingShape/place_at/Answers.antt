@@ -1,12 +1,7 @@
-use Rattle.segments.proofs.Words.{ℕ, IsNear, ◌≡◌, ◌%◌, ◌+◌, ◌/◌, ◌<◌, ◌∙◌, if◌then◌else◌, arith, refl, sym, ap, subst, length, Some, None, nat_lt, lt-ltb, le-ltb, cond-true, cond-false, data_count, place_count, place_at}
+use Rattle.segments.proofs.UpperLaws.{ℕ, IsNear, ◌≡◌, ◌%◌, ◌+◌, ◌/◌, ◌<◌, ◌∙◌, if◌then◌else◌, arith, refl, sym, ap, subst, length, Some, None, nat_lt, lt-ltb, le-ltb, cond-true, cond-false, data_count, place_count, place_at, segment_at, before, place_count_most, shape_facts, place_at-Link, first_is, segment_is, sees_from, outside_none, outside_near, place_here, place_nowhere, count_within}
 use Rattle.segments.specs.declared.place.Place.TheVariants.{Data, Link}
-use Rattle.segments.proofs.Blocks.{segment_at, before}
-use Rattle.segments.proofs.DataPlaces.{place_count_most}
-use Rattle.segments.proofs.ShapeFacts.{shape_facts}
-use Rattle.segments.proofs.PlaceAtLemmas.{place_at-Link}
-use Rattle.segments.proofs.Lookups.{first_is, segment_is, sees_from, outside_none, outside_near, place_here, place_nowhere, count_within}
-use Rattle.segments.proofs.shape.RingShape.place_at.Goals as goal
 use Rattle.segments.proofs.shape.RingShape.place_at.Goals.{After-self, In_ok-block}
+use Rattle.segments.proofs.shape.RingShape.place_at.Goals as goal
 
 -- the segment that may have the address
 near_is : (c : After-self) → IsNear c.self.inside.segments.items c.args.address (Some c.in_ok-number.number)

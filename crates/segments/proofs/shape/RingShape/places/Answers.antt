@@ -1,5 +1,4 @@
-use Rattle.std.proofs.Common.{arith}
-use Rattle.segments.proofs.DataPlaces.{place_count_most}
+use Rattle.segments.proofs.UpperLaws.{arith, place_count_most}
 use Rattle.segments.proofs.shape.RingShape.places.Goals as goal
 
 pub returns-clause-most : goal.returns-clause-most

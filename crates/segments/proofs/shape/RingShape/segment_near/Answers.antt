@@ -1,5 +1,4 @@
-use Rattle.segments.proofs.Words.{IsNear, ◌≡◌, arith, ap, sym, subst, length}
-use Rattle.segments.proofs.Lookups.{near_from_last}
+use Rattle.segments.proofs.UpperLaws.{IsNear, ◌≡◌, arith, ap, sym, subst, length, near_from_last}
 use Rattle.segments.proofs.shape.RingShape.segment_near.Goals as goal
 
 pub returns-then-len-eq1-clause-near : goal.returns-then-len-eq1-clause-near

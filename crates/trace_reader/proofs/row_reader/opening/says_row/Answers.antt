@@ -1,8 +1,6 @@
-use Rattle.trace_reader.proofs.Words.{◌+◌, ◌∷◌, ◌++◌, ◌∙◌, [], refl, ap, sym, lines_of, state_of, ahead_of}
-use Rattle.trace_reader.proofs.Streaming.FirstLines.{IsCut, ended_left}
-use Rattle.trace_reader.proofs.Streaming.Openings.{told_bad, told_ring, told_row}
-use Rattle.trace_reader.proofs.row_reader.opening.says_row.Goals as goal
+use Rattle.trace_reader.proofs.Laws.{◌+◌, ◌∷◌, ◌++◌, ◌∙◌, [], refl, ap, sym, lines_of, state_of, ahead_of, IsCut, ended_left, told_bad, told_ring, told_row}
 use Rattle.trace_reader.proofs.row_reader.opening.says_row.Goals.{After-first_line-line}
+use Rattle.trace_reader.proofs.row_reader.opening.says_row.Goals as goal
 
 cut : (c : After-first_line-line) → IsCut (ahead_of c.args.ahead.now) c.first_line-line.result.0 c.first_line-line.result.1.now
 cut c = record { whole = sym c.as_slice.ensures ∙ c.first_line-line.ensures.whole; one = c.first_line-line.ensures.one }

@@ -1,9 +1,6 @@
-use Rattle.trace_reader.proofs.Words.{arith, ◌+◌, ◌∷◌, ◌++◌, [], refl, ap, sym, ahead_of}
-use Rattle.trace_reader.proofs.LineFields.{some_lines}
-use Rattle.trace_reader.proofs.Streaming.Calls.{StandsAhead, bad_told, cut_of, no_row, row_given}
-use Rattle.trace_reader.proofs.Streaming.FirstLines.{ended_left}
-use Rattle.trace_reader.proofs.row_reader.rows.row_behind_reads.Goals as goal
+use Rattle.trace_reader.proofs.Laws.{arith, ◌+◌, ◌∷◌, ◌++◌, [], refl, ap, sym, ahead_of, some_lines, StandsAhead, bad_told, cut_of, no_row, row_given, ended_left}
 use Rattle.trace_reader.proofs.row_reader.rows.row_behind_reads.Goals.{After-first_line-line}
+use Rattle.trace_reader.proofs.row_reader.rows.row_behind_reads.Goals as goal
 
 stands : (g : _) (c : After-first_line-line g) →
     StandsAhead (g.S.Source.held c.args.source.now) (g.S.Source.held c.fill_line.new.source) (ahead_of c.args.ahead.now) (ahead_of c.fill_line.new.self) c.as_slice.result.now c.first_line-line.result.0 c.first_line-line.result.1.now

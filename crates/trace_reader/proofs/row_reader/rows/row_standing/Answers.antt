@@ -1,7 +1,4 @@
-use Rattle.trace_reader.proofs.Words.{arith, ◌+◌, ◌∷◌, ◌++◌, [], refl, sym, ap, ahead_of}
-use Rattle.trace_reader.proofs.LineFields.{some_lines}
-use Rattle.trace_reader.proofs.Streaming.Calls.{StandsAhead, cut_of, nothing_came, row_given}
-use Rattle.trace_reader.proofs.Streaming.FirstLines.{ended_left}
+use Rattle.trace_reader.proofs.Laws.{arith, ◌+◌, ◌∷◌, ◌++◌, [], refl, sym, ap, ahead_of, some_lines, StandsAhead, cut_of, nothing_came, row_given, ended_left}
 use Rattle.trace_reader.proofs.row_reader.rows.row_standing.Goals as goal
 
 pub returns-clause-row : goal.returns-clause-row

@@ -1,4 +1,4 @@
-use Rattle.std.specs.Io.KnownBytes.{Keeps}
+use Rattle.trace_reader.proofs.Words.{Keeps}
 use Rattle.trace_reader.proofs.row_reader.source.read_some.Given as goal
 
 -- what was tried so far gave nothing

@@ -1,5 +1,4 @@
-use Rattle.trace_reader.proofs.Words.{◌≤◌, arith, state_of}
-use Rattle.trace_reader.proofs.Streaming.TextLines.{few_rows, rows_fit, valid}
+use Rattle.trace_reader.proofs.Laws.{◌≤◌, arith, state_of, few_rows, rows_fit, valid}
 use Rattle.trace_reader.proofs.row_reader.whole_text.finish.Goals as goal
 
 pub invariant_of-result : goal.invariant_of-result

@@ -1,6 +1,4 @@
-use Rattle.trace_reader.proofs.Words.{true, eqb-true, length, sym, lines_of, take_lines, state_of, start}
-use Rattle.trace_reader.proofs.ReadSteps.{nothing_before}
-use Rattle.trace_reader.proofs.Streaming.TextLines.{all_read, each, line_bad, line_more}
+use Rattle.trace_reader.proofs.Laws.{true, eqb-true, length, sym, lines_of, take_lines, state_of, start, nothing_before, all_read, each, line_bad, line_more}
 use Rattle.trace_reader.proofs.row_reader.whole_text.read_rows.Goals as goal
 
 pub loop-rest-init : goal.loop-rest-init

@@ -1,5 +1,4 @@
-use Rattle.trace_reader.proofs.Words.{length, lines_of, state_of}
-use Rattle.trace_reader.proofs.Streaming.TextLines.{HasLines}
+use Rattle.trace_reader.proofs.Laws.{length, lines_of, state_of, HasLines}
 use Rattle.trace_reader.proofs.row_reader.whole_text.read_rows.Given as goal
 
 -- the text that is left

@@ -1,6 +1,4 @@
-use Rattle.trace_reader.proofs.Words.{◌≡◌, ◌||◌, ◌∙◌, false, ap, map, rules, segments_overlap, list_any}
-use Rattle.segments.specs.ShapeValue.{segment_of}
-use Rattle.trace_reader.proofs.SegmentsSearched.{added}
+use Rattle.trace_reader.proofs.Laws.{◌≡◌, ◌||◌, ◌∙◌, false, ap, map, rules, segments_overlap, list_any, segment_of, added}
 use Rattle.trace_reader.proofs.segments_so_far.SegmentsSoFar.add.Goals as goal
 
 pub invariant_of-self-2 : goal.invariant_of-self-2

@@ -1,5 +1,4 @@
-use Rattle.trace_reader.proofs.Words.{◌+◌, ◌∷◌, drop, get_or, rules, subst, drop_more}
-use Rattle.trace_reader.proofs.SegmentsSearched.{AreLeft, one_less}
+use Rattle.trace_reader.proofs.Laws.{◌+◌, ◌∷◌, drop, get_or, rules, subst, drop_more, AreLeft, one_less}
 use Rattle.trace_reader.proofs.segments_so_far.SegmentsSoFar.add_all.Goals as goal
 
 pub loop-segment-preserved : goal.loop-segment-preserved

@@ -1,5 +1,4 @@
-use Rattle.std.proofs.Common.{drop}
-use Rattle.trace_reader.proofs.SegmentsSearched.{AreLeft}
+use Rattle.trace_reader.proofs.Laws.{drop, AreLeft}
 use Rattle.trace_reader.proofs.segments_so_far.SegmentsSoFar.add_all.Given as goal
 
 -- the segments that are still to be added

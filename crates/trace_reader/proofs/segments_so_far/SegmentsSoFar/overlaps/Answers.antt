@@ -1,5 +1,4 @@
-use Rattle.trace_reader.proofs.Words.{◌≡◌, ◌+◌, ◌-◌, ◌*◌, ◌^◌, ◌∙◌, ap, min, rules, sym, segments_overlap, list_any}
-use Rattle.trace_reader.proofs.SegmentsSearched.{last_met, none_met}
+use Rattle.trace_reader.proofs.Laws.{◌≡◌, ◌+◌, ◌-◌, ◌*◌, ◌^◌, ◌∙◌, ap, min, rules, sym, segments_overlap, list_any, last_met, none_met}
 use Rattle.trace_reader.proofs.segments_so_far.SegmentsSoFar.overlaps.Goals as goal
 
 pub returns-in_default : goal.returns-in_default

@@ -1,5 +1,4 @@
-use Rattle.trace_reader.proofs.Words.{refl, err_from_is_err_and, state_of, value_of}
-use Rattle.trace_reader.proofs.ReadSteps.{line_entry, line_error}
+use Rattle.trace_reader.proofs.Laws.{refl, err_from_is_err_and, state_of, value_of, line_entry, line_error}
 use Rattle.trace_reader.proofs.so_far.TraceSoFar.add_entry.Goals as goal
 
 pub returns-in_err-row-clause-err : goal.returns-in_err-row-clause-err

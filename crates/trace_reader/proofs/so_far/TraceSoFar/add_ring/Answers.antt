@@ -1,8 +1,5 @@
-use Rattle.trace_reader.proofs.Words.{arith, ◌≡◌, ◌<◌, ◌||◌, ◌∙◌, false, ap, rules, sym, clash, list_any}
+use Rattle.trace_reader.proofs.Laws.{arith, ◌≡◌, ◌<◌, ◌||◌, ◌∙◌, false, ap, rules, sym, clash, list_any, some_lines, all_with, none_overlapped, its_segments, one_ring_more, placed_well}
 use Rattle.trace_reader.specs.SegmentsApart.{segments_of}
-use Rattle.trace_reader.proofs.LineFields.{some_lines}
-use Rattle.trace_reader.proofs.RingsClash.{all_with, none_overlapped}
-use Rattle.trace_reader.proofs.RingsGrow.{its_segments, one_ring_more, placed_well}
 use Rattle.trace_reader.proofs.so_far.TraceSoFar.add_ring.Goals as goal
 
 pub add_all-requires-clause-some : goal.add_all-requires-clause-some

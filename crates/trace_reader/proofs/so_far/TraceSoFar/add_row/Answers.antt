@@ -1,6 +1,4 @@
-use Rattle.trace_reader.proofs.Words.{arith, ◌∙◌, sym, err_from_is_err_and, row_of, state_of, SaysRow}
-use Rattle.trace_reader.proofs.LineFields.{some_lines}
-use Rattle.trace_reader.proofs.RowLines.{behind_noted, placed_error}
+use Rattle.trace_reader.proofs.Laws.{arith, ◌∙◌, sym, err_from_is_err_and, row_of, state_of, SaysRow, some_lines, behind_noted, placed_error}
 use Rattle.trace_reader.proofs.so_far.TraceSoFar.add_row.Goals as goal
 
 pub returns-in_err-row-clause-err : goal.returns-in_err-row-clause-err

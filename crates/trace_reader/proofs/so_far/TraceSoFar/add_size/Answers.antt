@@ -1,6 +1,4 @@
-use Rattle.trace_reader.proofs.Words.{sym, arith, state_of}
-use Rattle.trace_reader.proofs.LineFields.{some_lines}
-use Rattle.trace_reader.proofs.ReadSteps.{size_read, no_size}
+use Rattle.trace_reader.proofs.Laws.{sym, arith, state_of, some_lines, size_read, no_size}
 use Rattle.trace_reader.proofs.so_far.TraceSoFar.add_size.Goals as goal
 
 pub returns-in_default-clause-err : goal.returns-in_default-clause-err

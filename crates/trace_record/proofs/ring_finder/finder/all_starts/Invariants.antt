@@ -1,4 +1,4 @@
-use Rattle.trace_record.proofs.Words.{◌≡◌, take, starts_from}
+use Rattle.trace_record.proofs.BaseWords.{◌≡◌, take, starts_from}
 use Rattle.trace_record.proofs.ring_finder.finder.all_starts.Given as goal
 
 abbrev pub invariant-loop-number : goal.invariant-loop-number

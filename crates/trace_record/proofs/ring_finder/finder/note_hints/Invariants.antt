@@ -1,4 +1,4 @@
-use Rattle.trace_record.proofs.Words.{AreHints}
+use Rattle.trace_record.proofs.BaseWords.{AreHints}
 use Rattle.trace_record.proofs.ring_finder.finder.note_hints.Given as goal
 
 abbrev pub invariant-loop-number : goal.invariant-loop-number

@@ -1,4 +1,4 @@
-use Rattle.trace_record.proofs.Words.{◌≡◌, ◌++◌, map, take, start_of}
+use Rattle.trace_record.proofs.BaseWords.{◌≡◌, ◌++◌, map, take, start_of}
 use Rattle.trace_record.proofs.ring_finder.finder.push_starts.Given as goal
 
 abbrev pub invariant-loop-segment : goal.invariant-loop-segment

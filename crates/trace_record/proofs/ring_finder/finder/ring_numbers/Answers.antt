@@ -1,4 +1,4 @@
-use Rattle.trace_record.proofs.Words.{◌+◌, rules, ℕ, sym, subst, length, set, refl, Some, slice_get_read, AreNumbers, one_number}
+use Rattle.trace_record.proofs.Laws.{◌+◌, rules, ℕ, sym, subst, length, set, refl, Some, slice_get_read, AreNumbers, one_number}
 use Rattle.trace_record.proofs.ring_finder.finder.ring_numbers.Goals as goal
 
 pub loop-number-preserved : goal.loop-number-preserved

@@ -1,4 +1,4 @@
-use Rattle.trace_record.proofs.Words.{AreNumbers}
+use Rattle.trace_record.proofs.BaseWords.{AreNumbers}
 use Rattle.trace_record.proofs.ring_finder.finder.ring_numbers.Given as goal
 
 abbrev pub invariant-loop-number : goal.invariant-loop-number

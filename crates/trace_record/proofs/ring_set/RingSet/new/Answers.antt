@@ -1,4 +1,4 @@
-use Rattle.trace_record.proofs.Words.{false, alike}
+use Rattle.trace_record.proofs.Laws.{false, alike}
 use Rattle.trace_record.proofs.ring_set.RingSet.new.Goals as goal
 
 pub returns : goal.returns

@@ -1,5 +1,4 @@
-use Rattle.trace_record.proofs.Words.{◌≡◌, ◌∙◌, true, sym, subst, is_command_kind, read_at, given_from, Option, ℕ, IsGivenBy}
-use Rattle.trace_record.proofs.PlacedRows.{command_drives, command_is}
+use Rattle.trace_record.proofs.Laws.{◌≡◌, ◌∙◌, true, sym, subst, is_command_kind, read_at, given_from, Option, ℕ, IsGivenBy, command_drives, command_is}
 use Rattle.trace_record.proofs.trace_record.TraceRecord.command_there.Goals as goal
 
 pub returns-in-Some-get-2 : goal.returns-in-Some-get-2

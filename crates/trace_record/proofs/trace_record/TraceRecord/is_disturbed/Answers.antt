@@ -1,4 +1,4 @@
-use Rattle.trace_record.proofs.Words.{eq-eqb, ◌∙◌, ◌||◌, ap, sym, not, is_the_controllers}
+use Rattle.trace_record.proofs.BaseWords.{eq-eqb, ◌∙◌, ◌||◌, ap, sym, not, is_the_controllers}
 use Rattle.trace_record.proofs.trace_record.TraceRecord.is_disturbed.Goals as goal
 
 pub returns-else-word : goal.returns-else-word

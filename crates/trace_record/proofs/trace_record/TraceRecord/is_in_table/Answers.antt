@@ -1,4 +1,4 @@
-use Rattle.trace_record.proofs.Words.{◌∙◌, ap, sym, base_address, overlap, Erstba}
+use Rattle.trace_record.proofs.BaseWords.{◌∙◌, ap, sym, base_address, overlap, Erstba}
 use Rattle.trace_record.proofs.TableWords as table
 use Rattle.trace_record.proofs.trace_record.TraceRecord.is_in_table.Goals as goal
 

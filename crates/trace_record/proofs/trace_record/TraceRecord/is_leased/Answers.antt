@@ -1,5 +1,4 @@
-use Rattle.trace_record.proofs.Words.{◌≡◌, ◌∙◌, ◌||◌, sym, ap, Bool, list_any, overlap, device_context_bytes, input_context_bytes, unfinished, inputs_of, device_contexts, rings_have, table_has, entries_have}
-use Rattle.trace_record.proofs.OpenAreas.{leased_is}
+use Rattle.trace_record.proofs.Laws.{◌≡◌, ◌∙◌, ◌||◌, sym, ap, Bool, list_any, overlap, device_context_bytes, input_context_bytes, unfinished, inputs_of, device_contexts, rings_have, table_has, entries_have, leased_is}
 use Rattle.trace_record.proofs.trace_record.TraceRecord.is_leased.Goals.{then-is_lent, else-is_lent, then-is_in_table, else-is_in_table, then-touches, else-touches}
 use Rattle.trace_record.proofs.trace_record.TraceRecord.is_leased.Goals as goal
 

@@ -1,5 +1,4 @@
-use Rattle.trace_record.proofs.Words.{◌∙◌, ◌||◌, ap, sym, list_any, overlap, device_context_bytes, device_contexts}
-use Rattle.trace_record.proofs.OpenAreas.{controllers_are}
+use Rattle.trace_record.proofs.Laws.{◌∙◌, ◌||◌, ap, sym, list_any, overlap, device_context_bytes, device_contexts, controllers_are}
 use Rattle.trace_record.proofs.trace_record.TraceRecord.is_the_controllers.Goals as goal
 
 pub returns-then-is_in_segment : goal.returns-then-is_in_segment

@@ -1,5 +1,4 @@
-use Rattle.trace_record.proofs.Words.{subst, ◌*◌, ℕ, [], HoldsAreas, AreFresh}
-use Rattle.trace_record.proofs.FreshRecords.{follows_first}
+use Rattle.trace_record.proofs.Laws.{subst, ◌*◌, ℕ, [], HoldsAreas, AreFresh, follows_first}
 use Rattle.trace_record.proofs.trace_record.TraceRecord.new.Goals as goal
 
 pub returns-clause-follows : goal.returns-clause-follows

@@ -1,5 +1,4 @@
-use Rattle.trace_record.proofs.Words.{◌∙◌, ap, sym, arith, command_in, no_command_ring, IsCommandNumber, command_number, has_commands, read_at}
-use Rattle.trace_record.proofs.GivenCommands.{next_is}
+use Rattle.trace_record.proofs.Laws.{◌∙◌, ap, sym, arith, command_in, no_command_ring, IsCommandNumber, command_number, has_commands, read_at, next_is}
 use Rattle.trace_record.proofs.trace_record.TraceRecord.next_command.Goals as goal
 
 pub returns-in_default : goal.returns-in_default

@@ -1,5 +1,5 @@
-use Rattle.trace_record.proofs.Words.{◌≡◌, ◌∙◌, ℕ, ap, not, sym, subst, Bool, Header, Known, Row, Write, IsOwnedSo, IsPlaced, true, false, is_three, writes_to_owned}
-use Rattle.trace_record.proofs.OpenAreas.{not_owned, owned_by_change, owned_by_version}
+use Rattle.trace_record.proofs.Laws.{◌≡◌, ◌∙◌, ℕ, ap, not, sym, subst, Bool, Header, Known, Row, Write, IsOwnedSo, IsPlaced, true, false, is_three, writes_to_owned, owned_by_change, owned_by_version}
+use Rattle.trace_record.proofs.OpenAreas.{not_owned}
 use Rattle.trace_record.proofs.trace_record.TraceRecord.owns.Goals as goal
 
 owned_at : (h : Header) (k : Known) (row : Row) (at word : ℕ) (owned : Bool) → row ≡ Write at word → owned ≡ writes_to_owned h k at word → IsOwnedSo h k row owned

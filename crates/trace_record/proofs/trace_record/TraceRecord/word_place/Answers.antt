@@ -1,7 +1,4 @@
-use Rattle.trace_record.proofs.Words.{◌≡◌, ◌∙◌, true, None, get_or, sym, ap, arith, refl, length, not, position, slice_get_read, slice_get_within, touches, is_driver_kind, ring_here, none_here, among_at}
-use Rattle.trace_record.proofs.OneRingHas.{inside_is, rings_nowhere, rings_in_events, rings_here}
-use Rattle.trace_record.proofs.GivenCommands.{given_by_ring, none_in_events, none_nowhere}
-use Rattle.trace_record.proofs.PlacedRows.{command_here, none_by, nothing_of_events, given_on}
+use Rattle.trace_record.proofs.Laws.{◌≡◌, ◌∙◌, true, None, get_or, sym, ap, arith, refl, length, not, position, slice_get_read, slice_get_within, touches, is_driver_kind, ring_here, none_here, among_at, inside_is, rings_nowhere, rings_in_events, rings_here, given_by_ring, none_in_events, none_nowhere, command_here, none_by, nothing_of_events, given_on}
 use Rattle.trace_record.proofs.trace_record.TraceRecord.word_place.Goals as goal
 
 pub returns-in_default-clause-placed : goal.returns-in_default-clause-placed

@@ -1,6 +1,4 @@
-use Rattle.bitflags.specs.Sets.{known_from}
-use Rattle.trb.proofs.FlagLemmas.{has_flag-at_places}
-use Rattle.trb.specs.Block.{word}
+use Rattle.trb.proofs.Laws.{known_from, has_flag-at_places, word}
 use Rattle.trb.proofs.block.Block.flags.Goals as goal
 
 pub returns-clause-bits : goal.returns-clause-bits

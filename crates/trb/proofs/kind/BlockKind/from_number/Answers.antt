@@ -1,6 +1,4 @@
-use Rattle.std.proofs.Common.{sym, arith}
-use Rattle.std.proofs.lemmas.Bool.Decides.{nat_tests}
-use Rattle.trb.proofs.KindLemmas.{kind_numbered-unnamed}
+use Rattle.trb.proofs.Laws.{sym, arith, nat_tests, kind_numbered-unnamed}
 use Rattle.trb.proofs.kind.BlockKind.from_number.Goals as goal
 
 -- no other arm takes the number, so it is that of no name

@@ -1,4 +1,4 @@
-use Rattle.leases.proofs.Words.{◌≡◌, ℕ, vec_len, index_of, slice_get}
+use Rattle.leases.proofs.BaseWords.{◌≡◌, ℕ, vec_len, index_of, slice_get}
 use Rattle.leases.proofs.book.indexes.IndexTables.new.Given as goal
 
 abbrev pub invariant-loop : goal.invariant-loop

@@ -1,4 +1,4 @@
-use Rattle.leases.proofs.Words.{◌≡◌, ◌∙◌, ap, sym, unwrap_or, Link, same_leased, link_crossed, link_of, crossing_positive, shape_of, ended_at, IsFound, link_ends, all_ended}
+use Rattle.leases.proofs.Laws.{◌≡◌, ◌∙◌, ap, sym, unwrap_or, Link, same_leased, link_crossed, link_of, crossing_positive, shape_of, ended_at, IsFound, link_ends, all_ended}
 use Rattle.leases.proofs.book.lease_book.LeaseBook.end_link.Goals as goal
 
 pub returns : goal.returns

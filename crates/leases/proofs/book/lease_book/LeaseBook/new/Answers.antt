@@ -1,4 +1,4 @@
-use Rattle.leases.proofs.Words.{◌∙◌, first_found, first_list}
+use Rattle.leases.proofs.Laws.{◌∙◌, first_found, first_list}
 use Rattle.leases.proofs.book.lease_book.LeaseBook.new.Goals as goal
 
 pub returns : goal.returns

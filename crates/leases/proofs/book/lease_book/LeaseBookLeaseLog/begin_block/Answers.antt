@@ -1,4 +1,4 @@
-use Rattle.leases.proofs.Words.{◌≡◌, ◌%◌, ◌∙◌, ap, sym, Block, place_count, shape_of, block_found, list_begun, length_held, put_at}
+use Rattle.leases.proofs.Laws.{◌≡◌, ◌%◌, ◌∙◌, ap, sym, Block, place_count, shape_of, block_found, list_begun, length_held, put_at}
 use Rattle.leases.proofs.book.lease_book.LeaseBookLeaseLog.begin_block.Goals as goal
 
 pub returns : goal.returns

@@ -1,4 +1,4 @@
-use Rattle.leases.proofs.Words.{◌≡◌, ◌∙◌, ap, sym, unwrap_or, Link, link_of, shape_of, link_crossed, is_crossing, link_found, list_begun, length_held, put_at}
+use Rattle.leases.proofs.Laws.{◌≡◌, ◌∙◌, ap, sym, unwrap_or, Link, link_of, shape_of, link_crossed, is_crossing, link_found, list_begun, length_held, put_at}
 use Rattle.leases.proofs.book.lease_book.LeaseBookLeaseLog.begin_link.Goals as goal
 
 pub returns : goal.returns

@@ -1,4 +1,4 @@
-use Rattle.leases.proofs.Words.{Range, list_begun, range_found}
+use Rattle.leases.proofs.Laws.{Range, list_begun, range_found}
 use Rattle.leases.proofs.book.lease_book.LeaseBookLeaseLog.begin_range.Goals as goal
 
 pub returns : goal.returns

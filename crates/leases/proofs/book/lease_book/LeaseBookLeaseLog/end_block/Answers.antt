@@ -1,4 +1,4 @@
-use Rattle.leases.proofs.Words.{◌≡◌, ◌%◌, ◌∙◌, ap, sym, Block, same_leased, place_count, shape_of, ended_at, IsFound, block_ends, all_ended}
+use Rattle.leases.proofs.Laws.{◌≡◌, ◌%◌, ◌∙◌, ap, sym, Block, same_leased, place_count, shape_of, ended_at, IsFound, block_ends, all_ended}
 use Rattle.leases.proofs.book.lease_book.LeaseBookLeaseLog.end_block.Goals as goal
 
 pub returns : goal.returns

@@ -1,6 +1,6 @@
-use Rattle.leases.proofs.Words.{◌≡◌, ◌≤◌, ◌+◌, ◌∙◌, ◌||◌, ℕ, List, [], map, true, false, sym, ap, subst, arith, is_some, is_crossing, Block, Link, same_leased, LeaseBook, Lent, ended_where, is_passed, HoldsLents, IsFound, all_twice, ended_alike, over_alike, none_over, none_passed, passed_block, passed_crossing}
-use Rattle.leases.proofs.book.lease_book.LeaseBookLeaseLog.end_passed.Goals as goal
+use Rattle.leases.proofs.Laws.{◌≡◌, ◌≤◌, ◌+◌, ◌∙◌, ◌||◌, ℕ, List, [], map, true, false, sym, ap, subst, arith, is_some, is_crossing, Block, Link, same_leased, LeaseBook, Lent, ended_where, is_passed, HoldsLents, IsFound, all_twice, ended_alike, over_alike, none_over, none_passed, passed_block, passed_crossing}
 use Rattle.leases.proofs.book.lease_book.LeaseBookLeaseLog.end_passed.Goals.{then-is_some, else-is_some}
+use Rattle.leases.proofs.book.lease_book.LeaseBookLeaseLog.end_passed.Goals as goal
 
 pub loop-number-init : goal.loop-number-init
 loop-number-init c = λ h ts shape known.

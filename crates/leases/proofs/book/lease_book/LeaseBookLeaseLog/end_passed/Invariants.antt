@@ -1,4 +1,4 @@
-use Rattle.leases.proofs.Words.{◌≡◌, List, map, Header, shape_of, Lent, ended_where, is_passed, HoldsLents}
+use Rattle.leases.proofs.BaseWords.{◌≡◌, List, map, Header, shape_of, Lent, ended_where, is_passed, HoldsLents}
 use Rattle.leases.proofs.book.lease_book.LeaseBookLeaseLog.end_passed.Given as goal
 
 abbrev pub invariant-loop-number : goal.invariant-loop-number

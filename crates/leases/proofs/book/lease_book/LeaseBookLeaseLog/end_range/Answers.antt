@@ -1,5 +1,4 @@
-use Rattle.leases.proofs.Words.{Range, same_leased, IsFound, all_ended}
-use Rattle.leases.proofs.LeaseBooks.EndingRange.{range_ends}
+use Rattle.leases.proofs.Laws.{Range, same_leased, IsFound, all_ended, range_ends}
 use Rattle.leases.proofs.book.lease_book.LeaseBookLeaseLog.end_range.Goals as goal
 
 pub returns : goal.returns

@@ -1,5 +1,4 @@
-use Rattle.leases.proofs.Words.{◌≡◌, ◌%◌, ◌∙◌, sym, ap, place_count, InputContext, index_in, command_place, always_ok, context_put}
-use Rattle.leases.proofs.LeaseBooks.RangePlaces.{range_begins}
+use Rattle.leases.proofs.Laws.{◌≡◌, ◌%◌, ◌∙◌, sym, ap, place_count, InputContext, index_in, command_place, always_ok, context_put, range_begins}
 use Rattle.leases.proofs.book.ranges.RangeIndexes.begin_context.Goals as goal
 
 pub returns-clause-found : goal.returns-clause-found

@@ -1,5 +1,4 @@
-use Rattle.leases.proofs.Words.{sym, ap, ◌∙◌, SlotEntry, index_in, always_ok, entry_put}
-use Rattle.leases.proofs.LeaseBooks.RangePlaces.{range_begins}
+use Rattle.leases.proofs.Laws.{sym, ap, ◌∙◌, SlotEntry, index_in, always_ok, entry_put, range_begins}
 use Rattle.leases.proofs.book.ranges.RangeIndexes.begin_entry.Goals as goal
 
 pub returns-clause-found : goal.returns-clause-found

@@ -1,4 +1,4 @@
-use Rattle.leases.proofs.Words.{◌≡◌, ◌%◌, ◌∙◌, sym, ap, place_count, InputContext, index_in, command_place, stands}
+use Rattle.leases.proofs.Laws.{◌≡◌, ◌%◌, ◌∙◌, sym, ap, place_count, InputContext, index_in, command_place, stands}
 use Rattle.leases.proofs.book.ranges.RangeIndexes.end_context.Goals as goal
 
 pub returns : goal.returns

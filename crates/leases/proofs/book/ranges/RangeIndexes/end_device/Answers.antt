@@ -1,4 +1,4 @@
-use Rattle.leases.proofs.Words.{sym, ap, ◌∙◌, DeviceContext, index_in, stands}
+use Rattle.leases.proofs.Laws.{sym, ap, ◌∙◌, DeviceContext, index_in, stands}
 use Rattle.leases.proofs.book.ranges.RangeIndexes.end_device.Goals as goal
 
 pub returns : goal.returns

@@ -1,4 +1,4 @@
-use Rattle.leases.proofs.Words.{sym, ap, ◌∙◌, SlotEntry, index_in, stands}
+use Rattle.leases.proofs.Laws.{sym, ap, ◌∙◌, SlotEntry, index_in, stands}
 use Rattle.leases.proofs.book.ranges.RangeIndexes.end_entry.Goals as goal
 
 pub returns : goal.returns

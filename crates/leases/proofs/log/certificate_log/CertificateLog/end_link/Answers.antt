@@ -1,6 +1,7 @@
-use Rattle.leases.proofs.Words.{◌≡◌, ◌∙◌, List, map, ap, sym, refl, subst, arith, unwrap_or, is_some, link_crossed, link_of, crossing_positive, shape_of, Link, same_leased, index_at, Lent, ended_where, share_a_place, put_at, CertificateLog, FollowedList, FollowsCertificate, another_numbered, none_numbered, this_numbered, link_itself, link_numbered, link_words}
-use Rattle.leases.proofs.log.certificate_log.CertificateLog.end_link.Goals as goal
+use Rattle.leases.proofs.Laws.{◌≡◌, ◌∙◌, List, map, ap, sym, refl, subst, arith, unwrap_or, is_some, link_crossed, link_of, crossing_positive, shape_of, Link, same_leased, index_at, Lent, ended_where, share_a_place, put_at, CertificateLog, FollowedList, FollowsCertificate, another_numbered, none_numbered, this_numbered, link_itself, link_numbered}
+use Rattle.leases.proofs.CertificateLogs.Words.{link_words}
 use Rattle.leases.proofs.log.certificate_log.CertificateLog.end_link.Goals.{else-number-gt0-via-then-number-gt0+else-end, else-number-gt0-via-else-number-gt0}
+use Rattle.leases.proofs.log.certificate_log.CertificateLog.end_link.Goals as goal
 
 pub returns-then-end : goal.returns-then-end
 unfolding link_of

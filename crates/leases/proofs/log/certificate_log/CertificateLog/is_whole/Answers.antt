@@ -1,5 +1,4 @@
-use Rattle.leases.proofs.Words.{◌∙◌, sym, false≢true}
-use Rattle.leases.proofs.CertificateLogs.Listed.{tells_whole, whole_tells}
+use Rattle.leases.proofs.Laws.{◌∙◌, sym, false≢true, tells_whole, whole_tells}
 use Rattle.leases.proofs.log.certificate_log.CertificateLog.is_whole.Goals as goal
 
 pub returns-clause-yes : goal.returns-clause-yes

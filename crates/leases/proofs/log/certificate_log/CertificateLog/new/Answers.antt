@@ -1,4 +1,5 @@
-use Rattle.leases.proofs.Words.{◌∙◌, arith, first_list, all_begun, next_begins, nothing_begun}
+use Rattle.leases.proofs.Laws.{◌∙◌, arith, first_list, next_begins, nothing_begun}
+use Rattle.leases.proofs.CertificateLogs.Beginning.{all_begun}
 use Rattle.leases.proofs.log.certificate_log.CertificateLog.new.Goals as goal
 
 pub loop-lease-init : goal.loop-lease-init

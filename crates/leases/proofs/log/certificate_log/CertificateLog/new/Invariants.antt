@@ -1,4 +1,4 @@
-use Rattle.leases.proofs.Words.{ℕ, HasBegun}
+use Rattle.leases.proofs.Laws.{ℕ, HasBegun}
 use Rattle.leases.proofs.log.certificate_log.CertificateLog.new.Given as goal
 
 abbrev pub invariant-loop-lease : goal.invariant-loop-lease

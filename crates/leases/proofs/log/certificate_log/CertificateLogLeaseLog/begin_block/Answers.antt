@@ -1,4 +1,4 @@
-use Rattle.leases.proofs.Words.{◌≡◌, ◌%◌, ◌∙◌, ap, sym, refl, subst, place_count, shape_of, Lease, Block, put_at, Begins, goes_on, free_none, block_numbered}
+use Rattle.leases.proofs.Laws.{◌≡◌, ◌%◌, ◌∙◌, ap, sym, refl, subst, place_count, shape_of, Lease, Block, put_at, Begins, goes_on, free_none, block_numbered}
 use Rattle.leases.proofs.log.certificate_log.CertificateLogLeaseLog.begin_block.Goals as goal
 
 pub returns : goal.returns

@@ -1,4 +1,4 @@
-use Rattle.leases.proofs.Words.{◌≡◌, ◌∙◌, ap, sym, refl, subst, unwrap_or, is_crossing, link_crossed, link_of, shape_of, Lease, Link, put_at, Begins, goes_on, free_none, link_numbered}
+use Rattle.leases.proofs.Laws.{◌≡◌, ◌∙◌, ap, sym, refl, subst, unwrap_or, is_crossing, link_crossed, link_of, shape_of, Lease, Link, put_at, Begins, goes_on, free_none, link_numbered}
 use Rattle.leases.proofs.log.certificate_log.CertificateLogLeaseLog.begin_link.Goals as goal
 
 pub returns : goal.returns

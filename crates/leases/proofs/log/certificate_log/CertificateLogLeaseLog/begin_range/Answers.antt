@@ -1,4 +1,4 @@
-use Rattle.leases.proofs.Words.{subst, Begins, Lease}
+use Rattle.leases.proofs.BaseWords.{subst, Begins, Lease}
 use Rattle.leases.proofs.CertificateLogs.Beginning.{range_begins}
 use Rattle.leases.proofs.log.certificate_log.CertificateLogLeaseLog.begin_range.Goals as goal
 

@@ -1,6 +1,7 @@
-use Rattle.leases.proofs.Words.{◌≡◌, ◌%◌, ◌∙◌, List, map, ap, sym, refl, subst, arith, place_count, shape_of, Block, same_leased, index_at, Lent, ended_where, share_a_place, put_at, CertificateLog, FollowedList, FollowsCertificate, another_numbered, none_numbered, this_numbered, block_itself, block_numbered, block_words}
-use Rattle.leases.proofs.log.certificate_log.CertificateLogLeaseLog.end_block.Goals as goal
+use Rattle.leases.proofs.Laws.{◌≡◌, ◌%◌, ◌∙◌, List, map, ap, sym, refl, subst, arith, place_count, shape_of, Block, same_leased, index_at, Lent, ended_where, share_a_place, put_at, CertificateLog, FollowedList, FollowsCertificate, another_numbered, none_numbered, this_numbered, block_itself, block_numbered}
+use Rattle.leases.proofs.CertificateLogs.Words.{block_words}
 use Rattle.leases.proofs.log.certificate_log.CertificateLogLeaseLog.end_block.Goals.{else-number-gt0-via-then-number-gt0+else-end, else-number-gt0-via-else-number-gt0}
+use Rattle.leases.proofs.log.certificate_log.CertificateLogLeaseLog.end_block.Goals as goal
 
 pub returns-then-end : goal.returns-then-end
 returns-then-end c = λ list h ts shape known.

@@ -1,7 +1,7 @@
-use Rattle.leases.proofs.Words.{◌≡◌, ◌≤◌, ◌+◌, ◌∙◌, ◌||◌, ℕ, List, map, false, sym, ap, subst, arith, is_some, is_crossing, Block, Link, same_leased, Lent, ended_where, is_passed, all_twice, none_over, none_passed, over_alike, passed_crossing, CertificateLog, FollowsCertificate}
+use Rattle.leases.proofs.Laws.{◌≡◌, ◌≤◌, ◌+◌, ◌∙◌, ◌||◌, ℕ, List, map, false, sym, ap, subst, arith, is_some, is_crossing, Block, Link, same_leased, Lent, ended_where, is_passed, all_twice, none_over, none_passed, over_alike, passed_crossing, CertificateLog, FollowsCertificate}
 use Rattle.leases.proofs.CertificateLogs.PassingOn.{passed_on}
-use Rattle.leases.proofs.log.certificate_log.CertificateLogLeaseLog.end_passed.Goals as goal
 use Rattle.leases.proofs.log.certificate_log.CertificateLogLeaseLog.end_passed.Goals.{in-Some, in_default}
+use Rattle.leases.proofs.log.certificate_log.CertificateLogLeaseLog.end_passed.Goals as goal
 
 pub loop-number-init : goal.loop-number-init
 loop-number-init c = λ list h ts shape known.

@@ -1,4 +1,4 @@
-use Rattle.leases.proofs.Words.{◌≡◌, List, map, Header, shape_of, Lease, Lent, ended_where, is_passed, FollowsCertificate}
+use Rattle.leases.proofs.BaseWords.{◌≡◌, List, map, Header, shape_of, Lease, Lent, ended_where, is_passed, FollowsCertificate}
 use Rattle.leases.proofs.log.certificate_log.CertificateLogLeaseLog.end_passed.Given as goal
 
 abbrev pub invariant-loop-number : goal.invariant-loop-number

@@ -1,4 +1,5 @@
-use Rattle.leases.proofs.Words.{◌∙◌, map, sym, inl, inr, subst, cases_Bool, false≢true, Range, same_leased, ended_where, FollowedList, FollowsList, another_there, this_there, range_apart, stands_only, range_numbered, range_words}
+use Rattle.leases.proofs.Laws.{◌∙◌, map, sym, inl, inr, subst, cases_Bool, false≢true, Range, same_leased, ended_where, FollowedList, FollowsList, another_there, this_there, range_apart, stands_only, range_numbered}
+use Rattle.leases.proofs.CertificateLogs.Words.{range_words}
 use Rattle.leases.proofs.log.certificate_log.CertificateLogLeaseLog.end_range.Goals as goal
 
 pub returns : goal.returns

@@ -1,6 +1,4 @@
-use Rattle.ownership_checker.proofs.Words.{◌∙◌, sym, on_more}
-use Rattle.ownership_checker.proofs.RingPasses.Histories.{least_flips, least_unflipped}
-use Rattle.ownership_checker.proofs.RingPasses.Steps.{refused_too}
+use Rattle.ownership_checker.proofs.Laws.{◌∙◌, sym, on_more, least_flips, least_unflipped, refused_too}
 use Rattle.ownership_checker.proofs.pass.ring_pass.RingPass.check_restored.Goals as goal
 
 pub returns-then-some_flips-clause-refused : goal.returns-then-some_flips-clause-refused

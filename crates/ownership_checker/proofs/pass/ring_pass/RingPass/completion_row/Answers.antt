@@ -1,5 +1,4 @@
-use Rattle.ownership_checker.proofs.Words.{known_now, on_more}
-use Rattle.ownership_checker.proofs.RingPasses.Steps.{refused_too}
+use Rattle.ownership_checker.proofs.Laws.{known_now, on_more, refused_too}
 use Rattle.ownership_checker.proofs.pass.ring_pass.RingPass.completion_row.Goals as goal
 
 pub returns-clause-passed : goal.returns-clause-passed

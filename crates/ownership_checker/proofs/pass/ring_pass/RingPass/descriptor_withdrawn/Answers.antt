@@ -1,12 +1,4 @@
-use Rattle.ownership_checker.proofs.Words.{◌≡◌, ◌∙◌, ◌∷◌, false, length, refl, sym, subst, err_from_is_err_and, IsWithin, Header, on_ring, BadWithdraw, header_now, known_now, is_bad_withdraw, withdraws_badly, ring_lents}
-use Rattle.traces.specs.declared.trace_row.TraceRow.TheVariants.{Withdraws}
-use Rattle.segments.specs.RingView.{Withdraws as WithdrawsAt}
-use Rattle.ownership_checker.proofs.JudgedRows.Keeping.{contexts_fit}
-use Rattle.leases.proofs.RingLeases.FreeRows.{withdrawn_now}
-use Rattle.ownership_checker.proofs.RingPasses.Broken.{least_stopped}
-use Rattle.ownership_checker.proofs.RingPasses.FreeLeases.{withdrawn_transfer}
-use Rattle.ownership_checker.proofs.RingPasses.Logged.{behind_logged, held_before, opened_before}
-use Rattle.ownership_checker.proofs.RingPasses.Steps.{same_still, withdrawn_behind, withdrawn_refused}
+use Rattle.ownership_checker.proofs.Laws.{◌≡◌, ◌∙◌, ◌∷◌, false, length, refl, sym, subst, err_from_is_err_and, IsWithin, Header, on_ring, BadWithdraw, header_now, known_now, is_bad_withdraw, withdraws_badly, ring_lents, Withdraws, WithdrawsAt, contexts_fit, withdrawn_now, least_stopped, withdrawn_transfer, behind_logged, held_before, opened_before, same_still, withdrawn_behind, withdrawn_refused}
 use Rattle.ownership_checker.proofs.pass.ring_pass.RingPass.descriptor_withdrawn.Goals as goal
 
 pub returns-then-is_stopped-clause-refused : goal.returns-then-is_stopped-clause-refused

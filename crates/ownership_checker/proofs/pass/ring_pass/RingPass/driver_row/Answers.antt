@@ -1,18 +1,11 @@
-use Rattle.std.proofs.Common.{rules}
-use Rattle.ownership_checker.proofs.Words.{◌≡◌, sym, subst, List, Header, Known, Row, RowPlace, TraceRow, known_now, on_more, FollowsTrace, IsPlaced, IsRingPassed}
-use Rattle.trace_record.proofs.PlacedRows.{placed_other}
-use Rattle.ownership_checker.proofs.RingPasses.Steps.{refused_too}
+use Rattle.ownership_checker.proofs.Laws.{arith, rules, List, Header, Known, RowPlace, TraceRow, known_now, on_more, IsPlaced, IsRingPassed, placed_other, refused_too}
 use Rattle.ownership_checker.proofs.pass.ring_pass.RingPass.driver_row.Goals.{After-add_command, In_default, in_default-via-in-Read+else-eq, in_default-via-in_default}
 use Rattle.ownership_checker.proofs.pass.ring_pass.RingPass.driver_row.Goals as goal
 
 -- where the word lies that is written, and which command it gives
 written : (g : _) (c : After-add_command g) (h : Header) (past : List TraceRow) → IsRingPassed g.M.WordMemory.words h past c.args.self.now →
     IsPlaced c.args.self.now.header (known_now h past) c.args.row.now c.add_command.new.place
-written g c h past p =
-    let f = p.tracked.follows in
-    let k = known_now h past in
-    subst (λ (row : Row). IsPlaced c.args.self.now.header k row c.add_command.new.place) (sym c.in-Write.is)
-    (c.add_command.ensures k c.in-Write.at c.in-Write.word f.rings (c.word_place-place.ensures.placed k f.rings))
+written g c h past p = grind arith
 
 pub returns-in-Write-clause-passed : goal.returns-in-Write-clause-passed
 returns-in-Write-clause-passed g c =

@@ -1,7 +1,4 @@
-use Rattle.ownership_checker.proofs.Words.{◌≡◌, ◌∙◌, ◌==◌, ℕ, eqb-true, get_or, map, refl, sym, ap, subst, ended_where, shape_there, among_at, is_of_ring}
-use Rattle.leases.proofs.LeaseRows.RowWrites.{record_there}
-use Rattle.trace_record.proofs.RingFinder.FoundRings.{ring_here}
-use Rattle.ownership_checker.proofs.RingPasses.Logged.{drives, none_drives}
+use Rattle.ownership_checker.proofs.Laws.{◌≡◌, ◌∙◌, ◌==◌, ℕ, eqb-true, get_or, map, refl, sym, ap, subst, ended_where, shape_there, among_at, is_of_ring, record_there, ring_here, drives, none_drives}
 use Rattle.ownership_checker.proofs.pass.ring_pass.RingPass.end_leases.Goals as goal
 
 pub returns-in_default-clause-ended : goal.returns-in_default-clause-ended

@@ -1,7 +1,4 @@
-use Rattle.ownership_checker.proofs.Words.{◌≡◌, ◌<◌, ◌∙◌, ◌∷◌, [], false, Some, arith, ap, subst, sym, Header, Row, Plain, Restores, learned, on_ring, without_end, open_leases, lenient, passed_on, HoldsAll, on_more, IsPlaced, header_now, known_now, restored, ring_restored, ring_lents}
-use Rattle.leases.proofs.RingLeases.FreeRows.{plain_now}
-use Rattle.ownership_checker.proofs.RingPasses.FreeLeases.{none_restored, restored_transfer, runs_on}
-use Rattle.ownership_checker.proofs.RingPasses.Logged.{behind_logged, held_before, next_row, opened_before, plain_logged, rung_lents}
+use Rattle.ownership_checker.proofs.Laws.{◌≡◌, ◌<◌, ◌∙◌, ◌∷◌, [], false, Some, arith, ap, subst, sym, Header, Row, Plain, Restores, learned, on_ring, without_end, open_leases, lenient, passed_on, HoldsAll, on_more, IsPlaced, header_now, known_now, restored, ring_restored, ring_lents, plain_now, none_restored, restored_transfer, runs_on, behind_logged, held_before, next_row, opened_before, plain_logged, rung_lents}
 use Rattle.ownership_checker.proofs.pass.ring_pass.RingPass.note_leases.Goals as goal
 
 pub returns-in_default-clause-logged : goal.returns-in_default-clause-logged

@@ -1,6 +1,4 @@
-use Rattle.ownership_checker.proofs.Words.{◌∙◌, Some, ap, on_more}
-use Rattle.ring_knowledge.specs.RingRecords.{positions_of}
-use Rattle.driver_rows.proofs.RingRows.GivenAt.{gives_at, no_ring_moves, nothing_moves}
+use Rattle.ownership_checker.proofs.Words.{◌∙◌, Some, ap, on_more, positions_of, gives_at, no_ring_moves, nothing_moves}
 use Rattle.ownership_checker.proofs.pass.ring_pass.RingPass.note_moved.Goals as goal
 
 pub returns-in_default-clause-moved : goal.returns-in_default-clause-moved

@@ -1,12 +1,8 @@
-use Rattle.ownership_checker.proofs.Words.{◌≡◌, ◌∙◌, ap, arith, get_or, length, lt-ltb, ltb, refl, subst, sym, false≢true, slice_get_read, slice_get_within, Ring, Write, unrestored, on_more, read_there, MovesRing}
-use Rattle.leases.proofs.RingLeases.FoundFree.{found_moved}
-use Rattle.ownership_checker.proofs.RingPasses.FreeLeases.{moving, restored_transfer}
-use Rattle.ownership_checker.proofs.RingPasses.Logged.{transfer_drives}
+use Rattle.ownership_checker.proofs.Laws.{◌≡◌, ◌∙◌, ap, arith, get_or, length, lt-ltb, ltb, refl, subst, sym, false≢true, slice_get_read, slice_get_within, Ring, unrestored, on_more, read_there, MovesRing, found_moved, moving, restored_transfer, transfer_drives}
 use Rattle.ownership_checker.proofs.pass.ring_pass.RingPass.note_moved_at.Goals as goal
 
 pub returns-in_default-clause-moved : goal.returns-in_default-clause-moved
-returns-in_default-clause-moved g c = λ list k memory ts a w f d gives moves opened early held.
-    absurd (false≢true (sym c.in_default.ensures.none ∙ restored_transfer c.args.self.now.header k d (Write a w) c.args.id moves))
+returns-in_default-clause-moved g c = grind (arith, false≢true, restored_transfer)
 
 pub returns-in_default-get-clause-moved : goal.returns-in_default-get-clause-moved
 returns-in_default-get-clause-moved g c = λ list k memory ts a w f d gives moves opened early held.

@@ -1,6 +1,4 @@
-use Rattle.ownership_checker.proofs.Words.{◌≡◌, ◌∙◌, ℕ, Some, true, ap, arith, get_or, length, refl, subst, slice_get_read, slice_get_within, Ring, is_transfer_kind, ring_with, unrestored, Restores, on_ring, open_leases, AreOpen, passed_on, on_more, read_there}
-use Rattle.ownership_checker.proofs.RingPasses.FreeLeases.{found, restored_held}
-use Rattle.ownership_checker.proofs.RingPasses.Logged.{transfer_drives}
+use Rattle.ownership_checker.proofs.Laws.{◌≡◌, ◌∙◌, ℕ, Some, true, ap, arith, get_or, length, refl, subst, slice_get_read, slice_get_within, Ring, is_transfer_kind, ring_with, unrestored, Restores, on_ring, open_leases, AreOpen, passed_on, on_more, read_there, found, restored_held, transfer_drives}
 use Rattle.ownership_checker.proofs.pass.ring_pass.RingPass.note_rung.Goals as goal
 
 pub returns-clause-restored : goal.returns-clause-restored

@@ -1,7 +1,4 @@
-use Rattle.ownership_checker.proofs.Words.{length, refl, known_now, lenient_row, on_both, ring_lents}
-use Rattle.ownership_checker.proofs.RingPasses.Logged.{held_before, next_row, plain_logged}
-use Rattle.ownership_checker.proofs.RingPasses.Histories.{known_plain}
-use Rattle.ownership_checker.proofs.RingPasses.Steps.{least_quiet, none_now, quiet_behind, refused_too}
+use Rattle.ownership_checker.proofs.Laws.{length, refl, known_now, lenient_row, on_both, ring_lents, held_before, next_row, plain_logged, known_plain, least_quiet, none_now, quiet_behind, refused_too}
 use Rattle.ownership_checker.proofs.pass.ring_pass.RingPass.placed_row.Goals as goal
 
 pub returns-clause-passed : goal.returns-clause-passed

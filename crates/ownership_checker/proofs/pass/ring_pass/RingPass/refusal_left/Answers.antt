@@ -1,6 +1,4 @@
-use Rattle.ownership_checker.proofs.Words.{◌≡◌, [], subst, Header, broken, IsLeast, header_now, known_now}
-use Rattle.ownership_checker.proofs.RingPasses.Histories.{least_left, only_left}
-use Rattle.ownership_checker.proofs.RingPasses.Steps.{told_of}
+use Rattle.ownership_checker.proofs.Laws.{◌≡◌, [], subst, Header, broken, IsLeast, header_now, known_now, least_left, only_left, told_of}
 use Rattle.ownership_checker.proofs.pass.ring_pass.RingPass.refusal_left.Goals as goal
 
 pub returns-in-Ok : goal.returns-in-Ok

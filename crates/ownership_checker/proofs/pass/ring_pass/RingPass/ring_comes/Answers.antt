@@ -1,7 +1,4 @@
-use Rattle.ownership_checker.proofs.Words.{◌≡◌, ◌∙◌, false, length, refl, sym, subst, err_from_is_err_and, IsWithin, header_now, known_now, BadRing, Header, IsHeader, is_bad_ring}
-use Rattle.ownership_checker.proofs.RingPasses.Broken.{least_stopped}
-use Rattle.ownership_checker.proofs.RingPasses.Steps.{comes_behind, comes_refused, coming_by_header}
-use Rattle.ownership_checker.proofs.RingPasses.Logged.{comes_logged}
+use Rattle.ownership_checker.proofs.Laws.{◌≡◌, ◌∙◌, false, length, refl, sym, subst, err_from_is_err_and, IsWithin, header_now, known_now, BadRing, Header, IsHeader, is_bad_ring, least_stopped, comes_behind, comes_refused, coming_by_header, comes_logged}
 use Rattle.ownership_checker.proofs.pass.ring_pass.RingPass.ring_comes.Goals as goal
 
 pub returns-then-is_stopped-clause-refused : goal.returns-then-is_stopped-clause-refused

@@ -1,7 +1,4 @@
-use Rattle.ownership_checker.proofs.Words.{◌≡◌, ◌∙◌, ◌∷◌, false, arith, length, refl, sym, subst, err_from_is_err_and, IsWithin, header_now, known_now, BadFree, Header, Goes, AreOpen, RangeIndexes, HoldsAll, is_bad_free, without_ring, ring_lents, lent_open}
-use Rattle.ownership_checker.proofs.RingPasses.Broken.{least_stopped}
-use Rattle.ownership_checker.proofs.RingPasses.Steps.{goes_behind, goes_refused, same_still}
-use Rattle.ownership_checker.proofs.RingPasses.Logged.{goes_logged, goes_transfer}
+use Rattle.ownership_checker.proofs.Laws.{◌≡◌, ◌∙◌, ◌∷◌, false, arith, length, refl, sym, subst, err_from_is_err_and, IsWithin, header_now, known_now, BadFree, Header, Goes, AreOpen, RangeIndexes, HoldsAll, is_bad_free, without_ring, ring_lents, lent_open, least_stopped, goes_behind, goes_refused, same_still, goes_logged, goes_transfer}
 use Rattle.ownership_checker.proofs.pass.ring_pass.RingPass.ring_goes.Goals as goal
 
 pub returns-then-is_stopped-clause-refused : goal.returns-then-is_stopped-clause-refused

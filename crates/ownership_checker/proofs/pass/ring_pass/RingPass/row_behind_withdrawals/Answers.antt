@@ -1,7 +1,4 @@
-use Rattle.ownership_checker.proofs.Words.{◌≡◌, ◌∙◌, ℕ, Bool, false, Option, None, List, length, ap, refl, subst, sym, false≢true, Header, Known, Row, RowPlace, on_both, on_more, lenient_row, IsPlaced, IsRingPassed, IsTracked, IsWithin, TraceRow, header_now, known_now, is_left, restored, restored_on, ring_restored, NamesTransfer}
-use Rattle.ownership_checker.proofs.RingPasses.FreeLeases.{names_transfer}
-use Rattle.ownership_checker.proofs.RingPasses.Histories.{least_off, least_restored}
-use Rattle.ownership_checker.proofs.RingPasses.Steps.{plain_behind, refused_too, restored_tracked, same_still, told_of}
+use Rattle.ownership_checker.proofs.Laws.{arith, ◌≡◌, ◌∙◌, ℕ, Bool, false, Option, None, List, length, ap, refl, sym, false≢true, Header, Known, Row, RowPlace, on_both, on_more, lenient_row, IsPlaced, IsRingPassed, IsTracked, TraceRow, header_now, known_now, is_left, restored, restored_on, ring_restored, NamesTransfer, names_transfer, least_off, least_restored, plain_behind, refused_too, restored_tracked, same_still, told_of}
 use Rattle.ownership_checker.proofs.pass.ring_pass.RingPass.row_behind_withdrawals.Goals.{After-is_left, After-restore_ring}
 use Rattle.ownership_checker.proofs.pass.ring_pass.RingPass.row_behind_withdrawals.Goals as goal
 
@@ -17,9 +14,7 @@ found g c h past p =
     let placed = c.place-place.ensures k (g.M.WordMemory.words c.args.self.now.memory) p.tracked.follows in
     let ring_is = c.ring_restored-ring.ensures c.args.self.now.header k (g.M.WordMemory.words c.args.self.now.memory) p.tracked.follows placed in
     let names : NamesTransfer c.args.self.now.header c.ring_restored-ring.result = rw ring_is (names_transfer c.args.self.now.header k (p.tracked.keeps on) c.args.row.now) in
-    let here = ring_is ∙ ap (λ (x : Header). ring_restored x k c.args.row.now) p.header in
-    let stands : is_left (header_now h past) k (ring_restored (header_now h past) k c.args.row.now) ≡ c.is_left.result = rw (sym here, sym p.header) (sym (c.is_left.ensures k p.tracked.follows names)) in
-    (on, placed, here, stands)
+    grind arith
 
 -- once the leases are noted and the ring is the controller's again: what is known, and that the place is the row's still where no ring was restored
 behind : (g : _) (c : After-restore_ring g) (h : Header) (past : List TraceRow) → IsRingPassed g.M.WordMemory.words h past c.args.self.now →

@@ -1,5 +1,4 @@
-use Rattle.trace_reader.proofs.Words.{◌≡◌, ◌+◌, ◌-◌, length, most_bytes, ahead_of}
-use Rattle.trace_reader.specs.Streaming.Ahead.{Comes}
+use Rattle.trace_reader.proofs.Words.{◌≡◌, ◌+◌, ◌-◌, length, most_bytes, ahead_of, Comes}
 use Rattle.trace_reader.proofs.row_reader.ahead.Ahead.fill_line.Given as goal
 
 abbrev pub invariant-loop-self : goal.invariant-loop-self

@@ -1,5 +1,4 @@
-use Rattle.std.proofs.Common.{arith}
-use Rattle.trace_reader.proofs.Streaming.Arriving.{kept}
+use Rattle.trace_reader.proofs.Laws.{arith, kept}
 use Rattle.trace_reader.proofs.row_reader.ahead.Ahead.keep_last.Goals as goal
 
 pub returns : goal.returns

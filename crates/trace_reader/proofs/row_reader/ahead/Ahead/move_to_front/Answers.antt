@@ -1,5 +1,4 @@
-use Rattle.std.proofs.Common.{◌-◌, ◌∙◌, take, ap, arith}
-use Rattle.trace_reader.proofs.Streaming.Arriving.{moved}
+use Rattle.trace_reader.proofs.Laws.{◌-◌, ◌∙◌, take, ap, arith, moved}
 use Rattle.trace_reader.proofs.row_reader.ahead.Ahead.move_to_front.Goals as goal
 
 pub returns-clause-same : goal.returns-clause-same

@@ -1,5 +1,4 @@
-use Rattle.trace_reader.proofs.Words.{◌≤◌, ◌+◌, length, arith, ahead_of}
-use Rattle.trace_reader.proofs.Streaming.Arriving.{come_behind, some_came}
+use Rattle.trace_reader.proofs.Laws.{◌≤◌, ◌+◌, length, arith, ahead_of, come_behind, some_came}
 use Rattle.trace_reader.proofs.row_reader.ahead.Ahead.read_on.Goals as goal
 
 pub returns-in-Ok-clause-came : goal.returns-in-Ok-clause-came

@@ -1,5 +1,4 @@
-use Rattle.trace_reader.proofs.Words.{◌<◌, arith, nat_tests}
-use Rattle.trace_reader.proofs.LineFields.{some_lines}
+use Rattle.trace_reader.proofs.Laws.{◌<◌, arith, nat_tests, some_lines}
 use Rattle.trace_reader.proofs.row_reader.reader.RowReader.is_full.Goals as goal
 
 pub returns-else-self-ge-MOST_LINES-clause-within : goal.returns-else-self-ge-MOST_LINES-clause-within

@@ -1,6 +1,4 @@
-use Rattle.trace_reader.proofs.Words.{ahead_of, progress_of}
-use Rattle.trace_reader.proofs.Streaming.Calls.{row_begins}
-use Rattle.trace_reader.proofs.Streaming.RowsFit.{answer_fits}
+use Rattle.trace_reader.proofs.Laws.{ahead_of, progress_of, row_begins, answer_fits}
 use Rattle.trace_reader.proofs.row_reader.reader.RowReader.next_row.Goals as goal
 
 pub returns-in-Some-clause-answer : goal.returns-in-Some-clause-answer

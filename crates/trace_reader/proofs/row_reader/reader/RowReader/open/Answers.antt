@@ -1,7 +1,7 @@
-use Rattle.trace_reader.proofs.Words.{◌+◌, ◌∙◌, refl, ap, err_from_is_err_and, ahead_of}
-use Rattle.trace_reader.proofs.Streaming.Openings.{HasRead, end_told, fault_told, line_more, more_came, no_header_told, nothing_read, row_told}
-use Rattle.trace_reader.proofs.row_reader.reader.RowReader.open.Goals as goal
+use Rattle.trace_reader.proofs.Laws.{◌+◌, ◌∙◌, refl, ap, err_from_is_err_and, ahead_of, HasRead, end_told, fault_told, more_came, no_header_told, nothing_read, row_told}
+use Rattle.trace_reader.proofs.Streaming.Openings.{line_more}
 use Rattle.trace_reader.proofs.row_reader.reader.RowReader.open.Goals.{In_ok-fill_line}
+use Rattle.trace_reader.proofs.row_reader.reader.RowReader.open.Goals as goal
 
 -- what was read before the bytes that stand ahead now
 read : (g : _) (c : In_ok-fill_line g) → HasRead c.args.keeps (g.S.Source.held c.args.source.now) (g.S.Source.held c.fill_line.new.source) c.loop-ahead.so_far (ahead_of c.fill_line.new.self)

@@ -1,5 +1,4 @@
-use Rattle.trace_reader.proofs.Words.{◌≡◌, ◌-◌, most_streamed_lines, ahead_of}
-use Rattle.trace_reader.proofs.Streaming.Openings.{HasRead}
+use Rattle.trace_reader.proofs.Laws.{◌≡◌, ◌-◌, most_streamed_lines, ahead_of, HasRead}
 use Rattle.trace_reader.proofs.row_reader.reader.RowReader.open.Given as goal
 
 abbrev pub invariant-loop-ahead : goal.invariant-loop-ahead

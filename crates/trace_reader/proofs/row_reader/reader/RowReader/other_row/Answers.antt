@@ -1,5 +1,4 @@
-use Rattle.trace_reader.proofs.Words.{ahead_of, progress_of}
-use Rattle.trace_reader.proofs.Streaming.Calls.{row_begins}
+use Rattle.trace_reader.proofs.Laws.{ahead_of, progress_of, row_begins}
 use Rattle.trace_reader.proofs.row_reader.reader.RowReader.other_row.Goals as goal
 
 pub returns-in-Some-clause-answer : goal.returns-in-Some-clause-answer

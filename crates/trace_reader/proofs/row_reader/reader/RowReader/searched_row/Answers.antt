@@ -1,5 +1,5 @@
-use Rattle.trace_reader.proofs.Words.{None, Ok, refl, sym, ahead_of, progress_of}
-use Rattle.trace_reader.proofs.Streaming.Calls.{given, still, stopped}
+use Rattle.trace_reader.proofs.Laws.{None, Ok, refl, sym, ahead_of, progress_of, given, still}
+use Rattle.trace_reader.proofs.Streaming.Calls.{stopped}
 use Rattle.trace_reader.proofs.row_reader.reader.RowReader.searched_row.Goals as goal
 
 pub returns-then-self-clause-answer : goal.returns-then-self-clause-answer

@@ -1,4 +1,4 @@
-use Rattle.trace_record.proofs.Words.{changed_by, named_by, follows_disabled}
+use Rattle.trace_record.proofs.Laws.{changed_by, named_by, follows_disabled}
 use Rattle.trace_record.proofs.device_record.kept.DeviceRecord.disable.Goals as goal
 
 pub returns : goal.returns

@@ -1,4 +1,4 @@
-use Rattle.trace_record.proofs.Words.{◌≡◌, ◌==◌, ◌&&◌, arith, named_by, nat_lt, disabled_none, disabled_twice, disabled_all, all_below}
+use Rattle.trace_record.proofs.Laws.{◌==◌, ◌&&◌, arith, named_by, nat_lt, disabled_none, disabled_twice, disabled_all, all_below}
 use Rattle.trace_record.proofs.DeviceSlots.TurnedOff.{one_more, none_below}
 use Rattle.trace_record.proofs.device_record.kept.DeviceRecord.disable_each.Goals as goal
 
@@ -11,7 +11,4 @@ loop-index-preserved c =
     (λ i. named_by c.args.named i && i == c.loop-index.index) _ c.loop-index.invariant c.disable_named.ensures (one_more (named_by c.args.named) c.loop-index.index)
 
 pub returns : goal.returns
-returns c =
-    let end : c.loop-index.index ≡ 32 = omega (arith, c.loop-index.auto.index-end, c.loop-index-test.false) in
-    disabled_all c.args.self.now c.loop-index.self c.args.slot _ (named_by c.args.named) c.loop-index.invariant
-    (λ i below. all_below (named_by c.args.named) c.loop-index.index i (omega (arith, below, end)))
+returns c = grind (arith, disabled_all, named_by, all_below)

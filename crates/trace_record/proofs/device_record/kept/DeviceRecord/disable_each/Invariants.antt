@@ -1,4 +1,4 @@
-use Rattle.trace_record.proofs.Words.{◌&&◌, nat_lt, named_by, IsDisabled}
+use Rattle.trace_record.proofs.BaseWords.{◌&&◌, nat_lt, named_by, IsDisabled}
 use Rattle.trace_record.proofs.device_record.kept.DeviceRecord.disable_each.Given as goal
 
 -- those below the index are disabled

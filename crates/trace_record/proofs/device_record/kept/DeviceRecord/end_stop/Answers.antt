@@ -1,4 +1,4 @@
-use Rattle.trace_record.proofs.Words.{false, ap, stop_ended, Endpoint, follows_stop_seen}
+use Rattle.trace_record.proofs.Laws.{false, ap, stop_ended, Endpoint, follows_stop_seen}
 use Rattle.trace_record.proofs.device_record.kept.DeviceRecord.end_stop.Goals as goal
 
 pub returns : goal.returns

@@ -1,4 +1,4 @@
-use Rattle.trace_record.proofs.Words.{◌≡◌, ◌∙◌, unwrap_or, ap, sym, SlotState, slot_success, changed_by, Slot, follows_slot_state}
+use Rattle.trace_record.proofs.Laws.{◌≡◌, ◌∙◌, unwrap_or, ap, sym, SlotState, slot_success, changed_by, Slot, follows_slot_state}
 use Rattle.trace_record.proofs.device_record.kept.DeviceRecord.go_on.Goals as goal
 
 pub returns : goal.returns

@@ -1,4 +1,4 @@
-use Rattle.trace_record.proofs.Words.{◌∙◌, sym, lt-ltb, false≢true, ltb-true, one_has, none_has}
+use Rattle.trace_record.proofs.Laws.{◌∙◌, sym, lt-ltb, false≢true, ltb-true, one_has, none_has}
 use Rattle.trace_record.proofs.device_record.kept.DeviceRecord.has_endpoint.Goals as goal
 
 pub returns-clause-some : goal.returns-clause-some

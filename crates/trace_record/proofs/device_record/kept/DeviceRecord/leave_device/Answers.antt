@@ -1,4 +1,4 @@
-use Rattle.trace_record.proofs.Words.{ap, sym, changed_by, Slot, follows_device}
+use Rattle.trace_record.proofs.Laws.{ap, sym, changed_by, Slot, follows_device}
 use Rattle.trace_record.proofs.device_record.kept.DeviceRecord.leave_device.Goals as goal
 
 pub returns : goal.returns

@@ -1,4 +1,4 @@
-use Rattle.trace_record.proofs.Words.{◌∙◌, ap, false, replicate, length, ◌*◌, length-replicate, fresh_endpoint, fresh_slot, follows_nothing, fresh_counted, fresh_summed}
+use Rattle.trace_record.proofs.Laws.{◌∙◌, ap, false, replicate, length, ◌*◌, length-replicate, fresh_endpoint, fresh_slot, follows_nothing, fresh_counted, fresh_summed}
 use Rattle.trace_record.proofs.device_record.kept.DeviceRecord.new.Goals as goal
 
 pub returns : goal.returns

@@ -1,5 +1,4 @@
-use Rattle.trace_record.proofs.Words.{◌≡◌, ◌∙◌, ap, sym, subst, EndpointState, changed_by, Endpoint, placed_endpoint, ring_got, IsWithBound, endpoint_at}
-use Rattle.trace_record.proofs.DeviceSlots.Placing.{follows_place}
+use Rattle.trace_record.proofs.Laws.{◌≡◌, ◌∙◌, ap, sym, subst, EndpointState, changed_by, Endpoint, placed_endpoint, ring_got, IsWithBound, endpoint_at, follows_place}
 use Rattle.trace_record.proofs.device_record.kept.DeviceRecord.place.Goals as goal
 
 pub returns : goal.returns

@@ -1,5 +1,4 @@
-use Rattle.trace_record.proofs.Words.{◌∙◌, ap, transferred_endpoint}
-use Rattle.trace_record.proofs.DeviceSlots.TransferEvents.{follows_transferred}
+use Rattle.trace_record.proofs.Laws.{◌∙◌, ap, transferred_endpoint, follows_transferred}
 use Rattle.trace_record.proofs.device_record.kept.DeviceRecord.read_transfer.Goals as goal
 
 pub returns : goal.returns

@@ -1,4 +1,4 @@
-use Rattle.trace_record.proofs.Words.{changed_by}
+use Rattle.trace_record.proofs.BaseWords.{changed_by}
 use Rattle.trace_record.proofs.device_record.kept.DeviceRecord.reset.Goals as goal
 
 pub returns : goal.returns

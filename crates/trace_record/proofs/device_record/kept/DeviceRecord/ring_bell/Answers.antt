@@ -1,5 +1,5 @@
-use Rattle.trace_record.proofs.Words.{◌∙◌, ap, rung_endpoint}
-use Rattle.trace_record.proofs.DeviceSlots.Bells.{follows_first, follows_beyond, follows_rung}
+use Rattle.trace_record.proofs.Laws.{◌∙◌, ap, rung_endpoint, follows_beyond, follows_rung}
+use Rattle.trace_record.proofs.DeviceSlots.Bells.{follows_first}
 use Rattle.trace_record.proofs.device_record.kept.DeviceRecord.ring_bell.Goals as goal
 
 pub returns-then-slot-eq0 : goal.returns-then-slot-eq0

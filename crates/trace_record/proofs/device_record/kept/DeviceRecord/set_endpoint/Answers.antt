@@ -1,18 +1,8 @@
-use Rattle.trace_record.proofs.Words.{◌<◌, ◌∙◌, ◌+◌, ◌*◌, ap, sym, arith, length, Endpoint, length-set, leaves, takes, counted_now, leaves_sum, summed_now, takes_sum, count_of, one_of, place_of, sum_of}
+use Rattle.trace_record.proofs.Laws.{◌<◌, ◌∙◌, ◌+◌, ◌*◌, ap, sym, arith, length, Endpoint, length-set, leaves, takes, counted_now, leaves_sum, summed_now, takes_sum, count_of, one_of, place_of, sum_of}
 use Rattle.trace_record.proofs.device_record.kept.DeviceRecord.set_endpoint.Goals as goal
 
 pub pass_on-requires : goal.pass_on-requires
-pass_on-requires c =
-    let r = c.args.self.now in
-    let number = c.from.result * 32 + c.from-2.result in
-    let below : number < length r.endpoints.items = omega (arith, r.endpoints_many, c.from.ensures, c.from-2.ensures, c.ranges.slot.fits, c.requires) in
-    let here = ap (λ (e : Endpoint). e.ring) (sym c.index.ensures) in
-    record {
-      counted = leaves r.endpoints.items r.holders r.counted c.index.result.now.ring number c.index.result.now below here;
-      summed = leaves_sum r.endpoints.items r.holders r.counted r.summed number c.index.result.now below c.index.result.now.ring here;
-      room = takes r.endpoints.items r.holders r.counted c.args.kept.ring r.endpoints_many;
-      sum_room = takes_sum r.endpoints.items r.holders r.counted r.summed number c.index.result.now below c.args.kept.ring r.endpoints_many;
-    }
+pass_on-requires c = grind (arith, Endpoint, leaves, leaves_sum, takes, takes_sum)
 
 pub invariant_of-self-clause-endpoints_many : goal.invariant_of-self-clause-endpoints_many
 invariant_of-self-clause-endpoints_many c = length-set c.args.self.now.endpoints.items (c.from.result * 32 + c.from-2.result) c.args.kept ∙ c.args.self.now.endpoints_many

@@ -1,4 +1,4 @@
-use Rattle.trace_record.proofs.Words.{ap, in_state, Endpoint, follows_state}
+use Rattle.trace_record.proofs.Laws.{ap, in_state, Endpoint, follows_state}
 use Rattle.trace_record.proofs.device_record.kept.DeviceRecord.set_state.Goals as goal
 
 pub returns : goal.returns

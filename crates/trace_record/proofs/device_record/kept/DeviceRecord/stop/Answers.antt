@@ -1,5 +1,4 @@
-use Rattle.trace_record.proofs.Words.{Stopped, changed_by, in_state}
-use Rattle.trace_record.proofs.DeviceSlots.Moves.{follows_held}
+use Rattle.trace_record.proofs.Laws.{Stopped, changed_by, in_state, follows_held}
 use Rattle.trace_record.proofs.device_record.kept.DeviceRecord.stop.Goals as goal
 
 pub returns : goal.returns

@@ -1,4 +1,4 @@
-use Rattle.trace_record.proofs.Words.{Some, ap, sym, put, with_device, Slot, follows_beside, follows_device}
+use Rattle.trace_record.proofs.Laws.{Some, ap, sym, put, with_device, Slot, follows_beside, follows_device}
 use Rattle.trace_record.proofs.device_record.kept.DeviceRecord.take_device.Goals as goal
 
 pub returns : goal.returns

@@ -1,4 +1,4 @@
-use Rattle.trace_record.proofs.Words.{◌≡◌, ◌||◌, ◌∙◌, ap, sym, is_some, list_any, is_about, kept_about}
+use Rattle.trace_record.proofs.Laws.{◌≡◌, ◌||◌, ◌∙◌, ap, sym, is_some, list_any, is_about, kept_about}
 use Rattle.trace_record.proofs.device_record.unfinished.UnfinishedCommands.excludes.Goals as goal
 
 pub returns-then-is_some : goal.returns-then-is_some

@@ -1,4 +1,4 @@
-use Rattle.trace_record.proofs.Words.{endpoint_of, follows_finished}
+use Rattle.trace_record.proofs.DeviceSlots.NamedCommands.{endpoint_of, follows_finished}
 use Rattle.trace_record.proofs.device_record.unfinished.UnfinishedCommands.finish.Goals as goal
 
 pub returns : goal.returns

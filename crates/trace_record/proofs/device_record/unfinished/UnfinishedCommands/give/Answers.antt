@@ -1,4 +1,4 @@
-use Rattle.trace_record.proofs.Words.{follows_given}
+use Rattle.trace_record.proofs.DeviceSlots.NamedCommands.{follows_given}
 use Rattle.trace_record.proofs.device_record.unfinished.UnfinishedCommands.give.Goals as goal
 
 pub returns : goal.returns

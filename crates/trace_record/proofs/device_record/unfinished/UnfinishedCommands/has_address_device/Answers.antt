@@ -1,4 +1,4 @@
-use Rattle.trace_record.proofs.Words.{◌∙◌, ap, nat_lt, addressing_is}
+use Rattle.trace_record.proofs.Laws.{◌∙◌, ap, nat_lt, addressing_is}
 use Rattle.trace_record.proofs.device_record.unfinished.UnfinishedCommands.has_address_device.Goals as goal
 
 pub returns : goal.returns

@@ -1,4 +1,4 @@
-use Rattle.trace_record.proofs.Words.{◌∙◌, sym, excluded_by, excluded_by_any}
+use Rattle.trace_record.proofs.Laws.{◌∙◌, sym, excluded_by, excluded_by_any}
 use Rattle.trace_record.proofs.device_record.unfinished.UnfinishedCommands.is_busy.Goals as goal
 
 pub returns-in-None : goal.returns-in-None

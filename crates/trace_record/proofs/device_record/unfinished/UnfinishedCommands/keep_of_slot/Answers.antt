@@ -1,4 +1,4 @@
-use Rattle.trace_record.proofs.Words.{arith, is_addressing, at_most_one, few_addressing}
+use Rattle.trace_record.proofs.Laws.{arith, is_addressing, at_most_one, few_addressing}
 use Rattle.trace_record.proofs.device_record.unfinished.UnfinishedCommands.keep_of_slot.Goals as goal
 
 pub overflow_add-self : goal.overflow_add-self

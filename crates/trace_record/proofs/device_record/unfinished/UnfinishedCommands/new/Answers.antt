@@ -1,4 +1,4 @@
-use Rattle.trace_record.proofs.Words.{◌∙◌, ap, sym, slice_index_or, endpoint_count, count_first, follows_none, alike}
+use Rattle.trace_record.proofs.Laws.{◌∙◌, ap, sym, slice_index_or, endpoint_count, count_first, follows_none, alike}
 use Rattle.trace_record.proofs.device_record.unfinished.UnfinishedCommands.new.Goals as goal
 
 pub returns : goal.returns

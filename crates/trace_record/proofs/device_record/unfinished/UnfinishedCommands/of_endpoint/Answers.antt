@@ -1,4 +1,4 @@
-use Rattle.trace_record.proofs.Words.{◌≡◌, ◌∙◌, Option, Some, None, ap, sym, IfSome, List, true, list_any, Command, FollowsUnfinished, as_list, is_about, kept_of, kept_names, found_about}
+use Rattle.trace_record.proofs.Laws.{◌≡◌, ◌∙◌, Option, Some, None, ap, sym, IfSome, List, true, list_any, Command, FollowsUnfinished, as_list, is_about, kept_of, kept_names, found_about}
 use Rattle.trace_record.proofs.device_record.unfinished.UnfinishedCommands.of_endpoint.Goals as goal
 
 pub returns-clause-one : goal.returns-clause-one

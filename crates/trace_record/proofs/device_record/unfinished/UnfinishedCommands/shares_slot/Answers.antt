@@ -1,4 +1,4 @@
-use Rattle.trace_record.proofs.Words.{◌∙◌, sym, none_shares, shared_by}
+use Rattle.trace_record.proofs.Laws.{◌∙◌, sym, none_shares, shared_by}
 use Rattle.trace_record.proofs.device_record.unfinished.UnfinishedCommands.shares_slot.Goals as goal
 
 pub returns-in-None : goal.returns-in-None

@@ -1,4 +1,4 @@
-use Rattle.trace_record.proofs.Words.{◌≡◌, ◌≤◌, ℕ, List, true, false, length, sym, subst, ap, arith, leb, rules, insert, IsNonDecreasingBy, IsPartitionPoint, IsPartitionPoint-from_clause, IsPartitionedBy-leb, added_sorted, added_all}
+use Rattle.trace_record.proofs.Laws.{◌≡◌, ◌≤◌, ℕ, List, true, false, length, sym, subst, ap, arith, leb, rules, insert, IsNonDecreasingBy, IsPartitionPoint, IsPartitionPoint-from_clause, IsPartitionedBy-leb, added_sorted, added_all}
 use Rattle.trace_record.proofs.range_words.areas.Areas.add.Goals as goal
 
 pub returns-clause-ok : goal.returns-clause-ok

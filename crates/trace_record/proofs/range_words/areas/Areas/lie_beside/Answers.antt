@@ -1,4 +1,4 @@
-use Rattle.trace_record.proofs.Words.{◌≡◌, ◌-◌, ◌+◌, ◌∙◌, ℕ, List, false, length, get_or, ap, sym, arith, nat_lt, nat_tests, list_any-IsPermutation, overlap, none_among, none_behind}
+use Rattle.trace_record.proofs.Laws.{◌≡◌, ◌-◌, ◌+◌, ◌∙◌, ℕ, List, false, length, get_or, ap, sym, arith, nat_lt, nat_tests, list_any-IsPermutation, overlap, none_among, none_behind}
 use Rattle.trace_record.proofs.RangeWords.AreaLists.{none_before}
 use Rattle.trace_record.proofs.range_words.areas.Areas.lie_beside.Goals as goal
 

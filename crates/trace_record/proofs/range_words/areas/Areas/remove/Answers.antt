@@ -1,5 +1,4 @@
-use Rattle.trace_record.proofs.Words.{◌≡◌, ◌<◌, ◌∙◌, ℕ, List, length, get_or, subst, ap, arith, Err, remove, IsBinarySearchResult, nat_cmp, nat_tests, removed_sorted, not_missed}
-use Rattle.trace_record.proofs.RangeWords.Counts.{without}
+use Rattle.trace_record.proofs.Laws.{◌≡◌, ◌<◌, ◌∙◌, ℕ, List, length, get_or, subst, ap, arith, Err, remove, IsBinarySearchResult, nat_cmp, nat_tests, removed_sorted, not_missed, without}
 use Rattle.trace_record.proofs.range_words.areas.Areas.remove.Goals as goal
 
 pub returns-in-Ok : goal.returns-in-Ok

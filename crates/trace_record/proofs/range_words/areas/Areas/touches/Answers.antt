@@ -1,4 +1,4 @@
-use Rattle.trace_record.proofs.Words.{◌≡◌, ◌-◌, ◌+◌, ◌<◌, ◌≤◌, ◌∙◌, ℕ, List, true, false, length, get_or, sym, subst, ap, arith, rules, nat_lt, IsNonDecreasingBy, IsPartitionPoint, IsPartitionPoint-from_clause, IsPartitionedBy-ltb, list_any-IsPermutation, overlap, none_touches, last_touches}
+use Rattle.trace_record.proofs.Laws.{◌≡◌, ◌-◌, ◌+◌, ◌<◌, ◌≤◌, ◌∙◌, ℕ, List, true, false, length, get_or, sym, subst, ap, arith, rules, nat_lt, IsNonDecreasingBy, IsPartitionPoint, IsPartitionPoint-from_clause, IsPartitionedBy-ltb, list_any-IsPermutation, overlap, none_touches, last_touches}
 use Rattle.trace_record.proofs.range_words.areas.Areas.touches.Goals as goal
 
 pub returns-then-after-eq0 : goal.returns-then-after-eq0

@@ -1,4 +1,4 @@
-use Rattle.trace_record.proofs.Words.{◌≡◌, ℕ, ◌+◌, ◌*◌, ◌/◌, ◌%◌, ◌<◌, ◌≤◌, false, bits_of, is_marked}
+use Rattle.trace_record.proofs.BaseWords.{◌≡◌, ℕ, ◌+◌, ◌*◌, ◌/◌, ◌%◌, ◌<◌, ◌≤◌, false, bits_of, is_marked}
 use Rattle.trace_record.proofs.range_words.soiled.SoiledWords.any_in.Given as goal
 
 abbrev pub invariant-loop-group : goal.invariant-loop-group

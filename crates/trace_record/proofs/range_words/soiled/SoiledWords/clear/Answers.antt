@@ -1,4 +1,4 @@
-use Rattle.trace_record.proofs.Words.{◌≡◌, ◌==◌, ◌/◌, ◌%◌, ◌^◌, ◌&&◌, ◌∙◌, ℕ, refl, ap, not, bit_and, bit_not, w64, put, bits_of, cleared}
+use Rattle.trace_record.proofs.Laws.{◌≡◌, ◌==◌, ◌/◌, ◌%◌, ◌^◌, ◌&&◌, ◌∙◌, ℕ, refl, ap, not, bit_and, bit_not, w64, put, bits_of, cleared}
 use Rattle.trace_record.proofs.range_words.soiled.SoiledWords.clear.Goals as goal
 
 pub returns-clause-ok : goal.returns-clause-ok

@@ -1,4 +1,4 @@
-use Rattle.trace_record.proofs.Words.{◌≡◌, ℕ, ◌/◌, ◌<◌, ◌≤◌, false, slice_index_or, mark_of}
+use Rattle.trace_record.proofs.BaseWords.{◌≡◌, ℕ, ◌/◌, ◌<◌, ◌≤◌, false, slice_index_or, mark_of}
 use Rattle.trace_record.proofs.range_words.soiled.SoiledWords.is_clean.Given as goal
 
 abbrev pub invariant-loop-page : goal.invariant-loop-page

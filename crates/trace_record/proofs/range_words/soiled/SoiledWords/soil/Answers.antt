@@ -1,4 +1,4 @@
-use Rattle.trace_record.proofs.Words.{refl, bits_of, soiled_more}
+use Rattle.trace_record.proofs.Laws.{refl, bits_of, soiled_more}
 use Rattle.trace_record.proofs.range_words.soiled.SoiledWords.soil.Goals as goal
 
 pub loop-group-preserved : goal.loop-group-preserved

@@ -1,4 +1,4 @@
-use Rattle.trace_record.proofs.Words.{◌≡◌, ◌*◌, ◌/◌, ◌%◌, ◌&&◌, ◌||◌, ℕ, nat_lt, bits_of, is_marked, is_in}
+use Rattle.trace_record.proofs.BaseWords.{◌≡◌, ◌*◌, ◌/◌, ◌%◌, ◌&&◌, ◌||◌, ℕ, nat_lt, bits_of, is_marked, is_in}
 use Rattle.trace_record.proofs.range_words.soiled.SoiledWords.soil.Given as goal
 
 abbrev pub invariant-loop-group : goal.invariant-loop-group

@@ -1,4 +1,4 @@
-use Rattle.trace_record.proofs.Words.{◌∙◌, List, length, subst, ap, rules, position, IsPermutation, IsNonDecreasingBy-from_sort_by_key, is_command_kind, Ring, Start, AreHints, AreNumbers, starts_from}
+use Rattle.trace_record.proofs.BaseWords.{◌∙◌, List, length, subst, ap, rules, position, IsPermutation, IsNonDecreasingBy-from_sort_by_key, is_command_kind, Ring, Start, AreHints, AreNumbers, starts_from}
 use Rattle.trace_record.proofs.ring_finder.finder.Finder.new.Goals as goal
 
 pub returns : goal.returns

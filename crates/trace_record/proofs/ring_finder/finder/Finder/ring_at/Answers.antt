@@ -1,4 +1,4 @@
-use Rattle.trace_record.proofs.Words.{nothing_on_page, ring_covering}
+use Rattle.trace_record.proofs.RingFinder.Starts.{nothing_on_page, ring_covering}
 use Rattle.trace_record.proofs.ring_finder.finder.Finder.ring_at.Goals as goal
 
 pub returns-in_default : goal.returns-in_default

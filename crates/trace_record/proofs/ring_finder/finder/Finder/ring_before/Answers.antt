@@ -1,5 +1,4 @@
-use Rattle.trace_record.proofs.Words.{◌≡◌, ◌-◌, ◌<◌, ◌≤◌, List, true, false, length, get_or, sym, subst, ap, arith, leb, rules, IsNonDecreasingBy, IsPartitionPoint, IsPartitionPoint-from_clause, IsPartitionedBy-leb, Contains-get_or, Start, last_before, number_below}
-use Rattle.trace_record.proofs.RingFinder.Starts.{none_before}
+use Rattle.trace_record.proofs.Laws.{◌≡◌, ◌-◌, ◌<◌, ◌≤◌, List, true, false, length, get_or, sym, subst, ap, arith, leb, rules, IsNonDecreasingBy, IsPartitionPoint, IsPartitionPoint-from_clause, IsPartitionedBy-leb, Contains-get_or, Start, last_before, number_below, none_before}
 use Rattle.trace_record.proofs.ring_finder.finder.Finder.ring_before.Goals as goal
 
 pub returns-then-after-eq0-clause-last : goal.returns-then-after-eq0-clause-last

@@ -1,4 +1,4 @@
-use Rattle.trace_record.proofs.Words.{get_or, sym, ap, ◌∙◌, Ring, touches, nothing_before, ring_hit, ring_miss}
+use Rattle.trace_record.proofs.Laws.{get_or, sym, ap, ◌∙◌, Ring, touches, nothing_before, ring_hit, ring_miss}
 use Rattle.trace_record.proofs.ring_finder.finder.Finder.ring_by_search.Goals as goal
 
 pub returns-in_default : goal.returns-in_default

@@ -1,4 +1,4 @@
-use Rattle.trace_record.proofs.Words.{None, ◌∙◌, ap, get_or, arith, option_flatten, named_is, flattened}
+use Rattle.trace_record.proofs.Laws.{None, ◌∙◌, ap, get_or, arith, option_flatten, named_is, flattened}
 use Rattle.trace_record.proofs.ring_finder.finder.Finder.ring_named.Goals as goal
 
 pub returns : goal.returns

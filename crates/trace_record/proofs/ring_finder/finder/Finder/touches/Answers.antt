@@ -1,5 +1,5 @@
-use Rattle.trace_record.proofs.Words.{◌≡◌, ◌+◌, ◌-◌, ◌≤◌, ◌∙◌, ℕ, List, true, false, length, get_or, sym, subst, ap, arith, nat_lt, rules, IsNonDecreasingBy, IsPartitionPoint, IsPartitionPoint-from_clause, IsPartitionedBy-ltb, Start}
-use Rattle.trace_record.proofs.RingFinder.TouchedSegments.{no_bytes, none_before_end, last_before_end}
+use Rattle.trace_record.proofs.Laws.{◌≡◌, ◌+◌, ◌-◌, ◌≤◌, ◌∙◌, ℕ, List, true, false, length, get_or, sym, subst, ap, arith, nat_lt, rules, IsNonDecreasingBy, IsPartitionPoint, IsPartitionPoint-from_clause, IsPartitionedBy-ltb, Start, none_before_end, last_before_end}
+use Rattle.trace_record.proofs.RingFinder.TouchedSegments.{no_bytes}
 use Rattle.trace_record.proofs.ring_finder.finder.Finder.touches.Goals as goal
 
 pub returns-then-len-eq0 : goal.returns-then-len-eq0

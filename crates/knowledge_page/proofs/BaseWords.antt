@@ -1,0 +1,21 @@
+-- The words of std, of the crates below and of this crate's own definitions that its proofs cite, passed on by one file
+pub use Rattle.knowledge_page.specs.Shown.{IfNoRow, IsLast, IsNoRow, IsRange, verdict_on}
+pub use Rattle.knowledge_page.specs.declared.shown.ShowFault.{ShowFault}
+pub use Rattle.knowledge_page.specs.declared.shown.ShowFault.TheVariants.{Memory, NoRow}
+pub use Rattle.leases.specs.RingLeases.RingLents.{ring_lents}
+pub use Rattle.ownership_checker.specs.RingPasses.Rules.{ring_verdict, row_broken}
+unfoldable pub use Rattle.ownership_checker.specs.RingPasses.Rules.{ring_verdict_from}
+unfoldable pub use Rattle.ownership_rules.specs.Rules.{first_or}
+pub use Rattle.ownership_rules.specs.declared.refusal.Refusal.{Refusal}
+pub use Rattle.ring_knowledge.specs.Known.{Known, nothing}
+pub use Rattle.safety.specs.RingChanges.Histories.{header_after, header_now, known_after}
+pub use Rattle.std.proofs.Common.{List, None, Option, Some, [], ap, arith, inl, inr, length, refl, subst, suc, sym, zero, ℕ, ◌+◌, ◌-◌, ◌<◌, ◌∷◌, ◌≡◌, ◌≤◌, ◌⊎◌}
+pub use Rattle.std.proofs.lemmas.Grind.{common_steps}
+pub use Rattle.std.proofs.lemmas.Option.{same_Some}
+pub use Rattle.std.proofs.lemmas.Result.{err_from_is_err_and}
+pub use Rattle.std.specs.Prelude.{reverse, take}
+pub use Rattle.trace_reader.specs.Reading.{TraceText}
+pub use Rattle.trace_reader.specs.Streaming.TextRows.{trace_kept}
+pub use Rattle.traces.specs.Header.{IsHeader}
+pub use Rattle.traces.specs.declared.header.Header.{Header}
+pub use Rattle.traces.specs.declared.trace_row.TraceRow.{TraceRow}
