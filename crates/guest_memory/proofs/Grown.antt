@@ -19,10 +19,7 @@ next_cases ns ts n i digit ms us grown P j d below joined old leaf = search (rul
 
 pub extends_grown : (ns : List ℕ) (ts : List (List ℕ)) (n i digit : ℕ) (ms : List ℕ) (us : List (List ℕ)) → IsFree ns ts n i digit
     → IsGrown ns ts n i digit ms us → Extends ns ts ms us
-extends_grown ns ts n i digit ms us free grown = record {
-  number = grown.number;
-  way = λ j d below above. grown.way j d below (λ at by. let unused : next ts j d ≡ 0 = rw (at, by) free.unused in absurd (omega arith));
-}
+extends_grown ns ts n i digit ms us free grown = grind (arith, next)
 
 pub found_grown : (ns : List ℕ) (ts : List (List ℕ)) (n i digit : ℕ) (ms : List ℕ) (us : List (List ℕ)) → IsTree ns ts
     → IsFree ns ts n i digit → IsGrown ns ts n i digit ms us

@@ -1,5 +1,5 @@
 -- The way to a page of a tree, step by step, and in a tree that grows
-use Rattle.guest_memory.proofs.Words.{ℕ, zero, suc, List, length, Some, None, ◌≡◌, ◌≢◌, ◌<◌, ◌≤◌, ◌∙◌, sym, refl, ⊎_elim, arith, slice_index, cases_eq, nat_tests, next, led, IsTree, Extends, first_of, behind_of}
+use Rattle.guest_memory.proofs.Words.{ℕ, zero, suc, List, length, Some, None, ◌≡◌, ◌≢◌, ◌<◌, ◌≤◌, arith, slice_index, cases_eq, nat_tests, next, led, IsTree, Extends, first_of, behind_of}
 
 pub led_here : (ns : List ℕ) (ts : List (List ℕ)) (n steps i rest : ℕ) → slice_index ns i ≡ n → led ns ts n (suc steps) i rest ≡ Some i
 unfolding led
@@ -13,8 +13,7 @@ led_down ns ts n steps i rest other more = grind (arith, nat_tests)
 pub led_end : (ns : List ℕ) (ts : List (List ℕ)) (n steps i rest : ℕ) → slice_index ns i ≢ n → next ts i (first_of rest) ≡ 0
     → led ns ts n steps i rest ≡ None
 unfolding led
-led_end ns ts n zero i rest other none = refl
-led_end ns ts n (suc steps) i rest other none = grind (arith, nat_tests)
+led_end ns ts n steps i rest other none = grind (arith, nat_tests)
 
 -- what is found in some steps is found in more
 pub led_more : (ns : List ℕ) (ts : List (List ℕ)) (n steps more i rest j : ℕ) → steps ≤ more
@@ -22,19 +21,7 @@ pub led_more : (ns : List ℕ) (ts : List (List ℕ)) (n steps more i rest j : �
 unfolding led
 led_more ns ts n zero more i rest j few found = cc
 led_more ns ts n (suc steps) zero i rest j few found = absurd (omega arith)
-led_more ns ts n (suc steps) (suc more) i rest j few found =
-    ⊎_elim
-    (λ (here : slice_index ns i ≡ n). led_here ns ts n more i rest here ∙ sym (led_here ns ts n steps i rest here) ∙ found)
-    (λ (other : slice_index ns i ≢ n).
-    ⊎_elim
-    (λ (none : next ts i (first_of rest) ≡ 0). let e = led_end ns ts n (suc steps) i rest other none in cc)
-    (λ (some : next ts i (first_of rest) ≢ 0).
-    let before = led_down ns ts n steps i rest other (omega arith) in
-    let after = led_down ns ts n more i rest other (omega arith) in
-    let deeper = led_more ns ts n steps more (next ts i (first_of rest)) (behind_of rest) j (omega arith) (sym before ∙ found) in
-    after ∙ deeper)
-    (cases_eq (next ts i (first_of rest)) 0))
-    (cases_eq (slice_index ns i) n)
+led_more ns ts n (suc steps) (suc more) i rest j few found = grind (arith, slice_index, led_here, next, led_end, behind_of, cases_eq, led_more ns ts n steps more (next ts i (first_of rest)) (behind_of rest) j (omega arith))
 
 -- what is found in a tree is found in one that has all of it
 pub led_kept : (ns : List ℕ) (ts : List (List ℕ)) (ms : List ℕ) (us : List (List ℕ)) → IsTree ns ts → Extends ns ts ms us
@@ -43,19 +30,4 @@ unfolding led
 led_kept ns ts ms us tree extends n zero i rest j inside found = found
 led_kept ns ts ms us tree extends n (suc steps) i rest j inside found =
     let number = extends.number i inside in
-    ⊎_elim
-    (λ (here : slice_index ns i ≡ n).
-    led_here ms us n steps i rest (number ∙ here) ∙ sym (led_here ns ts n steps i rest here) ∙ found)
-    (λ (other : slice_index ns i ≢ n).
-    ⊎_elim
-    (λ (none : next ts i (first_of rest) ≡ 0). let e = led_end ns ts n (suc steps) i rest other none in cc)
-    (λ (some : next ts i (first_of rest) ≢ 0).
-    let above : 0 < next ts i (first_of rest) = omega arith in
-    let way = extends.way i (first_of rest) inside above in
-    let before = led_down ns ts n steps i rest other above in
-    let after = led_down ms us n steps i rest (λ e. other (sym number ∙ e)) (omega arith) in
-    let deeper = led_kept ns ts ms us tree extends n steps (next ts i (first_of rest)) (behind_of rest) j
-    (tree.inside i (first_of rest) inside) (sym before ∙ found) in
-    after ∙ rw way deeper)
-    (cases_eq (next ts i (first_of rest)) 0))
-    (cases_eq (slice_index ns i) n)
+    grind (arith, slice_index, led_here, next, led_end, behind_of, cases_eq, led_kept ns ts ms us tree extends n steps (next ts i (first_of rest)) (behind_of rest) j (tree.inside i (first_of rest) inside))

@@ -1,5 +1,5 @@
 -- A page at the end of the others, and where it lies noted in one of them
-use Rattle.guest_memory.proofs.Words.{rules, ℕ, zero, suc, List, [], ◌∷◌, ◌++◌, length, set, get_or, replicate, ◌≡◌, ◌<◌, ◌≤◌, ◌∙◌, sym, refl, ap, ⊎_elim, arith, length-append, slice_index, cases_eq, cases_lt, length-map, get_or-map, map-set, map-append, get_or-set_same, get_or-set_other, get_or_append_left, get_or_push, get_or-replicate, get_or_past, map-set_same, Page, numbers, nexts, next, IsTree, IsFree, IsAt, page_in}
+use Rattle.guest_memory.proofs.Words.{rules, ℕ, zero, suc, List, [], ◌∷◌, ◌++◌, length, set, get_or, replicate, ◌≡◌, ◌<◌, ◌≤◌, ◌∙◌, sym, ap, ⊎_elim, arith, length-append, slice_index, cases_eq, cases_lt, length-map, get_or-map, map-set, map-append, get_or-set_same, get_or-set_other, get_or_append_left, get_or_push, get_or-replicate, get_or_past, map-set_same, Page, numbers, nexts, next, IsTree, IsFree, IsAt, page_in}
 use Rattle.guest_memory.proofs.Grown.{IsGrown, tree_grown}
 use Rattle.guest_memory.proofs.PageWords.{page_in_push}
 
@@ -56,9 +56,7 @@ pub page_in_linked : (pages : List Page) (i : ℕ) (old y : Page) (n : ℕ) → 
     → y.number ≡ old.number → y.words ≡ old.words → page_in (set pages i y) n ≡ page_in pages n
 page_in_linked [] i old y n below is number words = absurd (omega arith)
 page_in_linked (x ∷ pages) zero old y n below is number words = search rules
-page_in_linked (x ∷ pages) (suc i) old y n below is number words =
-    let rest = page_in_linked pages i old y n (omega arith) is number words in
-    rw rest refl
+page_in_linked (x ∷ pages) (suc i) old y n below is number words = grind (arith, page_in_linked pages i old y n (omega arith) is number words)
 
 -- the tree of such pages
 pub tree_linked : (pages all : List Page) (page old y : Page) (n i digit at : ℕ) → IsTree (numbers pages) (nexts pages)

@@ -11,10 +11,7 @@ page_in_push (x ∷ pages) page n zeros = let rest = page_in_push pages page n z
 pub page_in_none : (pages : List Page) (n : ℕ) → ((i : ℕ) → i < length pages → slice_index (numbers pages) i ≡ n → ⊥)
     → page_in pages n ≡ replicate 16 0
 page_in_none [] n none = refl
-page_in_none (x ∷ pages) n none =
-    let other : x.number ≢ n = none 0 (omega arith) in
-    let rest = page_in_none pages n (λ i below. none (suc i) (omega arith)) in
-    grind (arith, nat_tests)
+page_in_none (x ∷ pages) n none = grind (arith, nat_tests, page_in_none pages n, none 0 (omega arith), page_in_none pages n (λ i below. none (suc i) (omega arith)))
 
 -- a page that no earlier one shares its number with
 pub page_in_at : (pages : List Page) (i : ℕ) (d : Page) → i < length pages
@@ -22,10 +19,7 @@ pub page_in_at : (pages : List Page) (i : ℕ) (d : Page) → i < length pages
     → page_in pages (get_or pages i d).number ≡ (get_or pages i d).words
 page_in_at [] i d below first = absurd (omega arith)
 page_in_at (x ∷ pages) zero d below first = grind (arith, nat_tests)
-page_in_at (x ∷ pages) (suc i) d below first =
-    let other : x.number ≢ (get_or pages i d).number = first 0 (omega arith) in
-    let rest = page_in_at pages i d (omega arith) (λ j low. first (suc j) (omega arith)) in
-    grind (arith, nat_tests)
+page_in_at (x ∷ pages) (suc i) d below first = grind (arith, nat_tests, page_in_at pages i d (omega arith), first 0 (omega arith), page_in_at pages i d (omega arith) (λ j low. first (suc j) (omega arith)))
 
 -- such a page in the place of one with the same number
 pub page_in_set : (pages : List Page) (i : ℕ) (page d : Page) (n : ℕ) → i < length pages → page.number ≡ (get_or pages i d).number
@@ -33,10 +27,7 @@ pub page_in_set : (pages : List Page) (i : ℕ) (page d : Page) (n : ℕ) → i 
     → page_in (set pages i page) n ≡ (if page.number == n then page.words else page_in pages n)
 page_in_set [] i page d n below same first = absurd (omega arith)
 page_in_set (x ∷ pages) zero page d n below same first = grind (arith, nat_tests)
-page_in_set (x ∷ pages) (suc i) page d n below same first =
-    let other : x.number ≢ page.number = first 0 (omega arith) in
-    let rest = page_in_set pages i page d n (omega arith) same (λ j low. first (suc j) (omega arith)) in
-    grind (arith, nat_tests)
+page_in_set (x ∷ pages) (suc i) page d n below same first = grind (arith, nat_tests, page_in_set pages i page d n (omega arith) same, first 0 (omega arith), page_in_set pages i page d n (omega arith) same (λ j low. first (suc j) (omega arith)))
 
 -- with no pages each word is 0
 pub word_none : (pages : List Page) (a : ℕ) → pages ≡ [] → word_of pages a ≡ 0

@@ -25,12 +25,7 @@ pub block_read : (pages : List Page) (n index i base : ℕ) (page : Page) → Is
     → page ≡ get_or pages i page → n ≡ base / 64 → index ≡ base / 4 % 16 → base % 16 ≡ 0
     → ◌≡◌ {A = List ℕ} (slice_index page.words index ∷ slice_index page.words (index + 1) ∷ slice_index page.words (index + 2) ∷ slice_index page.words (index + 3) ∷ [])
     (word_of pages base ∷ word_of pages (base + 4) ∷ word_of pages (base + 8) ∷ word_of pages (base + 12) ∷ [])
-block_read pages n index i base page tree lies is page_is index_is aligned =
-    let first = word_read pages n index i base page tree lies is page_is index_is (omega (arith, aligned)) in
-    let second = word_read pages n (index + 1) i (base + 4) page tree lies is (omega (arith, page_is, aligned)) (omega (arith, index_is, aligned)) (omega (arith, aligned)) in
-    let third = word_read pages n (index + 2) i (base + 8) page tree lies is (omega (arith, page_is, aligned)) (omega (arith, index_is, aligned)) (omega (arith, aligned)) in
-    let fourth = word_read pages n (index + 3) i (base + 12) page tree lies is (omega (arith, page_is, aligned)) (omega (arith, index_is, aligned)) (omega (arith, aligned)) in
-    four first second third fourth
+block_read pages n index i base page tree lies is page_is index_is aligned = grind (arith, word_read, four)
 
 pub block_absent : (pages : List Page) (n base : ℕ) → HasNone (numbers pages) n → n ≡ base / 64 → base % 16 ≡ 0
     → ◌≡◌ {A = List ℕ} (0 ∷ 0 ∷ 0 ∷ 0 ∷ []) (word_of pages base ∷ word_of pages (base + 4) ∷ word_of pages (base + 8) ∷ word_of pages (base + 12) ∷ [])

@@ -1,5 +1,5 @@
 -- Behind an event that is read before it, a command that a write gives may move its rings as before
-use Rattle.safety.proofs.UpperLaws.{arith, [], ◌≡◌, ◌&&◌, ◌∙◌, ℕ, Bool, false, Some, refl, subst, eq-eqb, MayCome, or_from, and_parts, false≢true, false_from_ne_true, not_from_true, Block, cases_option, Command, AddressDevice, SetTrDequeue, is_off, Header, Write, Read, IsHeader, Known, command_given, learned, binding_in, is_bad_stay, is_bad_move, lenient, DriverKeeps, StaysIf, clean_tests, read_on}
+use Rattle.safety.proofs.UpperLaws.{arith, [], ◌≡◌, ◌&&◌, ◌∙◌, ℕ, not, Bool, false, Some, refl, sym, ap, subst, inl, inr, rules, eq-eqb, MayCome, or_from, and_parts, false≢true, false_from_ne_true, not_from_true, Block, cases_option, Command, AddressDevice, SetTrDequeue, is_off, Header, Write, Read, IsHeader, Known, command_given, learned, binding_in, is_bad_stay, is_bad_move, lenient, DriverKeeps, StaysIf, clean_tests, read_on}
 use Rattle.safety.proofs.DriverHistories.{kept_driver}
 use Rattle.safety.proofs.GivenBehind.{between, own_between}
 use Rattle.safety.proofs.CommandContext.{set_behind}
@@ -22,7 +22,15 @@ module _ (h : Header) (is : IsHeader h) (k : Known) (d : DriverKeeps h k) (a w :
 
   by : (f : Command) → c ≡ f → is_bad_move h l f ≡ false
   unfolding is_bad_move
-  by z at = grind (arith, is_bad_move, l, set_behind, false_from_ne_true, is_off, is_bad_stay, binding_in, and_parts, cases_option, behind_keeps, stay_behind)
+  by (SetTrDequeue s i p cycle) at = ap (λ f. is_bad_move h l f) (sym at) ∙ set_behind h is k d e may a w clean c given s i p cycle at
+  by (AddressDevice s bsr n) at =
+      false_from_ne_true (not (is_off (l.endpoint_state s 1)) && is_bad_stay h l (l.ring_of s 1) (binding_in h l n 1)) (λ both.
+      let parts = and_parts (not (is_off (l.endpoint_state s 1))) (is_bad_stay h l (l.ring_of s 1) (binding_in h l n 1)) both in
+      elim (cases_option (l.ring_of s 1)) [
+        | inl none ↦ false≢true (sym (ap (λ t. not (is_off t)) (behind_keeps.states.off s 1 none)) ∙ parts.0)
+        | inr r ↦ false≢true (sym (ap (λ o. is_bad_stay h l o (binding_in h l n 1)) r.1 ∙ stay_behind s n r.0 bsr at r.1) ∙ parts.1)
+      ])
+  by _ at = refl
 
   pub moves_behind : is_bad_move h l c ≡ false
   moves_behind = by c refl

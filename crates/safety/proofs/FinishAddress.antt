@@ -51,7 +51,7 @@ module _ (h : Header) (is : IsHeader h) (k : Known) (d : DriverKeeps h k) (s n :
       }
 
   pub second_moves : is_off (k.endpoint_state s 1) ≡ false → MayMove h k s 1 p cycle
-  second_moves on = grind (arith, cases_option, false≢true, moves_at, cases_option (k.ring_of s 1))
+  second_moves on = elim (cases_option (k.ring_of s 1)) [ inl none ↦ absurd (false≢true (sym on ∙ ap is_off (d.states.off s 1 none))) | inr some ↦ moves_at on some.0 some.1 ]
 
   -- ---- behind the change of the slot's state
 

@@ -22,7 +22,10 @@ module _ (h : Header) (is : IsHeader h) (k : Known) (w : World) (d : DriverKeeps
       let keeps = d.rings r ring in
       let at = stands_at h is k w d s r (Link q) ring m in
       let found = block_found h is k w d s r (Link q) ring m in
-      search (rules, crossable, shape_of, waits_at_link, cycle)
+      elim (cases_Bool ((k.ring r).crossed q)) [
+        | inl given ↦ crossable (shape_of h r) allowed k.memory (k.ring r) keeps q at given
+        | inr missing ↦ absurd (waits_at_link (shape_of h r) allowed k.memory (k.ring r) keeps q at missing (sym (ap (λ b. cycle b) found) ∙ same ∙ m.cycle))
+      ]
 
   pub block_no_link : (q : ℕ) → RingMatches (shape_of h r) (k.ring r) (state_of w r) (Data q) → Takeable (shape_of h r) k.memory (k.ring r) q → is_link (kind (seen w r)) ≡ false
   block_no_link q m t =

@@ -62,4 +62,9 @@ module _ (h : Header) where
     module _ (square : SquareLaw h) (more : MoreLaw h) where
       pub row_runs : (now : Known) (row : Row) (w v : World) → IsRow row → IsDriverRow row → DriverKeeps h now → Runs h now w → MayCome h now row → (learned h now row).stopped ≡ false →
           row_done h w row ≡ Some v → Runs h (learned h now row) (counted h v)
-      row_runs now z w v is_row driver_row keeps run possible on at = grind (arith, is_idle, idle_runs, awake_runs)
+      row_runs now (Bell s t) w v is_row driver_row keeps run possible on at =
+          elim (cases_Bool (is_idle h now (Bell s t))) [
+            | inl idles ↦ idle_runs now w v s t keeps run possible.0 idles at
+            | inr awake ↦ awake_runs h is square more kept (Bell s t) is_row driver_row now w v keeps run possible awake on at
+          ]
+      row_runs now z w v is_row driver_row keeps run possible on at = search (rules, awake_runs)

@@ -185,7 +185,12 @@ module _ (h : Header) (is : IsHeader h) (k : Known) (w : World) (d : DriverKeeps
     pub takes : Unreported (shape_of h r) (k.ring r) (state_of w r) t
 
   pub endpoint_stands : (s i r : ℕ) (t : Spot) → r ≢ command_id h → k.ring_of s i ≡ Some r → StandsAt h w r t → EndpointStands r t
-  endpoint_stands s i r t other has at = search (rules, transfer_driver, d.states, g.matches, same_there)
+  endpoint_stands s i r t other has at =
+      let ring : IsDriverRing h r = transfer_driver h r (d.states.transfer s i r has) in
+      elim (g.matches.rings r other) [
+        | inl b ↦ subst (λ x. EndpointStands r x) (same_there r b.spot t ring b.matches at) (record { ring = ring; matches = b.matches; takes = b.takes })
+        | inr free ↦ absurd (free.none s i has)
+      ]
 
   -- the command ring: where it stands, and which command is under way
   pub record CommandsStand (t : Spot) : Type 0 where
@@ -194,7 +199,10 @@ module _ (h : Header) (is : IsHeader h) (k : Known) (w : World) (d : DriverKeeps
     pub under_way : UnderWayMatches h k t w.under_way
 
   pub commands_stand : (t : Spot) → k.started ≡ true → StandsAt h w (command_id h) t → CommandsStand t
-  commands_stand t on at = search (rules, command_is_ring, g.matches, same_there)
+  commands_stand t on at =
+      let ring : IsDriverRing h (command_id h) = command_is_ring h k d on in
+      let c = g.matches.command on in
+      subst (λ x. CommandsStand x) (same_there (command_id h) c.spot t ring c.ring at) (record { ring = ring; matches = c.ring; under_way = c.under_way })
 
   -- any ring that is active
   pub record RingStands (r : ℕ) (t : Spot) : Type 0 where
@@ -206,7 +214,11 @@ module _ (h : Header) (is : IsHeader h) (k : Known) (w : World) (d : DriverKeeps
       elim (cases_Bool k.started) [ inl on ↦ assumption (commands_stand t on at) | inr off ↦ absurd (false≢true (sym (g.matches.before off).inactive ∙ active)) ]
 
   endpoint_active : (r : ℕ) (t : Spot) → r ≢ command_id h → w.is_active r ≡ true → StandsAt h w r t → RingStands r t
-  endpoint_active r t other active at = search (rules, g.matches, endpoint_stands, false≢true)
+  endpoint_active r t other active at =
+      elim (g.matches.rings r other) [
+        | inl b ↦ assumption (endpoint_stands b.slot b.index r t other b.bound at)
+        | inr free ↦ absurd (false≢true (sym free.rests.inactive ∙ active))
+      ]
 
   pub ring_stands : (r : ℕ) (t : Spot) → w.is_active r ≡ true → StandsAt h w r t → RingStands r t
   ring_stands r t active at =
