@@ -37,7 +37,7 @@ unreal : (s i t j : ℕ) → is_endpoint s i ≡ false → IsEndpoint t j → t 
 unreal s i t j e one same at = search (rules, false≢true, ne_eqb)
 
 holds_one : (o : Option Holder) (s i t j : ℕ) → is_holder o s i ≡ true → (t == s && j == i) ≡ false → is_holder o t j ≡ false
-holds_one None s i t j has apart = search (rules, place_of, false≢true)
+holds_one None s i t j has apart = search rules
 holds_one (Some e) s i t j has apart = search (rules, place_of, false≢true)
 
 -- an endpoint that had it lets it go

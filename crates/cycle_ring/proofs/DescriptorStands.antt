@@ -73,7 +73,7 @@ module _ (shape : Shape) (is_shape : IsShape shape) where
         elim h.is_word [
           | inl of_block ↦
               elim k.is_word [
-                | inl of_block' ↦ search (rules, same_block_word, block_at_position)
+                | inl of_block' ↦ search (rules, same_block_word)
                 | inr of_link' ↦ absurd (block_not_link h.q k.q (block_at_position shape h.q h.b) (nat_lt first k.q) x v u of_block of_link')
               ]
           | inr of_link ↦
@@ -95,7 +95,7 @@ module _ (shape : Shape) (is_shape : IsShape shape) where
         → played memory (writes_of shape first blocks) x ≡ v
     word_stands memory j q b x v position block is_word =
         let written : IsWritten shape first first blocks x v = search rules in
-        search (rules, played-written, writes_of, word_of_descriptor_written, one_word, writes_of-words)
+        search (rules, played-written, word_of_descriptor_written, one_word, writes_of-words)
 
     pub blocks_stand : BlocksStand shape first blocks (writes_of shape first blocks)
     blocks_stand memory i b which =

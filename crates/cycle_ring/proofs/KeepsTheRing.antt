@@ -96,7 +96,7 @@ keeps_with p b rest memory v is fewer k so allowed =
       keeps = all_keep shape memory v1 (front ++ last) (declares_keeps shape is memory v (b ∷ rest) k allowed) may;
       enqueued = subst (λ (u : RingView). IsEnqueuedSo (record p { enqueued = first + count }) u) seen (record {
         declared = s.all;
-        given = search (rules, same_test, lt-ltb, first_given_only, word, first_given, ltb-true);
+        given = search (rules, same_test, lt-ltb, first_given_only, first_given, ltb-true);
         crossed = λ q. same_test _ _
             (λ g.
             let only = first_crossed_only shape is first count queue (first + count) (first + count) m2 v2 s (word head 3) q some (omega arith) g in

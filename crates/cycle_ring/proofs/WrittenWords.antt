@@ -161,10 +161,10 @@ word_of_descriptor_written shape first (c ∷ rest) zero q b x v position block 
     elim word [
       | inl of_block ↦
           elim (word_written a head x v of_block) [
-            | inl in_low ↦ search (rules, Contains-append_left, control_write, Contains-append_right)
+            | inl in_low ↦ search (rules, Contains-append_left, Contains-append_right)
             | inr in_control ↦ Contains-append_right (way ++ low ++ later) (control_write a head) (x, v) in_control
           ]
-      | inr of_link ↦ search (rules, Contains-append_left, control_write, link_word_written)
+      | inr of_link ↦ search (rules, Contains-append_left, link_word_written)
     ]
 word_of_descriptor_written shape first (c ∷ rest) (suc j) q b x v position block is_word =
     let a = address_of shape first in

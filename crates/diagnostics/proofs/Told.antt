@@ -1,5 +1,5 @@
 -- A diagnostic that is told is a diagnostic of its own line and matter
-use Rattle.std.proofs.Common.{◌≡◌, ℕ, List, Result, Ok, Err, IfOk, String, string_bytes, subst, refl}
+use Rattle.std.proofs.Common.{◌≡◌, ℕ, List, Result, Ok, Err, IfOk, String, string_bytes}
 use Rattle.std.specs.declared.alloc.Global.{Global}
 use Rattle.diagnostics.specs.Layout.{IsToldOf, told_text}
 use Rattle.diagnostics.specs.declared.diagnostic.Diagnostic.{Diagnostic}

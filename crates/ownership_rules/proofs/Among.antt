@@ -1,5 +1,5 @@
 -- Elements of lists, and lists of leases: what of one list isn't in another
-use Rattle.ownership_rules.proofs.Words.{rules, arith, ◌≡◌, ◌==◌, ◌&&◌, ◌||◌, ◌⊎◌, ◌∷◌, ◌∙◌, ℕ, Bool, true, false, not, List, [], filter, sym, ap, refl, inl, inr, eqb-true, eq-eqb, list_any, cases_Bool, false≢true, and_parts, and_from, or_left, or_right, or_cases, Use, Leased, is_among, same_leased, same_use}
+use Rattle.ownership_rules.proofs.Words.{rules, arith, ◌≡◌, ◌==◌, ◌&&◌, ◌||◌, ◌⊎◌, ◌∷◌, ◌∙◌, ℕ, Bool, true, not, List, [], filter, sym, ap, refl, inl, inr, eqb-true, eq-eqb, list_any, cases_Bool, false≢true, and_parts, and_from, or_left, or_right, or_cases, Use, Leased, is_among, same_leased, same_use}
 
 -- two tests that imply each other are equal
 pub both_ways : (a b : Bool) → (a ≡ true → b ≡ true) → (b ≡ true → a ≡ true) → a ≡ b

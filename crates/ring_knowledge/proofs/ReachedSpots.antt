@@ -1,5 +1,5 @@
 -- A record whose floor has moved on: the marks of what the controller has passed are cleared
-use Rattle.ring_knowledge.proofs.MiddleLaws.{in_range_all, drop, ◌≡◌, ◌+◌, ◌-◌, ◌%◌, ◌<◌, ◌≤◌, ◌∙◌, ◌&&◌, ◌||◌, ℕ, List, Bool, true, false, Some, ap, sym, arith, inl, inr, length, not, max, cases_lt, cases_Bool, and_parts, false≢true, add-mod_right, Spot, Data, Link, Shape, place_count, link_crossed, is_crossing, number, RingView, Reaches, changed, floor_number, is_way_given, is_reached, are_given, are_ways_given, link_of, place_count_pos, crossed_link, crossing_positive, is_crossing-from, link_crossed-lap, RingRecord, AreCleared, is_noted, FollowsMarks, least_crossing, rules, noted_below, noted_due, noted_past, same_due, same_due_crossing, link_of-crossed}
+use Rattle.ring_knowledge.proofs.MiddleLaws.{in_range_all, drop, ◌≡◌, ◌+◌, ◌-◌, ◌%◌, ◌<◌, ◌≤◌, ◌∙◌, ◌&&◌, ◌||◌, ℕ, List, Bool, true, Some, ap, sym, arith, inl, inr, length, not, max, cases_lt, cases_Bool, and_parts, false≢true, add-mod_right, Spot, Data, Link, Shape, place_count, link_crossed, is_crossing, number, RingView, Reaches, changed, floor_number, is_way_given, is_reached, are_given, are_ways_given, link_of, place_count_pos, crossed_link, crossing_positive, is_crossing-from, link_crossed-lap, RingRecord, AreCleared, is_noted, FollowsMarks, least_crossing, rules, noted_below, noted_due, noted_past, same_due, same_due_crossing, link_of-crossed}
 
 -- before a spot that is reached all positions are given
 pub reached_given : (shape : Shape) (v : RingView) (spot : Spot) → is_reached shape v spot ≡ true → (p : ℕ) → p < number spot → v.given p ≡ true

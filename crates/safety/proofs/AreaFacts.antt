@@ -46,7 +46,7 @@ module _ (h : Header) where
 
   pub area_from : (k : Known) (from len : ℕ) → AreaParts k from len → is_bad_area h k from len ≡ false
   unfolding is_bad_area
-  area_from k from len p = search (rules, or_from, nat_lt, touches_ring, list_any, covers, device_ranges, p.ends)
+  area_from k from len p = search (rules, or_from, p.ends)
 
   covers_range : (from len n a : ℕ) (u : Use) → covers h from len (Range n a u) ≡ overlap from len a n
   unfolding covers lease_start lease_bytes

@@ -1,5 +1,5 @@
 -- Behind an event that is read before it, a command that a write gives has the same input context, and may move the same rings
-use Rattle.safety.proofs.UpperLaws.{[], ◌≡◌, ◌∙◌, ℕ, false, Bool, Some, ap, subst, MayCome, or_parts, or_from, Block, Command, SetTrDequeue, Header, Write, Read, IsHeader, Known, command_given, learned, is_bad_area, is_soiled, covers, device_ranges, is_bad_dequeue, is_bad_move, lenient, DriverKeeps, MovesIf, has_bad_context, rules, arith, AreaParts, area_parts, area_from, clean_same, context_parts, context_from, Behind, devices_fewer, none_fewer, event_behind}
+use Rattle.safety.proofs.UpperLaws.{[], ◌≡◌, ◌∙◌, ℕ, false, Bool, Some, ap, subst, MayCome, Block, Command, SetTrDequeue, Header, Write, Read, IsHeader, Known, command_given, learned, is_bad_area, is_soiled, covers, device_ranges, is_bad_dequeue, is_bad_move, lenient, DriverKeeps, MovesIf, has_bad_context, rules, arith, AreaParts, area_parts, area_from, clean_same, context_parts, context_from, Behind, devices_fewer, none_fewer, event_behind}
 use Rattle.safety.proofs.GivenBehind.{between, own_between}
 
 module _ (h : Header) (is : IsHeader h) (k : Known) (d : DriverKeeps h k) (e : Block) (may : lenient h k (Read e) ≡ []) where
@@ -27,7 +27,7 @@ module _ (h : Header) (is : IsHeader h) (k : Known) (d : DriverKeeps h k) (e : B
 
     set_by : (s i p : ℕ) (cycle : Bool) → is_bad_move h x (SetTrDequeue s i p cycle) ≡ false → is_bad_move h l (SetTrDequeue s i p cycle) ≡ false
     unfolding is_bad_move is_bad_dequeue
-    set_by s i p cycle good = search (rules, or_parts, is_bad_dequeue, or_from)
+    set_by s i p cycle good = search rules
 
     -- a Set TR Dequeue may move the ring as before
     pub set_behind : (s i p : ℕ) (cycle : Bool) → c ≡ SetTrDequeue s i p cycle → is_bad_move h l c ≡ false

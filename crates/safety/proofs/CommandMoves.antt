@@ -1,5 +1,5 @@
 -- Behind an event that is read before it, a command that a write gives may move its rings as before
-use Rattle.safety.proofs.UpperLaws.{arith, [], ◌≡◌, ◌&&◌, ◌∙◌, ℕ, not, Bool, false, Some, refl, sym, ap, subst, inl, inr, rules, eq-eqb, MayCome, or_from, and_parts, false≢true, false_from_ne_true, not_from_true, Block, cases_option, Command, AddressDevice, SetTrDequeue, is_off, Header, Write, Read, IsHeader, Known, command_given, learned, binding_in, is_bad_stay, is_bad_move, lenient, DriverKeeps, StaysIf, clean_tests, read_on}
+use Rattle.safety.proofs.UpperLaws.{arith, [], ◌≡◌, ◌&&◌, ◌∙◌, ℕ, not, Bool, false, Some, refl, sym, ap, subst, inl, inr, eq-eqb, MayCome, or_from, and_parts, false≢true, false_from_ne_true, not_from_true, Block, cases_option, Command, AddressDevice, SetTrDequeue, is_off, Header, Write, Read, IsHeader, Known, command_given, learned, binding_in, is_bad_stay, is_bad_move, lenient, DriverKeeps, StaysIf, clean_tests, read_on}
 use Rattle.safety.proofs.DriverHistories.{kept_driver}
 use Rattle.safety.proofs.GivenBehind.{between, own_between}
 use Rattle.safety.proofs.CommandContext.{set_behind}

@@ -28,7 +28,7 @@ module _ (h : Header) (c : Command) (k : Known) (w : World) (m : StatesMatch h k
 
   keeps_command : bindings.has_one_of w s which (command_id h) ≡ false
   unfolding bindings.has_one_of
-  keeps_command = search (rules, none_in_range, is_ring, command_id, w.ring_of, and_right, no_ring_of, m.apart, m.ring_of)
+  keeps_command = search (rules, none_in_range, command_id, and_right, no_ring_of, m.apart, m.ring_of)
 
   abbrev goes_inactive : ℕ → Bool
   goes_inactive r = w.is_active r && not (bindings.has_one_of w s which r)

@@ -1,5 +1,5 @@
 -- Where rings may be held at greater numbers, what is known agrees with the world all the more
-use Rattle.safety.proofs.LowerLaws.{◌≡◌, ℕ, List, option_and_then, slice_get, refl, ap, subst, rules, Block, RingView, Command, Header, command_id, World, Known, command_at, next_command, IsUnfinished, Matches, Agrees, HeldMore, held_goes_on}
+use Rattle.safety.proofs.LowerLaws.{◌≡◌, ℕ, List, option_and_then, slice_get, refl, ap, subst, rules, Block, RingView, Header, command_id, World, Known, command_at, next_command, Matches, Agrees, HeldMore, held_goes_on}
 use Rattle.safety.proofs.MatchesGoesOn.{same_controller, matches_go_on}
 
 -- of one ring

@@ -38,7 +38,7 @@ module _ (h : Header) where
   kind_devices is k b _ d on possible = d.devices
 
   reads_devices : (k : Known) (n : ℕ) → DevicesKeep h k → DevicesKeep h (with_reads k n)
-  reads_devices k n keeps = search (rules, devices_same, with_reads)
+  reads_devices k n keeps = search (rules, devices_same)
 
   -- ---- any row
 

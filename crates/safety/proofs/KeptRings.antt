@@ -1,5 +1,5 @@
 -- What the rules keep of each ring is kept by each row: of a command that succeeds holds still what was tested when it was given
-use Rattle.safety.proofs.MiddleLaws.{[], ◌≡◌, ◌<◌, ◌∙◌, ℕ, true, false, Some, arith, sym, ap, ltb-true, rules, or_parts, not-false, Block, kind, is_command_completion, ceiling, RingKeeps, Command, Header, Row, Read, IsHeader, shape_of, command_id, Known, command_at, next_command, may_be_taken, can_finish, is_impossible_completion, is_impossible_by_kind, lenient, IsDriverRing, IsUnfinished, CommandKeeps, MovesIf, StaysIf, DriverKeeps, KeptByRestoring, StillReads, MovesOn, StillHolds, RingsKeep, ring_shape, content_good, are_free, ceiling_given, AtFloor, at_floor, command_is_ring, completion_kind, still_reads, driver_test, rings_of, endpoints_of, EventFacts, event_facts}
+use Rattle.safety.proofs.MiddleLaws.{[], ◌≡◌, ◌<◌, ◌∙◌, ℕ, true, false, Some, arith, sym, ap, ltb-true, rules, or_parts, not-false, Block, kind, is_command_completion, ceiling, RingKeeps, Command, Header, Row, Read, IsHeader, shape_of, command_id, Known, command_at, next_command, may_be_taken, can_finish, is_impossible_completion, is_impossible_by_kind, lenient, IsDriverRing, IsUnfinished, CommandKeeps, DriverKeeps, KeptByRestoring, StillReads, StillHolds, RingsKeep, ring_shape, content_good, are_free, ceiling_given, AtFloor, at_floor, command_is_ring, completion_kind, still_reads, driver_test, rings_of, endpoints_of, EventFacts, event_facts}
 use Rattle.safety.proofs.Histories.{row_keeps}
 
 -- what an event that finishes a command says

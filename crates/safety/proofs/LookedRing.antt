@@ -60,10 +60,10 @@ right_place false d begins = refl
 order_kept : (shape : Shape) (a : ℕ) (b : Block) (d : Option DeclaredBlock) (older : List RingEvent) → is_right_place (was_placed older) d ≡ true →
     address_of shape (next_take shape older) ≡ a → is_out_of_order shape older ≡ false → is_out_of_order shape (Took a b d ∷ older) ≡ false
 unfolding is_out_of_order
-order_kept shape a b d older right here rest = search (rules, or_from, not_from_true, is_right_place, was_placed, address_of, next_take, eq-eqb)
+order_kept shape a b d older right here rest = search (rules, or_from, not_from_true, eq-eqb)
 
 pub words_itself : (b : Block) → same_words b b ≡ true
-words_itself b = search (rules, and_from, eq-eqb, word)
+words_itself b = search (rules, and_from, eq-eqb)
 
 words_kept : (shape : Shape) (a : ℕ) (b : Block) (d : DeclaredBlock) (older : List RingEvent) → b ≡ with_cycle d.block (cycle_of shape (next_take shape older)) →
     has_other_words shape older ≡ false → has_other_words shape (Took a b (Some d) ∷ older) ≡ false

@@ -1,5 +1,5 @@
 -- A ring on which nothing more is declared or given may be moved where it could be before
-use Rattle.safety.proofs.Words.{◌≡◌, ◌≤◌, ℕ, Bool, true, length, Some, option_and_then, slice_get, rules, Shape, RingView, declared, floor_number, ceiling, is_border, is_move, move_more, ceiling_held, Command, Header, command_id, Known, command_at, IsUnfinished}
+use Rattle.safety.proofs.Words.{◌≡◌, ℕ, length, Some, option_and_then, slice_get, rules, Shape, RingView, declared, floor_number, ceiling, is_border, move_more, ceiling_held, Command, Header, command_id, Known, command_at, IsUnfinished}
 use Rattle.safety.proofs.CommandsStay.{Standing, MovesAhead}
 use Rattle.safety.proofs.SameDriver.{SameGiven}
 

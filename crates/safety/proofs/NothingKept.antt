@@ -1,5 +1,5 @@
 -- Before the first row a driver keeps everything
-use Rattle.safety.proofs.MiddleLaws.{rules, false≢true, none-some, slice_get_past, Header, IsHeader, nothing, known, Unstarted, DriverKeeps, driver_test, from_parts, keeps_endpoints}
+use Rattle.safety.proofs.MiddleLaws.{rules, false≢true, none-some, slice_get_past, Header, IsHeader, nothing, known, DriverKeeps, driver_test, from_parts, keeps_endpoints}
 use Rattle.safety.proofs.DriverRows.{nothing_keeps}
 
 module _ (h : Header) where

@@ -1,5 +1,5 @@
 -- A word of one ring gives nothing of another
-use Rattle.safety.proofs.Words.{◌≡◌, ◌≢◌, ◌==◌, ◌∙◌, ℕ, true, arith, sym, ap, inl, inr, eqb-true, or_cases, is_inside, RingView, Writes, changed, gives, gives_crossing, gives_is, gives_crossing_is, GivesMore, address_inside, link_address_inside, Header, Ring, IsHeader, shape_of, IsDriverRing, rules}
+use Rattle.safety.proofs.Words.{◌≡◌, ◌≢◌, ◌==◌, ◌∙◌, ℕ, true, arith, sym, ap, inl, inr, eqb-true, or_cases, is_inside, RingView, Writes, changed, gives, gives_crossing, gives_is, gives_crossing_is, GivesMore, address_inside, link_address_inside, Header, IsHeader, shape_of, IsDriverRing, rules}
 use Rattle.safety.proofs.Headers.{found_in, together, clash_apart, shape_is, header_parts, ring_shape}
 
 module _ (h : Header) (is : IsHeader h) (r c : ℕ) (d : IsDriverRing h r) (g : IsDriverRing h c) (other : r ≢ c) where

@@ -1,5 +1,5 @@
 -- What is known of an endpoint whose ring a command placed: it is bound anew, or moved
-use Rattle.safety.proofs.LowerLaws.{◌≡◌, ◌≢◌, ◌∙◌, ℕ, Bool, true, false, Some, refl, sym, ap, subst, eqb-true, rules, and_parts, cond-true, cond-false, put, put_pair, Spot, number, target, Command, EndpointState, Places, is_off, Header, IsHeader, shape_of, ring_having, Known, on_ring, set_to, bound_to, moved_to, moved, pointed, in_state, changed_by, put_at, put_off}
+use Rattle.safety.proofs.LowerLaws.{◌≡◌, ◌∙◌, ℕ, Bool, true, false, Some, refl, sym, ap, subst, eqb-true, rules, and_parts, cond-true, cond-false, put, put_pair, Spot, number, target, Command, EndpointState, Places, is_off, Header, IsHeader, shape_of, ring_having, Known, on_ring, set_to, bound_to, moved_to, moved, pointed, in_state, changed_by, put_at, put_off}
 use Rattle.safety.proofs.Placings.{pointed_is}
 use Rattle.safety.proofs.Placing.{PlacedTo}
 

@@ -67,7 +67,7 @@ module _ (h : Header) (e : EventRing h) where
 
     pub late_block : Late w → Late (stored_block w (address_of (event_shape h) p) b)
     unfolding stored_block
-    late_block late = search (rules, address_of, event_shape, late_stored, word)
+    late_block late = search (rules, late_stored)
 
     pub matches_block : Late w → Matches h k w → Matches h k (stored_block w (address_of (event_shape h) p) b)
     unfolding stored_block

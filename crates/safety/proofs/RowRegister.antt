@@ -34,7 +34,7 @@ module _ (h : Header) (k : Known) (unread : List Block) (w : World) (g : Agrees 
 
   pub valued_agrees : (r : Register) (x : ℕ) → Agrees h (valued k r x) unread (driver.valued w r x)
   unfolding valued driver.valued of_world.event_at
-  valued_agrees r x = search (rules, with_same, same_matches, valued)
+  valued_agrees r x = search (rules, with_same, same_matches)
 
 -- ---- ERDP
 
@@ -61,10 +61,10 @@ module _ (h : Header) (k : Known) (unread : List Block) (w : World) (g : Agrees 
 
   pub erdp_agrees : Agrees h (record k { dequeue = position_from (event_shape h) k.dequeue a }) unread (driver.with_dequeue h w a)
   unfolding moved_known moved_world driver.with_dequeue
-  erdp_agrees = search (rules, moved_known, cond-true, is_event_place, event_shape, moved_world, event_place, w.dequeue, may.more, moved_agrees)
+  erdp_agrees = search (rules, cond-true, event_shape, event_place, moved_agrees)
 
 -- an address that is no event place changes nothing
 pub erdp_stays : (h : Header) (k : Known) (unread : List Block) (w : World) → Agrees h k unread w → (a : ℕ) → is_event_place (event_shape h) a ≡ false →
     Agrees h (record k { dequeue = position_from (event_shape h) k.dequeue a }) unread (driver.with_dequeue h w a)
 unfolding driver.with_dequeue
-erdp_stays h k unread w g a none = search (rules, position_from, event_shape, k.dequeue, cond-false, is_event_place, w.dequeue, no_place_stays)
+erdp_stays h k unread w g a none = search (rules, event_shape, cond-false, no_place_stays)

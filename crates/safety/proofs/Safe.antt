@@ -13,7 +13,7 @@ no_some_ring h test none = no_ring h.rings test none
 
 waits_not : (w : World) (r : ℕ) → cycle (block_at w.memory (w.pointer_of r)) ≡ w.cycle_state r → waits w r ≡ false
 unfolding waits
-waits_not w r same = search (rules, and_right, w.is_active, not, cycle, block_at, w.memory, w.pointer_of, w.cycle_state, not_from_true, eq-eqb)
+waits_not w r same = search (rules, and_right, not_from_true, eq-eqb)
 
 waits_inactive : (w : World) (r : ℕ) → w.is_active r ≡ false → waits w r ≡ false
 unfolding waits

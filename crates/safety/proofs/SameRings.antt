@@ -1,5 +1,5 @@
 -- Rows that give no endpoint another ring than it had
-use Rattle.safety.proofs.Words.{◌≡◌, ◌==◌, if◌then◌else◌, ℕ, Bool, Option, option_and_then, refl, rules, cond_both, Block, Opens, Command, Header, Register, command_id, Known, on_ring, with_device, with_word, written, command_given, taken_device, run_or_stop, valued, register_written, endpoint_rung, rung, passed, broken_off, stopped_at, transferred, transferred_at, transfer_read, stop_ended, arith}
+use Rattle.safety.proofs.Words.{◌≡◌, ◌==◌, if◌then◌else◌, ℕ, Bool, refl, rules, cond_both, Block, Opens, Command, Header, Register, command_id, Known, on_ring, with_device, with_word, written, run_or_stop, valued, register_written, endpoint_rung, rung, passed, broken_off, stopped_at, transferred, transferred_at, transfer_read, stop_ended, arith}
 
 -- the same endpoints have rings, and the same ones
 abbrev pub SameRings : Known → Known → Type 0

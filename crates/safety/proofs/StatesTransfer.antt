@@ -54,7 +54,7 @@ module _ (h : Header) (k : Known) (e : EndpointsStand k) (seen : SeenStand h k) 
       (λ all. let both = and_parts _ _ (and_parts _ _ all).0 in stopped_only t (works_is k s i r both.0) (stops_is h k s i both.1)) nothing_more
 
   only_both : (l : Known) → l.ring (command_id h) ≡ k.ring (command_id h) → OnlyThis l → EndpointsStand l × SeenStand h l
-  only_both l command only = search (rules, one_stands, one_seen, only.one, only.own, stops_on, view_same, shape_of, command_id, k.ring, l.ring)
+  only_both l command only = search (rules, one_stands, one_seen, only.one, only.own, stops_on, view_same)
 
 module _ (h : Header) (is : IsHeader h) (k : Known) (d : DriverKeeps h k) where
   pub reported : (b : Block) → is_impossible_transfer h k b ≡ false → is_in_profile b ≡ true → can_report_at h k b (event_at h k b) ≡ true

@@ -1,5 +1,5 @@
 -- Other events counted as read, with nothing else that they say
-use Rattle.safety.proofs.Words.{◌≡◌, ◌∙◌, ℕ, Option, Some, None, sym, Spot, Command, Header, World, UnderWay, Known, IsUnfinished, Stands, UnderWayMatches, TakenCommand, Matches, command_at, next_command, was_stop_seen, arith}
+use Rattle.safety.proofs.Words.{◌∙◌, ℕ, Option, Some, None, sym, Spot, Command, Header, World, UnderWay, Known, IsUnfinished, Stands, UnderWayMatches, TakenCommand, Matches, command_at, next_command, was_stop_seen, arith}
 
 abbrev pub with_reads : Known → ℕ → Known
 with_reads k n = record k { reads = n }

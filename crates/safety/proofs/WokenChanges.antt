@@ -1,5 +1,5 @@
 -- What the success of a command changes, where it doesn't touch the endpoint that was woken: its ring stays woken
-use Rattle.safety.proofs.MiddleLaws.{[], ◌≡◌, ◌≢◌, ◌==◌, ◌&&◌, if◌then◌else◌, ◌∷◌, ◌∙◌, ℕ, Bool, true, false, List, Option, None, Some, sym, ap, subst, eq-eqb, eqb-true, rules, list_any, false≢true, or_parts, and_parts, and_from, cond-false, same_Some, put, put_pair, Spot, number, ceiling, target, Command, EndpointState, Stopped, is_off, Change, SlotGoesOn, DeviceLeft, Disables, Places, Stops, Resets, slot_gone_on, Header, IsHeader, shape_of, ring_having, Known, on_ring, set_to, bound_to, moved_to, moved, pointed, disabled, in_state, held_at_ceiling, changed_by, changed_by_all, EndpointsKeep, change_keeps, EndpointsStand, MayPlace, untouched_stays, Woken, woken_reach, woken_elsewhere, woken_state, Fits, FitAll, change_stands}
+use Rattle.safety.proofs.MiddleLaws.{[], ◌≡◌, ◌≢◌, ◌==◌, ◌&&◌, if◌then◌else◌, ◌∷◌, ◌∙◌, ℕ, Bool, true, false, List, Option, None, Some, sym, ap, subst, eq-eqb, eqb-true, rules, list_any, false≢true, or_parts, and_parts, and_from, cond-false, same_Some, put, put_pair, Spot, Command, EndpointState, Stopped, is_off, Change, SlotGoesOn, DeviceLeft, Disables, Places, Stops, Resets, slot_gone_on, Header, IsHeader, ring_having, Known, set_to, bound_to, moved_to, moved, pointed, disabled, in_state, held_at_ceiling, changed_by, changed_by_all, EndpointsKeep, change_keeps, EndpointsStand, MayPlace, untouched_stays, Woken, woken_reach, woken_elsewhere, woken_state, Fits, FitAll, change_stands}
 use Rattle.commands.specs.Changes.{touches}
 use Rattle.safety.proofs.AlikeChanges.{both_sides_if}
 
@@ -19,12 +19,12 @@ module _ (h : Header) (r s i : ℕ) where
   target_woken : (k l : Known) → Awake k l → (q : ℕ) (o : Option Spot) → q ≢ r → Awake (moved_to h k q o) (moved_to h l q o)
   unfolding moved_to set_to
   target_woken k l w q None other = w
-  target_woken k l w q (Some t) other = search (rules, woken_elsewhere, on_ring, woken_reach, number)
+  target_woken k l w q (Some t) other = search (rules, woken_elsewhere, woken_reach)
 
   moved_woken : (k l : Known) → Awake k l → (o : Option ℕ) (p : ℕ) (cycle : Bool) → ((q : ℕ) → o ≡ Some q → q ≢ r) → Awake (moved h k o p cycle) (moved h l o p cycle)
   unfolding moved
   moved_woken k l w None p cycle others = w
-  moved_woken k l w (Some q) p cycle others = search (rules, moved_to, target, shape_of, k.ring, w.rings, target_woken)
+  moved_woken k l w (Some q) p cycle others = search (rules, k.ring, w.rings, target_woken)
 
   bound_woken : (k l : Known) → Awake k l → (t j : ℕ) (o : Option ℕ) (p : ℕ) (cycle : Bool) → ((q : ℕ) → o ≡ Some q → q ≢ r) → Awake (bound_to h k t j o p cycle) (bound_to h l t j o p cycle)
   unfolding bound_to
@@ -35,7 +35,7 @@ module _ (h : Header) (r s i : ℕ) where
   ceiling_woken : (k l : Known) → Awake k l → (o : Option ℕ) → ((q : ℕ) → o ≡ Some q → q ≢ r) → Awake (held_at_ceiling h k o) (held_at_ceiling h l o)
   unfolding held_at_ceiling
   ceiling_woken k l w None others = w
-  ceiling_woken k l w (Some q) others = search (rules, on_ring, ceiling, shape_of, k.ring, w.rings, woken_elsewhere)
+  ceiling_woken k l w (Some q) others = search (rules, k.ring, w.rings, woken_elsewhere)
 
   -- ---- one change
 

@@ -1,5 +1,5 @@
 -- What is known behind a write: the word, what it gives, and the device context that it takes
-use Rattle.safety.proofs.LowerLaws.{◌≡◌, ◌<◌, ◌==◌, ◌&&◌, ◌||◌, ◌⊎◌, ◌∙◌, ℕ, not, true, false, Contains, Option, None, Some, option_and_then, slice_get, unwrap_or, arith, sym, ap, inl, inr, rules, cases_Bool, cond_both, or_cases, false≢true, mod_below, none-some, same_Some, put, Block, BlockKind, kind, slot, is_command_left_out, is_in, RingView, Writes, changed, is_due, gives, positions_given, position_given, positions_given-one, Command, command_of, command_by_kind, named_slot, device_context_bytes, Header, Write, IsHeader, shape_of, command_id, Known, learned, command_at, with_device, with_word, written, taken_device, command_given, IsDriverRing, IsUnfinished, ring_shape, due_has_ring}
+use Rattle.safety.proofs.LowerLaws.{◌≡◌, ◌<◌, ◌==◌, ◌&&◌, ◌||◌, ◌⊎◌, ◌∙◌, ℕ, not, true, false, Contains, Option, None, Some, option_and_then, slice_get, unwrap_or, arith, sym, ap, inl, inr, rules, cases_Bool, cond_both, or_cases, false≢true, mod_below, none-some, same_Some, put, Block, kind, slot, is_command_left_out, is_in, RingView, Writes, changed, is_due, gives, positions_given, position_given, positions_given-one, Command, command_of, command_by_kind, named_slot, device_context_bytes, Header, Write, IsHeader, shape_of, command_id, Known, learned, command_at, with_device, with_word, written, taken_device, command_given, IsDriverRing, IsUnfinished, ring_shape, due_has_ring}
 
 -- ---- a command names a slot below 256
 

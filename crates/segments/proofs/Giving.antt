@@ -5,7 +5,7 @@ pub due_is : (shape : Shape) (floor : Spot) (p : ℕ) → is_due shape floor p �
 due_is shape floor p h = search (rules, and_parts, leb-true, ltb-true)
 
 pub due_from : (shape : Shape) (floor : Spot) (p : ℕ) → number floor ≤ p → p < number floor + place_count shape → is_due shape floor p ≡ true
-due_from shape floor p from within = search (rules, and_from, le-leb, lt-ltb)
+due_from shape floor p from within = search (rules, and_from, le-leb)
 
 pub record Gives (shape : Shape) (floor : Spot) (p address word : ℕ) : Type 0 where
   pub due : is_due shape floor p ≡ true

@@ -1,5 +1,5 @@
 -- The four words of an event, in a row of a trace
-use Rattle.trace_reader.proofs.Words.{rules, ◌≡◌, ◌∙◌, ◌==◌, ℕ, List, Bool, Some, None, Result, Ok, Err, ap, cond, length, Block, LineError, LineFault, Plain, Read, Answers, said_by, form_as, AnswersBy, valued_by, event_form, event_line, said_of, Said, SaysRow, event_of}
+use Rattle.trace_reader.proofs.Words.{rules, ◌≡◌, ◌∙◌, ℕ, List, Result, Ok, Err, ap, Block, LineError, LineFault, Plain, Read, Answers, said_by, form_as, AnswersBy, valued_by, event_form, event_line, said_of, Said, SaysRow, event_of}
 
 as_said : Result Block LineFault → Result Said LineFault
 as_said (Ok event) = Ok (SaysRow (Plain (Read event)))

@@ -1,5 +1,5 @@
 -- The form of a line by its first word
-use Rattle.trace_reader.proofs.Words.{rules, ◌≡◌, ◌∷◌, ℕ, List, [], Bool, true, false, Option, Some, None, ap, cond, codes, Err, option_and_then, BadRow, bytes_eq, FirstWord, SubWord, W, RegWord, Db, Ev, RingWord, FreeWord, NopWord, form_behind, said_by, said_by_fields, word_named, form_as, form_of, line_named, ring_lines, sub_line, write_line, reg_line, bell_line, event_line, ring_line, comes_line, goes_line, withdraws_line, Said, Version, has_ring_rows}
+use Rattle.trace_reader.proofs.Words.{rules, ◌≡◌, ◌∷◌, ℕ, List, [], Bool, true, false, Option, Some, None, ap, cond, Err, option_and_then, BadRow, FirstWord, SubWord, W, RegWord, Db, Ev, RingWord, FreeWord, NopWord, form_behind, said_by, said_by_fields, word_named, form_as, form_of, sub_line, write_line, reg_line, bell_line, event_line, ring_line, comes_line, goes_line, withdraws_line, Said, Version, has_ring_rows}
 use Rattle.trace_reader.specs.Grammar.{Line}
 
 abbrev Named : Bool → Bool → List (List ℕ) → Option (Line Said) → Option FirstWord → Type 0

@@ -10,7 +10,7 @@ are_fields : (texts : List (List ℕ)) → All (λ text. All (λ c. 32 < c) text
 are_fields texts plain = search (rules, All-weaker)
 
 without_line_feed : (texts : List (List ℕ)) → All (λ text. All (λ c. 32 < c) text) texts → All (λ c. is_line_feed c ≡ false) (join_with_byte 32 texts)
-without_line_feed texts plain = search (rules, All-join, All-weaker, not_line_feed)
+without_line_feed texts plain = search (rules, All-join, not_line_feed)
 
 -- a line of fields, at least one
 pub record IsSoundLine (fields : List Field) : Type 0 where

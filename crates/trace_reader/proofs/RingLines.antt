@@ -1,5 +1,5 @@
 -- A ring's line by its fields, in a trace and in a plan
-use Rattle.trace_reader.proofs.Words.{rules, ◌≡◌, ◌∷◌, ◌∙◌, ℕ, List, [], Bool, true, false, Some, None, Result, Ok, Err, refl, ap, cond, codes, bytes_eq, RingEntry, LineError, LineFault, Ring, Answers, ring_of, said_by, are_fields, form_as, AnswersBy, valued_by, ring_alone, ring_line_form, ring_value, ring_line, said_of, Said, SaysRing}
+use Rattle.trace_reader.proofs.Words.{rules, ◌≡◌, ◌∷◌, ◌∙◌, ℕ, List, [], true, false, None, Result, Ok, Err, refl, ap, codes, bytes_eq, RingEntry, LineError, LineFault, Ring, Answers, ring_of, said_by, form_as, AnswersBy, valued_by, ring_alone, ring_line_form, ring_value, ring_line, said_of, Said, SaysRing}
 
 -- ---- in a trace
 

@@ -13,7 +13,7 @@ known : (h : Header) (k : Known) (c : Command) → is_left_out_by (not (is_three
 unfolding has_left_out_endpoint adds_isochronous adds_streams type_in streams_in adds_left_out is_left_out_in
 known h k (AddressDevice s bsr a) = refl
 known h k (ConfigureEndpoint s true a) = nothing_else (not (is_three h.version))
-known h k (ConfigureEndpoint s false a) = search (rules, nothing_else, some_of_both)
+known h k (ConfigureEndpoint s false a) = search (rules, some_of_both)
 known h k NoOp = nothing_else (not (is_three h.version))
 known h k EnableSlot = nothing_else (not (is_three h.version))
 known h k (DisableSlot s) = nothing_else (not (is_three h.version))

@@ -59,7 +59,7 @@ module _ (h : Header) (k : Known) (keeps : DriverKeeps h k) (c : Command) (r : �
 
     left_by : (b : Bool) → drops k c at.slot at.index ≡ b → list_any (λ i. leaves k c i r) (range_with_len 2 30) ≡ b
     left_by true is = left_at c is
-    left_by false is = search (rules, left_at, any_nowhere, false_unless, left_of)
+    left_by false is = search (rules, any_nowhere, false_unless, left_of)
 
     -- and among the rings that the command drops where its endpoint is
     pub left_is : list_any (λ i. leaves k c i r) (range_with_len 2 30) ≡ drops k c at.slot at.index

@@ -1,5 +1,5 @@
 -- A ring that goes: the header is one still, and the record follows
-use Rattle.driver_rows.proofs.MiddleLaws.{rules, ◌≡◌, ◌≢◌, ◌==◌, ◌<◌, ◌∙◌, ℕ, not, true, false, Some, filter, length, slice_get, refl, sym, ap, subst, arith, eq-eqb, eqb-true, ne_eqb, Option, list_any, range_with_len, remove, and_from, false_from_ne_true, slice_get_within, length-remove, any_of, false≢true, not_from_false, some_of, Xfer, Header, Ring, IsHeader, is_ring, ring_with, Known, FollowsRing, HasEndpoint, FollowsRings, among_at, numbers_apart, ring_found, is_transfer_ring, DriverKeeps, header_parts, in_range, TraceRecord, FollowsTrace, forgotten, is_bad_free, is_had, without_ring, all_kept, together_kept, cleared, cleared_apart, IsTransferAt, numbered, another_place, at_remove, kept_others, place_before, other_record}
+use Rattle.driver_rows.proofs.MiddleLaws.{rules, ◌≡◌, ◌≢◌, ◌==◌, ◌<◌, ◌∙◌, ℕ, not, true, false, Some, filter, length, slice_get, refl, sym, ap, subst, arith, eq-eqb, eqb-true, ne_eqb, Option, list_any, range_with_len, remove, and_from, false_from_ne_true, slice_get_within, length-remove, any_of, not_from_false, some_of, Xfer, Header, Ring, IsHeader, is_ring, ring_with, Known, FollowsRing, HasEndpoint, FollowsRings, among_at, numbers_apart, ring_found, is_transfer_ring, DriverKeeps, header_parts, in_range, TraceRecord, FollowsTrace, forgotten, is_bad_free, is_had, without_ring, all_kept, together_kept, cleared, cleared_apart, IsTransferAt, numbered, another_place, at_remove, kept_others, place_before, other_record}
 use Rattle.safety.proofs.RingChanges.GoneRings as goes
 
 -- ---- whether an endpoint has the ring

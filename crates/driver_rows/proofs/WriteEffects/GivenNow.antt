@@ -1,5 +1,5 @@
 -- What a write that breaks no rule gives: a command that nothing excludes, and a device context that lies where it may
-use Rattle.driver_rows.proofs.LowerLaws.{rules, ◌≡◌, ℕ, ◌+◌, ◌^◌, ◌≤◌, List, [], ◌∷◌, Option, Some, None, refl, ap, sym, ◌∙◌, arith, inl, subst, Contains, option_and_then, filter_map, eq-eqb, false≢true, positions_given, gives_is, position_given_is, Command, AddressDevice, Header, Write, IsHeader, shape_of, command_id, Known, unfinished, device_named, entry_of, no_device, taken_device, command_given, slots, lenient, DeviceKeeps, DriverKeeps, ring_shape, due_has_ring, area_parts, taking, after_write, taken, written_device, written_device_none, given_facts, rules_of, written_devices, Inserted, GivesOne, allowed_gives, written_with, written_without, device_contexts, IsInserted, IsWith, MayBeGiven, EntryFits, LiesOnWords, address_taken, given_endpoint, listed_with, nat_tests}
+use Rattle.driver_rows.proofs.LowerLaws.{rules, ◌≡◌, ℕ, ◌+◌, ◌^◌, ◌≤◌, List, [], ◌∷◌, Option, Some, None, refl, ap, sym, ◌∙◌, arith, inl, subst, Contains, option_and_then, filter_map, eq-eqb, positions_given, gives_is, position_given_is, Command, AddressDevice, Header, Write, IsHeader, shape_of, command_id, Known, unfinished, device_named, entry_of, no_device, taken_device, command_given, slots, lenient, DeviceKeeps, DriverKeeps, ring_shape, due_has_ring, area_parts, taking, after_write, taken, written_device, written_device_none, given_facts, rules_of, written_devices, Inserted, GivesOne, allowed_gives, written_with, written_without, device_contexts, IsInserted, IsWith, MayBeGiven, EntryFits, LiesOnWords, address_taken, given_endpoint, listed_with, nat_tests}
 use Rattle.ownership_rules.specs.Commands as commands
 
 inserted : {X : Type 0} (x : X) (old new : List X) → Inserted x old new → IsInserted x old new

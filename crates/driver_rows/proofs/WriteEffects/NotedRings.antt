@@ -10,7 +10,7 @@ module _ (h : Header) (headed : IsHeader h) (a w : ℕ) (aligned : a % 4 ≡ 0) 
   inside_is q among = touches-word q.shape (shape_allowed h headed q among) a aligned
 
   other_written : (q : Ring) → IsAmong q h.rings → is_inside q.shape a ≡ false → (r : RingRecord) → FollowsRing q.shape (k.ring q.id) r → FollowsRing q.shape ((with_word h k a w).ring q.id) r
-  other_written q among outside r t = search (rules, view_written, nothing_changed, shape_allowed)
+  other_written q among outside r t = search (rules, view_written, nothing_changed)
 
   -- no ring has it
   pub noted_nowhere : ((q : Ring) → IsAmong q h.rings → touches q.shape a 4 ≡ false) → FollowsRings h (with_word h k a w) records

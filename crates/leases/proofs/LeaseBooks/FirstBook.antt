@@ -1,5 +1,5 @@
 -- Before the first row the event segments are under lease, and nothing else
-use Rattle.leases.proofs.LowerLaws.{and_false, ◌≡◌, ◌*◌, ◌++◌, ◌∙◌, ℕ, [], map, subst, sym, ap, refl, append-nil, is_crossing, due_crossings, due_positions, leased_crossings, leased_positions, is_handed_over, new_ring, Segment, Header, Ring, Erstba, command_id, driver_rings, event_shape, shape_of, nothing, Leased, Range, EventSegment, context_ranges, device_ranges, entry_ranges, open_leases, open_on, open_ranges, range_of_command, range_of_device, range_of_entry, segment_ranges, slots, table_range, as_lease, in_order, without_end, IsIn, IndexTables, begun_at, in_turn, lease_of, lents, with_begun, AllUnended, IsFound, segment_lease, rules, filter_none, map_map, sorted, all_new, from_turn, flat_none, from_map, IsRange, all_anew}
+use Rattle.leases.proofs.LowerLaws.{and_false, ◌≡◌, ◌*◌, ◌++◌, ◌∙◌, ℕ, [], map, subst, sym, ap, refl, append-nil, is_crossing, due_crossings, due_positions, leased_crossings, leased_positions, is_handed_over, new_ring, Segment, Header, Ring, Erstba, driver_rings, event_shape, nothing, Leased, Range, EventSegment, context_ranges, device_ranges, entry_ranges, open_leases, open_on, open_ranges, range_of_device, range_of_entry, segment_ranges, slots, table_range, as_lease, in_order, without_end, IsIn, IndexTables, begun_at, in_turn, lease_of, lents, with_begun, AllUnended, IsFound, segment_lease, rules, filter_none, map_map, sorted, all_new, from_turn, flat_none, from_map, IsRange, all_anew}
 use Rattle.ring_knowledge.specs.Rings as rings
 
 module _ (h : Header) where
@@ -21,7 +21,7 @@ module _ (h : Header) where
 
   ranges_at_first : open_ranges h nothing ≡ segment_ranges h
   unfolding open_ranges context_ranges rings.unfinished_positions nothing
-  ranges_at_first = rw (no_table, range_of_command, nothing, filter_none, due_positions, shape_of, command_id, new_ring, no_entries, no_devices) (append-nil _ ∙ append-nil _ ∙ append-nil _ ∙ append-nil (segment_ranges h))
+  ranges_at_first = rw (no_table, nothing, filter_none, new_ring, no_entries, no_devices) (append-nil _ ∙ append-nil _ ∙ append-nil _ ∙ append-nil (segment_ranges h))
 
   pub open_at_first : open_leases h nothing ≡ segment_ranges h
   unfolding open_leases

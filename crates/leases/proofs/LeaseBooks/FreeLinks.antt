@@ -22,4 +22,4 @@ pub link_free : (h : Header) → AreShaped h → (k : Known) (ts : List Lent) �
     NoneAhead q.shape (k.ring q.id) → (c : ℕ) → is_crossing q.shape c ≡ true → floor_number (k.ring q.id) ≤ c →
     c < max (floor_number (k.ring q.id)) 1 + place_count q.shape → (k.ring q.id).crossed c ≡ false →
     is_place_free h ts (Link q.id c) ≡ true
-link_free h shaped k ts still q among allowed ahead c crossing low high absent = search (rules, none_open_shares, Link, apart_on)
+link_free h shaped k ts still q among allowed ahead c crossing low high absent = search (rules, none_open_shares, apart_on)

@@ -1,5 +1,5 @@
 -- What is lent behind a ring that goes, and behind one that comes; behind plain rows it is as in a trace of these alone
-use Rattle.leases.proofs.MiddleLaws.{rules, ◌≡◌, ◌+◌, ◌≤◌, ◌∷◌, ℕ, false, not, List, [], length, map, arith, refl, length-map, Header, IsHeader, Ring, DriverKeeps, learned, open_leases, Row, known, without_end, is_among, AllUnended, ended_where, grown, lents, passed_on, nothing_free, IsInStep, IsComing, is_bad_free, is_bad_ring, TraceRow, Plain, Comes, Goes, header_now, known_now, restored, is_of_ring, open_now, ring_lents, IsOpen, first_open, nothing_passed, only_passed, passed_open, in_step_behind, in_step_first, restored_same, among_filtered, comes_open, goes_open}
+use Rattle.leases.proofs.MiddleLaws.{rules, ◌≡◌, ◌+◌, ◌≤◌, ◌∷◌, ℕ, false, List, [], length, map, arith, refl, length-map, Header, IsHeader, Ring, DriverKeeps, learned, open_leases, Row, known, without_end, AllUnended, ended_where, grown, lents, passed_on, nothing_free, IsInStep, IsComing, is_bad_free, is_bad_ring, TraceRow, Plain, Comes, Goes, header_now, known_now, restored, is_of_ring, open_now, ring_lents, IsOpen, first_open, nothing_passed, only_passed, passed_open, in_step_behind, in_step_first, restored_same, among_filtered, comes_open, goes_open}
 
 module _ (h : Header) (first : ℕ) where
   -- what is lent and not over is open
@@ -21,13 +21,13 @@ module _ (h : Header) (first : ℕ) where
     pub goes_lent : (id : ℕ) → is_bad_free (header_now h past) (known_now h past) id ≡ false →
         ring_lents h first (Goes id ∷ past) ≡ map (ended_where (is_of_ring id) (first + length past)) (ring_lents h first past)
     unfolding ring_lents
-    goes_lent id good = search (rules, only_passed, open_now, Goes, length, ring_lents, lent_open, is_of_ring, is_among, goes_open, header_now, known_now, among_filtered, not)
+    goes_lent id good = search (rules, only_passed, Goes, length, lent_open, goes_open, among_filtered)
 
     -- nothing begins or ends
     pub comes_lent : (ring : Ring) → IsComing ring → is_bad_ring (header_now h past) (known_now h past) ring ≡ false →
         ring_lents h first (Comes ring ∷ past) ≡ ring_lents h first past
     unfolding ring_lents
-    comes_lent ring coming good = search (rules, nothing_passed, open_now, Comes, length, ring_lents, lent_open, is_among, comes_open, header_now, known_now)
+    comes_lent ring coming good = search (rules, nothing_passed, Comes, length, lent_open, comes_open)
 
   -- ---- plain rows
 

@@ -1,5 +1,5 @@
 -- The steps of the notes of one row are those of the lazy schedule before it
-use Rattle.replayer.proofs.MiddleLaws.{rules, arith, ne_eqb, ◌≡◌, ◌+◌, ◌==◌, ◌&&◌, ◌||◌, ◌∷◌, ◌++◌, if◌then◌else◌, ◌∙◌, ℕ, Bool, true, false, List, [], map, Option, Some, None, refl, sym, ap, eq-eqb, eqb-true, append_assoc, flat_map, fun_ext, cases_Bool, false≢true, put, Block, BlockKind, CommandCompletion, kind, code, slot, is_command_completion, Spot, Command, Header, Row, Bell, Read, Step, Known, learned, RingSpot, command_at, next_command, is_placed_by, is_placed, need, taken_up_to, command_taken, report_goals, open_goals, stopped_goals, goals, post_of, looks_to, steps_before, brought, pointers_after, Note, Begun, Made, header_behind, rows_behind, any_notes, TraceRow, Plain, header_after, known_after, restored_on, ring_restored, steps_for, pointers_for, if_open, open_stopped, placed, placed_note, reporting_look, transfer_notes, completing_look, event_notes, row_notes, need_before, need_in, with_need, filled, note_goals, note_steps, pointers_behind, steps_of, has, has_placed, placed_need}
+use Rattle.replayer.proofs.MiddleLaws.{rules, arith, ne_eqb, ◌≡◌, ◌+◌, ◌==◌, ◌&&◌, ◌||◌, ◌∷◌, ◌++◌, if◌then◌else◌, ◌∙◌, ℕ, Bool, List, [], map, Option, Some, None, refl, sym, ap, eq-eqb, eqb-true, append_assoc, flat_map, fun_ext, cases_Bool, false≢true, put, Block, BlockKind, CommandCompletion, kind, code, slot, is_command_completion, Spot, Command, Header, Row, Bell, Read, Step, Known, learned, RingSpot, command_at, next_command, is_placed_by, is_placed, need, taken_up_to, command_taken, report_goals, open_goals, stopped_goals, goals, post_of, looks_to, steps_before, brought, pointers_after, Note, Begun, Made, header_behind, rows_behind, any_notes, TraceRow, Plain, header_after, known_after, restored_on, ring_restored, steps_for, pointers_for, if_open, open_stopped, placed, placed_note, reporting_look, transfer_notes, completing_look, event_notes, row_notes, need_before, need_in, with_need, filled, note_goals, note_steps, pointers_behind, steps_of, has, has_placed, placed_need}
 
 put_first : (f p : ℕ → Spot) (q r : ℕ) (b : Bool) → (if b then f r else (if r == q then f q else p r)) ≡ (if (q == r) || b then f r else p r)
 put_first f p q r b = grind (arith, cases_Bool, eqb-true, eq-eqb, ne_eqb, false≢true, Bool)

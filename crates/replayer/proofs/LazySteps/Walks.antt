@@ -1,5 +1,5 @@
 -- The spots before another one, one by one
-use Rattle.replayer.proofs.Words.{◌≡◌, ◌+◌, ◌-◌, ◌*◌, ◌<◌, ◌≤◌, if◌then◌else◌, ◌∷◌, ◌++◌, ◌∙◌, ℕ, suc, zero, List, [], nat_lt, filter, map, refl, sym, ap, arith, append_assoc, append-nil, cond-true, cond-false, nat_tests, Shape, Spot, number, rank, next, spots_from, Step, Look, spots_before}
+use Rattle.replayer.proofs.Words.{◌≡◌, ◌+◌, ◌-◌, ◌*◌, ◌<◌, ◌≤◌, ◌∷◌, ◌++◌, ℕ, suc, zero, List, [], nat_lt, filter, map, refl, sym, arith, append_assoc, append-nil, cond-true, cond-false, nat_tests, Shape, Spot, number, rank, next, spots_from, Step, Look, spots_before}
 
 number_low : (s : Spot) → 2 * number s ≤ rank s
 number_low s = grind arith

@@ -122,7 +122,7 @@ module _ (h : Header) (c : Command) where
     stop_goes s i = goes_to (Stops s i) _ tt refl (search (rules, stops_by, m.ring_of)) refl
 
     pub change_goes : (change : Change) → IsNoPlacing change → ChangeGoes k w change
-    change_goes (SlotGoesOn s) plain = search (rules, slot_goes, device_goes, disable_goes, stop_goes, reset_goes)
+    change_goes (SlotGoesOn s) plain = search (rules, slot_goes)
     change_goes _ plain = search (rules, slot_goes, device_goes, disable_goes, stop_goes, reset_goes)
 
   pub changes_go : (list : List Change) → AreNoPlacings list → (k : Known) (w : World) → StatesMatch h k w → AtFloors h k w → ListGoes k w list

@@ -147,7 +147,7 @@ module _ (h : Header) (is : IsHeader h) (k : Known) (w : World) (d : DriverKeeps
 
   pub configure_effect : (slot : ℕ) → Stands h k w → EffectGoes h k w slot (ConfigureEndpoint s false a)
   unfolding changes
-  configure_effect slot stands = search (rules, configure_same, w, k, same_context, bad_context_parts, bad_command_context, configure, all)
+  configure_effect slot stands = search (rules, configure_same, w, k, same_context, bad_context_parts, bad_command_context, all)
 
 -- The completion of a command that doesn't succeed: it leaves all rings of endpoints
 module _ (h : Header) where
@@ -169,7 +169,7 @@ module _ (h : Header) where
 
     rings_stay : RingsGo h past.known past.known ready.world (λ r. is_placed h past.known r b)
     unfolding is_placed
-    rings_stay = search (rules, floors_then, and_left, is_command_completion, kind, code, is_placed_by, slot, command_at, next_command, and_right)
+    rings_stay = search (rules, floors_then, and_left, and_right)
 
   pub failed_step : (past : Past h) (later : List TraceRow) (b : Block) (w : World) → is_command_completion (kind b) ≡ true → (code b == 1) ≡ false → IsHeader h → IsBlock b → lenient h past.known (Read b) ≡ [] →
       AreTimely h past.known (Plain (Read b) ∷ later) → Leads h past past.made (Plain (Read b) ∷ later) w → Follows h past.known past.pointers w → Carries h past (Read b) later
@@ -219,7 +219,7 @@ module _ (h : Header) (is : IsHeader h) (k : Known) (w : World) (d : DriverKeeps
 
   pub address_effect : (slot : ℕ) → Stands h k w → EffectGoes h k w slot (AddressDevice s bsr n)
   unfolding changes
-  address_effect slot stands = search (rules, address_same, w, k, same_context, bad_context_parts, bad_command_context, address, both)
+  address_effect slot stands = search (rules, address_same, w, k, same_context, bad_context_parts, bad_command_context, both)
 
 -- The success of a command that places no ring: No Op, Enable Slot, Disable Slot, Evaluate Context, Reset Endpoint, Stop Endpoint,
 -- Reset Device, and a Configure Endpoint that deconfigures
@@ -260,7 +260,7 @@ module _ (h : Header) (is : IsHeader h) (past : Past h) (later : List TraceRow) 
   plain c none = slot_effect h past.known ready.world (slot b) c none (states_then h past later b is ready) (floors_then h past later b ready)
 
   command_effect : (c : Command) → ready.says.command ≡ c → EffectGoes h past.known ready.world (slot b) c
-  command_effect (ConfigureEndpoint s false a) here = search (rules, plain, address_effect, states_then, floors_then, command_numbered, command_there, command_keeps, configure_effect, dequeue_effect)
+  command_effect (ConfigureEndpoint s false a) here = search (rules, plain, states_then, floors_then, command_numbered, command_there, command_keeps, configure_effect)
   command_effect (ConfigureEndpoint s true a) here = search (rules, plain)
   command_effect _ here = search (rules, plain, address_effect, states_then, floors_then, command_numbered, command_there, command_keeps, configure_effect, dequeue_effect)
 

@@ -143,7 +143,7 @@ module _ (h : Header) (k : Known) (b : Block) (clean : lenient h k (Read b) ≡ 
 
       both_few : (goal : RingSpot) → IsTransferRing h goal.ring → AreFew h pointers (command_taken h k ∷ goal ∷ [])
       unfolding command_taken taken_up_to
-      both_few goal ring = search (rules, transfer_driver, two_goals, command_taken, transfer_not_command, low_id, command_id, command_ring, driver_test)
+      both_few goal ring = search (rules, transfer_driver, two_goals, transfer_not_command, low_id, command_ring, driver_test)
 
       taken_on : (r n : ℕ) → IsTransferRing h r → IsTransferRing h (taken_up_to h r n).ring
       unfolding taken_up_to

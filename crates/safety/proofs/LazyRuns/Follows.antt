@@ -72,7 +72,7 @@ module _ (h : Header) where
   -- the next row is made
   pub next_reached : (past : Past h) (made : List Step) (w v : World) (row : Row) (later : List TraceRow) → Leads h past made (Plain row ∷ later) w →
       row_done h w row ≡ Some v → Leads h past (NextRow ∷ made) later (counted h v)
-  next_reached past made w v row later run at = search (rules, option_and_then, step_made, option_map, scene_with, counted)
+  next_reached past made w v row later run at = search rules
 
   -- a step of the controller is made
   pub step_reached : (past : Past h) (to_come : List TraceRow) (made : List Step) (w u : World) (s : Step) (o : Option World) → (s ≡ NextRow → ⊥) → steps_made h w s ≡ while_running h w o →
@@ -83,7 +83,7 @@ module _ (h : Header) where
 
   pub driver_reached : (past : Past h) (w v : World) (row : Row) (later : List TraceRow) → IsDriverRow row → Leads h past past.made (Plain row ∷ later) w →
       row_done h w row ≡ Some v → Leads h past (NextRow ∷ reverse (steps_before h past.known past.pointers row later) ++ past.made) later (counted h v)
-  driver_reached past w v row later driver_row run at = search (rules, reverse, counted, no_steps, next_reached)
+  driver_reached past w v row later driver_row run at = search (rules, no_steps, next_reached)
 
 -- The looks of the lazy schedule at one ring are a run, and bring the ring to its spot
 

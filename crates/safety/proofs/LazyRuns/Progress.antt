@@ -1,5 +1,5 @@
 -- How far the pointers of a driver's rings have come, and which positions are given, summed: looks move pointers on, by as many places as there are looks
-use Rattle.safety.proofs.LowerLaws.{put_at, put_off, ◌≡◌, ◌≢◌, ◌+◌, ◌*◌, ◌<◌, ◌≤◌, ℕ, suc, zero, arith, sym, subst, inl, inr, cases_eq, cases_lt, ◌||◌, ◌∙◌, Bool, true, false, refl, ap, cases_Bool, false≢true, is_inside, RingView, Writes, changed, gives, IsShape, Shape, address_inside, gives_is, gives_one, ◌∷◌, List, filter, length, max, nat_lt, ltb-true, ltb-false, rules, cond_both, length-map, next, number, rank, spots_from, Spot, number-after, next_later, Header, RingSpot, behind_taken, further, looks_to, spots_before, [], ◌-◌, ◌==◌, if◌then◌else◌, map, eq-eqb, ne_eqb, length-append, cond-false, cond-true, flat_map, put, rank_least, rank_most, Step, Look, command_id, ring_with, shape_of, is_driver_ring, brought}
+use Rattle.safety.proofs.LowerLaws.{put_at, put_off, ◌≡◌, ◌≢◌, ◌+◌, ◌*◌, ◌<◌, ◌≤◌, ℕ, suc, zero, arith, sym, subst, inl, inr, cases_eq, cases_lt, ◌||◌, ◌∙◌, Bool, true, false, refl, ap, cases_Bool, is_inside, RingView, Writes, changed, gives, IsShape, Shape, address_inside, gives_is, gives_one, ◌∷◌, List, filter, length, max, nat_lt, ltb-true, ltb-false, rules, cond_both, length-map, next, number, rank, spots_from, Spot, number-after, next_later, Header, RingSpot, behind_taken, further, looks_to, spots_before, [], ◌-◌, ◌==◌, if◌then◌else◌, map, eq-eqb, ne_eqb, length-append, cond-false, cond-true, flat_map, put, rank_least, rank_most, Step, Look, command_id, ring_with, shape_of, is_driver_ring, brought}
 
 -- Sums of a function over the numbers below a bound
 
@@ -120,7 +120,7 @@ module _ (shape : Shape) (is : IsShape shape) (v : RingView) (a w n : ℕ) where
 
   pub no_more : is_inside shape a ≡ false → given_among (changed shape v (Writes a w)) n ≤ given_among v n
   unfolding given_among
-  no_more outside = search (rules, total_le, bit, gives, not_newly, gives_none)
+  no_more outside = search (rules, total_le, not_newly, gives_none)
 
 -- How many looks bring a ring to a spot: no more than there are places between the two
 

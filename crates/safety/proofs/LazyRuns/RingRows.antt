@@ -1,5 +1,5 @@
 -- What the schedule follows stays where a ring comes or goes, where a descriptor is withdrawn, and where a ring is restored: no pointer moves
-use Rattle.safety.proofs.UpperLaws.{◌≡◌, ◌≢◌, ◌==◌, ◌∙◌, ℕ, true, false, Option, Some, None, refl, sym, ap, subst, ne_eqb, rules, none-some, put, put_off, Spot, Data, RingView, RingChange, changed, new_ring, is_open, Header, Ring, Row, IsHeader, shape_of, command_id, ring_with, World, counted, Known, on_ring, DriverKeeps, IsTransferRing, Runs, view_after, IsComing, forgotten, is_bad_free, is_bad_ring, emptied, with_ring, without_ring, without_descriptor, is_bad_withdraw, is_left, restored, restored_on, ring_restored, RingWithdraws, arith, StandsAt, IsActiveIfOpen, Follows, open_before}
+use Rattle.safety.proofs.UpperLaws.{◌≡◌, ◌≢◌, ◌==◌, ◌∙◌, ℕ, true, false, Option, Some, None, refl, sym, ap, subst, ne_eqb, rules, none-some, put, put_off, Spot, Data, new_ring, is_open, Header, Ring, Row, IsHeader, shape_of, command_id, ring_with, World, counted, Known, on_ring, DriverKeeps, IsTransferRing, Runs, view_after, IsComing, forgotten, is_bad_free, is_bad_ring, emptied, with_ring, without_ring, without_descriptor, is_bad_withdraw, is_left, restored, restored_on, ring_restored, RingWithdraws, arith, StandsAt, IsActiveIfOpen, Follows, open_before}
 use Rattle.safety.proofs.RingChanges.GoneRings as gone
 use Rattle.safety.proofs.RingChanges.NewRings as new
 use Rattle.safety.proofs.RingChanges.Restored as restores
@@ -52,7 +52,7 @@ module _ (h : Header) where
 
   pub restored_follows : IsHeader h → (k : Known) (pointers : ℕ → Spot) (w : World) (row : Row) → DriverKeeps h k → is_left h k (ring_restored h k row) ≡ false → Follows h k pointers w →
       Follows h (restored h k row) pointers w
-  restored_follows is k pointers w row d good f = search (rules, follows_too, restored, restored_learns, ring_restored, restores.row_runs)
+  restored_follows is k pointers w row d good f = search (rules, follows_too, restored_learns, restores.row_runs)
 
   withdrawn_stays : (w : World) (r p : ℕ) → StaysPut w (counted h (without_descriptor w r p))
   unfolding counted without_descriptor
@@ -64,7 +64,7 @@ module _ (h : Header) where
 
   pub withdrawn_follows : IsHeader h → (k : Known) (pointers : ℕ → Spot) (w : World) (r p : ℕ) → DriverKeeps h k → is_bad_withdraw h k r p ≡ false → Follows h k pointers w →
       Follows h (on_ring h k r (RingWithdraws p)) pointers (counted h (without_descriptor w r p))
-  withdrawn_follows is k pointers w r p d good f = search (rules, follows_too, on_ring, counted, without_descriptor, withdrawn_learns, withdrawn_stays, withdrawn_events, withdrawn.withdraw_runs)
+  withdrawn_follows is k pointers w r p d good f = search (rules, follows_too, withdrawn_learns, withdrawn_stays, withdrawn_events, withdrawn.withdraw_runs)
 
 -- ---- a ring comes or goes
 

@@ -72,7 +72,7 @@ module _ (h : Header) where
 
   pub row_leaves : (w : World) (row : Row) → RowLeaves w (done w row)
   unfolding done
-  row_leaves w (Sub r blocks) = search (rules, declares, stores, registers, rings, leaves_all)
+  row_leaves w (Sub r blocks) = search (rules, declares)
   row_leaves w _ = search (rules, declares, stores, registers, rings, leaves_all)
 
 pub open_before : (v w : RingView) → w.held ≡ v.held → is_open w ≡ true → is_open v ≡ true

@@ -119,7 +119,7 @@ module _ (h : Header) where
         (reports : (u : World) → Traced h past.known (brought h at_first list) u → (x : Reports h u b e.ring) × IsActiveIfOpen (learned h past.known (Read b)) x.world e.ring)
         (run : Leads h past past.made (Plain (Read b) ∷ later) w) where
       looked : AllBrought h past (Plain (Read b) ∷ later) past.made w at_first list (flat_map (looks_to h at_first) list)
-      looked = search (rules, goals_reached, at_first, apart, fits, trace)
+      looked = search (rules, goals_reached, apart, fits, trace)
 
       row_carries : Carries h past (Read b) later
       row_carries =

@@ -257,4 +257,4 @@ module _ (h : Header) (r p : ℕ) (other : r ≢ command_id h) (k : Known) (unre
 
   pub withdrawn_agrees : Agrees h (on_ring h k r (Withdraws p)) unread (without_descriptor w r p)
   unfolding on_ring without_descriptor of_world.event_at
-  withdrawn_agrees = search (rules, queues, lengths, quiet_matches, states, unchanged)
+  withdrawn_agrees = search (rules, queues, lengths, quiet_matches, unchanged)

@@ -69,7 +69,7 @@ module _ (h : Header) (is : IsHeader h) (r : Ring) (coming : IsComing r) where
       }
 
   pub comes_keeps : (k : Known) → DriverKeeps h k → is_bad_ring h k r ≡ false → DriverKeeps (with_ring h r) (forgotten k r.id)
-  comes_keeps k d good = search (rules, no_ring, new_ring_kept, forgotten, f_keeps, fresh, bad_same)
+  comes_keeps k d good = search (rules, no_ring, new_ring_kept, f_keeps, fresh, bad_same)
 
   pub comes_header : (k : Known) → DriverKeeps h k → is_bad_ring h k r ≡ false → IsHeader (with_ring h r)
   comes_header k d good =

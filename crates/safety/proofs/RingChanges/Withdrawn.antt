@@ -1,6 +1,6 @@
 -- A descriptor that is withdrawn of a ring whose endpoint has stopped: what a driver keeps stays, and the row may be made behind any event
 -- that isn't read yet
-use Rattle.safety.proofs.UpperLaws.{[], ◌≡◌, ◌≢◌, ◌==◌, ◌&&◌, ◌||◌, ◌∙◌, ℕ, not, Bool, true, false, None, Some, refl, sym, ap, subst, inl, inr, eq-eqb, arith, rules, length_from, Withdraws, withdraws_keeps, has_stopped, is_bad_withdraw, rests_with, without_descriptor, cases_eq, list_any, range_with_len, or_parts, or_from, and_parts, and_from, not-false, not_from_true, not_from_false, not-true, false≢true, false_from_ne_true, Block, RingView, IsRestored, is_open, descriptor_length, Command, EndpointState, Running, Stopped, is_stopped, Header, Read, IsHeader, is_ring, shape_of, command_id, Known, on_ring, learned, is_touched, lenient, IsIn, some_of, any_of, MovesRestored, IsTransferRing, IsUnfinished, DriverKeeps, World, counted, Agrees, Runs, ring_is, ring_elsewhere, ring_shape, transfer_not_command, open_held, agrees_counted, set_touches, read_same, withdrawn_agrees, quiet_keeps}
+use Rattle.safety.proofs.UpperLaws.{[], ◌≡◌, ◌≢◌, ◌==◌, ◌&&◌, ◌||◌, ◌∙◌, ℕ, not, Bool, true, false, None, Some, refl, sym, ap, subst, inl, inr, eq-eqb, arith, rules, length_from, Withdraws, withdraws_keeps, has_stopped, is_bad_withdraw, rests_with, without_descriptor, cases_eq, list_any, range_with_len, or_parts, or_from, and_parts, and_from, not-false, not_from_true, not_from_false, not-true, false≢true, false_from_ne_true, Block, RingView, IsRestored, is_open, descriptor_length, Command, Running, Stopped, is_stopped, Header, Read, IsHeader, is_ring, shape_of, command_id, Known, on_ring, learned, is_touched, lenient, IsIn, some_of, any_of, MovesRestored, IsTransferRing, IsUnfinished, DriverKeeps, World, counted, Agrees, Runs, ring_is, ring_elsewhere, ring_shape, transfer_not_command, open_held, agrees_counted, set_touches, read_same, withdrawn_agrees, quiet_keeps}
 use Rattle.safety.proofs.HeldBehind.{read_holds}
 use Rattle.safety.proofs.StillRings.{untouched_behind}
 use Rattle.safety.proofs.RingChanges.Restored.{IsGood, quiet_runs}

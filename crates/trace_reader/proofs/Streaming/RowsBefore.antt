@@ -1,5 +1,5 @@
 -- The rows that calls give are those of the lines before the bad one, by their numbers
-use Rattle.trace_reader.proofs.UpperLaws.{rules, ◌≡◌, ◌+◌, ◌≤◌, ◌∷◌, ◌∙◌, ℕ, List, [], true, false, Option, Some, None, Result, Ok, Err, refl, ap, sym, subst, length, map, take, arith, TraceRow, TextLine, lines_of, LineFault, State, go_on, next_number, read_line, with_row, read_lines, Call, behind_line, call_in, call_on, next_row, AreNumbered, AreOfLines, GivenRows, IsBehind, answered, rows_given, call_of, ended_if_read}
+use Rattle.trace_reader.proofs.UpperLaws.{rules, ◌≡◌, ◌+◌, ◌≤◌, ◌∷◌, ◌∙◌, ℕ, List, [], true, false, Option, Some, None, Result, Ok, Err, refl, ap, subst, length, map, take, arith, TraceRow, TextLine, lines_of, LineFault, State, go_on, next_number, read_line, with_row, read_lines, behind_line, call_on, next_row, AreNumbered, AreOfLines, IsBehind, answered, rows_given, ended_if_read}
 use Rattle.trace_reader.proofs.Streaming.CallsJoined.{lines_left, no_ring_read}
 use Rattle.trace_reader.proofs.Streaming.Openings.{step_of}
 

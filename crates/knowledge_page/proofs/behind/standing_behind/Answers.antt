@@ -1,4 +1,4 @@
-use Rattle.knowledge_page.proofs.BaseWords.{[], sym, subst, reverse, Header, IsHeader, header_now, ring_lents}
+use Rattle.knowledge_page.proofs.BaseWords.{[], sym, subst, reverse, IsHeader, header_now, ring_lents}
 use Rattle.knowledge_page.proofs.behind.standing_behind.Goals as goal
 
 pub pass_kept-requires-clause-headed : goal.pass_kept-requires-clause-headed

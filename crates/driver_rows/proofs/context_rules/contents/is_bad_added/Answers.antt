@@ -1,4 +1,4 @@
-use Rattle.driver_rows.proofs.Words.{arith, refl, Bool, ne_eqb, endpoint_type, is_bad_added_in}
+use Rattle.driver_rows.proofs.Words.{arith, refl, Bool, ne_eqb, is_bad_added_in}
 use Rattle.driver_rows.proofs.context_rules.contents.is_bad_added.Goals.{then-is_off, else-is_off}
 use Rattle.driver_rows.proofs.context_rules.contents.is_bad_added.Goals as goal
 
