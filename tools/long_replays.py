@@ -29,9 +29,9 @@ CHAIN = 1 << 4
 class Ring:
     """A ring with its Links, as a driver fills it."""
 
-    def __init__(self, run, ring, base, segments, blocks):
+    def __init__(self, run, ring, base, segments, blocks, apart=SEGMENT):
         self.run, self.ring = run, ring
-        self.bases = [base + SEGMENT * segment for segment in range(segments)]
+        self.bases = [base + apart * segment for segment in range(segments)]
         self.blocks = blocks
         self.data = blocks - (ring != EVENT)
         self.places = segments * self.data

@@ -19,15 +19,20 @@ says what most rows are:
     cancels    Normal TRBs, eight at a time, of which the last seven are withdrawn once the endpoint is stopped (version 3)
     rounds     as `four`, with an Event Ring of 64 TRBs (version 3): the rows are the same again and again, so that a trace of millions is made at once
     comes      No Ops on one ring after the other, 250 in all, each of which comes for an endpoint and goes with it, in the same memory (version 3)
+    linux      TDs of one to three TRBs, in turn on seven rings of two pages side by side, as Linux gives and reads them: all words are stored, and USBSTS
+               and ERDP are written for each event (version 3)
+    tds        TDs of 256 TRBs on one ring of 64 segments of 4,096 TRBs, given in the same way (version 3)
 """
 import io, sys
 
 import long_replays
-from long_replays import (ADDRESS_DEVICE, COMMAND_COMPLETION, CONFIGURE_ENDPOINT, CONTEXTS, DCBAAP, ENABLE_SLOT, EVENT, FIRST_RING, NO_OP, SEGMENT, SET_TR_DEQUEUE, STOP_ENDPOINT, Ring)
+from long_replays import (ADDRESS_DEVICE, CHAIN, COMMAND_COMPLETION, CONFIGURE_ENDPOINT, CONTEXTS, DCBAAP, ENABLE_SLOT, EVENT, FIRST_RING, NO_OP, SEGMENT, SET_TR_DEQUEUE, STOP_ENDPOINT, Ring)
 
 DISABLE_SLOT, EVALUATE_CONTEXT = 10, 13
 NORMAL = 1 << 10
 COMING = 250  # rings: a trace may name 256
+PAGE = 0x1000
+IOC = 1 << 5
 
 
 class Run(long_replays.Run):
@@ -260,6 +265,44 @@ def comes(file, lines):
         cleared(run, ring)
 
 
+class WordRing(Ring):
+    """A ring as Linux fills it: each word is stored, and the first TRB's control word with the other Cycle bit, until all else stands."""
+
+    def give(self, *blocks):
+        words = ' '.join('%08x' % word for block in blocks for word in block)
+        self.run.row(f'sub {self.ring:02x} {words}')
+        first = self.enqueued
+        for block in blocks:
+            if self.is_crossed(self.enqueued):
+                self.give_link(self.enqueued)
+            at, cycle = self.address(self.enqueued), self.cycle(self.enqueued) ^ (self.enqueued == first)
+            for number, word in enumerate((*block[:3], block[3] | cycle)):
+                self.run.write(at + 4 * number, word)
+            self.enqueued += 1
+        self.run.write(self.address(first) + 12, blocks[0][3] | self.cycle(first))
+        return at
+
+
+def normal_td(trbs):
+    """A TD of so many Normal TRBs, of which the last interrupts."""
+    return [(number * PAGE, 0, PAGE, NORMAL | (CHAIN if number + 1 < trbs else IOC)) for number in range(trbs)]
+
+
+def on_word_rings(file, rings, segments, blocks, apart, sizes, lines):
+    """TDs of these sizes in turn, on rings whose segments lie so far apart."""
+    run = Run(file, 0, 0, 0, 1, 3)
+    run.rings = [WordRing(run, FIRST_RING + number, 0x8000_0000 + number * segments * apart, segments, blocks, apart) for number in range(rings)]
+    run.start()
+    holders, given = run.bind_all(), 0
+    while run.count < lines:
+        for slot, index, ring in holders:
+            at = ring.give(*normal_td(sizes[given % len(sizes)]))
+            run.row('db %02x %02x' % (slot, index))
+            run.row('reg usbsts 0000000000000008')
+            run.report(at, slot, index)
+            given += 1
+
+
 def configured(run, slot, context, dropped):
     """A Configure Endpoint, which drops these endpoints where there are some."""
     if dropped:
@@ -280,7 +323,8 @@ KINDS = {'ring': lambda file, lines: on_rings(file, 1, 64, 4096, lines, False, 6
          'rings': lambda file, lines: on_rings(file, 250, 1, 16, lines, True, 1), 'laps': lambda file, lines: on_rings(file, 1, 64, 4, lines, True, 1),
          'contexts': lambda file, lines: contexts(file, 1, 1, 4096, lines), 'areas': lambda file, lines: contexts(file, 250, 64, 16, lines),
          'devices': devices, 'devices40': devices40, 'bound': lambda file, lines: bound(file, 252, 1, lines),
-         'bound30': lambda file, lines: bound(file, 8, 30, lines), 'moves': moves, 'soiled': soiled, 'cancels': cancels, 'rounds': rounds, 'comes': comes}
+         'bound30': lambda file, lines: bound(file, 8, 30, lines), 'moves': moves, 'soiled': soiled, 'cancels': cancels, 'rounds': rounds, 'comes': comes,
+         'linux': lambda file, lines: on_word_rings(file, 7, 2, 256, PAGE, (1, 2, 3), lines), 'tds': lambda file, lines: on_word_rings(file, 1, 64, 4096, SEGMENT, (256,), lines)}
 
 
 def main(words):
