@@ -32,3 +32,17 @@ fn reads_the_flags_and_the_first_endpoint(rt: HostRuntime) -> Result<(), Fail> {
     assert_eq!(rt; input.range(), (AT, 33 * 32));
     Ok(())
 }
+
+#[test]
+fn ends_with_the_address_space(rt: HostRuntime) -> Result<(), Fail> {
+    let memory = PageMemory::new(rt.alloc());
+    let last = [
+        (ContextSize::Bytes32, 0xffff_ffff_ffff_fbe0),
+        (ContextSize::Bytes64, 0xffff_ffff_ffff_f7c0),
+    ];
+    for (size, at) in last {
+        assert!(rt; InputContext::at(&memory, at, size).is_some());
+        assert!(rt; InputContext::at(&memory, at + 16, size).is_none());
+    }
+    Ok(())
+}

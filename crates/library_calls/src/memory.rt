@@ -38,6 +38,16 @@ fn reads_back_what_was_written(rt: HostRuntime) -> Result<(), Fail> {
 }
 
 #[test]
+fn a_page_ends_where_the_next_begins(rt: HostRuntime) -> Result<(), Fail> {
+    let mut memory = PageMemory::new(rt.alloc());
+    memory.set(at(0x30ffc)?, 1)?;
+    for other in [0x31000, 0x30ff8, 0x2fffc] {
+        assert_eq!(rt; memory.word(at(other)?), 0);
+    }
+    Ok(())
+}
+
+#[test]
 fn has_a_last_word(rt: HostRuntime) -> Result<(), Fail> {
     let mut memory = PageMemory::new(rt.alloc());
     let last = at(0xffff_ffff_ffff_fffc)?;
