@@ -3,6 +3,7 @@
 
 Run as a script it prints the path of that program, and ends with status 1 where there is none.
 """
+import hashlib
 import os
 import subprocess
 import sys
@@ -38,9 +39,11 @@ def is_shipped(top):
     try:
         with open(os.path.join(top, 'dist', 'README')) as file:
             told = dict(line.strip().split(': ', 1) for line in file if ': ' in line)
+        with open(path, 'rb') as file:
+            digest = hashlib.sha256(file.read()).hexdigest()
     except OSError:
         return False
-    digests = (output(os.path.join(top, 'tools', 'sources_digest')).strip(), output('sha256sum', path).partition(' ')[0])
+    digests = (output(os.path.join(top, 'tools', 'sources_digest')).strip(), digest)
     return os.access(path, os.X_OK) and digests == (told.get('sources'), told.get('program'))
 
 
