@@ -8,6 +8,7 @@ import os
 import sys
 from collections import namedtuple
 
+sys.dont_write_bytecode = True
 import commands
 import descriptors
 import notes

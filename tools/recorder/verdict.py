@@ -1,15 +1,18 @@
 #!/usr/bin/env python3
-"""What the checker says of a trace, where its program is there; a proof is never started from here.
+"""What the checker says of a trace, where its program is there; a proof is never started from here. Where tools/install has put these
+modules that is the program beside them.
 
 Run as a script it prints the path of that program, and ends with status 1 where there is none.
 """
+import hashlib
 import os
 import subprocess
 import sys
 
-TOP = os.path.dirname(os.path.dirname(os.path.dirname(os.path.abspath(__file__))))
+TOP = os.path.dirname(os.path.dirname(os.path.dirname(os.path.realpath(__file__))))
 PROVED = os.path.join('crates', 'xhci_cli', 'out', 'xhci_cli')
 SHIPPED = os.path.join('dist', 'xhcitrace')
+INSTALLED = os.path.join('..', '..', 'bin', 'xhcitrace')
 
 
 def sources(top):
@@ -38,16 +41,23 @@ def is_shipped(top):
     try:
         with open(os.path.join(top, 'dist', 'README')) as file:
             told = dict(line.strip().split(': ', 1) for line in file if ': ' in line)
+        with open(path, 'rb') as file:
+            digest = hashlib.sha256(file.read()).hexdigest()
     except OSError:
         return False
-    digests = (output(os.path.join(top, 'tools', 'sources_digest')).strip(), output('sha256sum', path).partition(' ')[0])
+    digests = (output(os.path.join(top, 'tools', 'sources_digest')).strip(), digest)
     return os.access(path, os.X_OK) and digests == (told.get('sources'), told.get('program'))
+
+
+def is_installed(top):
+    """Whether there are no sources, and the program stands where tools/install puts it."""
+    return not os.path.exists(os.path.join(top, 'crates.txt')) and os.access(os.path.join(top, INSTALLED), os.X_OK)
 
 
 def program(top=TOP):
     """The path of the program of these sources, the one that is proved here before the one in dist/; None where neither is."""
-    path = PROVED if is_proved(top) else SHIPPED if is_shipped(top) else None
-    return path and os.path.join(top, path)
+    path = PROVED if is_proved(top) else SHIPPED if is_shipped(top) else INSTALLED if is_installed(top) else None
+    return path and os.path.normpath(os.path.join(top, path))
 
 
 def judged(asked, trace):
