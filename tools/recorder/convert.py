@@ -72,15 +72,16 @@ class Trace:
         rows, cut = descriptors.declared(plain, producers, options.version)
         header = [f'xtrace {options.version}', f'ctx {context_size:02x}'] + [ring.line() for ring in finder.rings if ring.comes is None]
         is_full = len(header) + len(rows) > MOST_LINES
+        ends_early = is_full or finder.cut is not None or cut is not None
         self.run_notes = run.notes
         if is_full:
             rows = rows[:MOST_LINES - len(header)]
             run.notes.append(f'the trace ends after {MOST_LINES} lines, as many as a replay keeps')
         self.text = ''.join(line + '\n' for line in header + [row_list.text(row) for row in rows])
-        schedule = Schedule(rows, items_until(run, rows, len(rows) < len(plain) or finder.cut), finder.rings)
+        schedule = Schedule(rows, items_until(run, rows, ends_early), finder.rings)
         self.schedule = schedule.text()
         self.other_notes = notes.of_run(run, memory, finder, plain, cut, schedule)
-        early = ', ends early (see the notes)' if is_full or finder.cut or cut < len(plain) else ''
+        early = ', ends early (see the notes)' if ends_early else ''
         self.summary = f'{len(rows)} rows, {len(finder.rings)} rings, {notes.fetched(schedule)}{early}'
 
     @property

@@ -26,9 +26,9 @@ def of_memory(memory, rows):
 
 
 def of_cut(rows, cut):
-    if cut == len(rows):
+    if cut is None:
         return []
-    return [f'a descriptor was not given whole: the trace ends before its first row, and {len(rows) - cut} rows are left out']
+    return [f'{cut.why}: the trace ends before its first row, and {len(rows) - cut.row} rows are left out']
 
 
 def of_rows(run):

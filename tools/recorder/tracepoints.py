@@ -12,6 +12,7 @@ import descriptors
 import rows as row_list
 from areas import RingUse
 from convert import MOST_LINES
+from notes import of_cut
 from qemu_log import Unsupported
 from rings import MOST_RINGS, Ring
 from rows import Row
@@ -300,9 +301,7 @@ def converted(lines, version=3):
     rows, cut = descriptors.declared(plain, producers, version)
     header = [f'xtrace {version}', f'ctx {run.size:02x}'] + [ring.line() for ring in run.rings if ring.comes is None]
     text = [row_list.text(row) for row in rows]
-    notes = [NOT_JUDGED] + run.follower.notes
-    if cut < len(plain):
-        notes.append(f'a TD was not given whole: the trace ends before its first row, and {len(plain) - cut} rows are left out')
+    notes = [NOT_JUDGED] + run.follower.notes + of_cut(plain, cut)
     if len(header) + len(text) > MOST_LINES:
         text = text[:MOST_LINES - len(header)]
         notes.append(f'the trace ends after {MOST_LINES} lines, as many as a replay keeps')
