@@ -42,14 +42,14 @@ def fetched(items):
 
 
 def passed(items):
-    """When each Link was first followed, by its address: QEMU fetches directly after it where it leads to."""
-    first, link = {}, None
+    """When each Link was followed, by its address: QEMU fetches directly after it where it leads to."""
+    keys, link = {}, None
     for item in items:
         if isinstance(item, Fetch):
             if link and item.at == blocks.target(link.words):
-                first.setdefault(link.at, link.key)
+                keys.setdefault(link.at, []).append(link.key)
             link = item if blocks.kind(item.words) == blocks.LINK else None
-    return first
+    return keys
 
 
 def succeeded(command):
