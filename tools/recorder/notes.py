@@ -1,7 +1,10 @@
 """What a trace can't say: the text beside it."""
 import registers
+import steps
 from commands import events
 from qemu_log import Bell
+
+MOST_KEPT = 1 << 20  # lines of a trace that is replayed
 
 
 def of_run(run, memory, finder, rows, cut, schedule):
@@ -64,5 +67,14 @@ def of_controller(schedule):
     lines = [fetched(schedule)]
     if schedule.not_followed:
         lines.append(f'{schedule.not_followed} blocks were fetched outside the rings of the trace: they have no step')
+    if schedule.is_cut:
+        lines.append(f'the schedule ends after {steps.MOST_LINES} lines, as many as it may have: the trace goes on')
     lines.append('what the controller writes to device contexts is not recorded: the schedule has no scrib lines')
     return lines
+
+
+def of_replay(lines):
+    """Of a trace that has more lines than a replay keeps."""
+    if lines <= MOST_KEPT:
+        return []
+    return [f'the trace has {lines} lines: `check` and `verify` take them all, `replay` of the schedule takes traces of at most {MOST_KEPT}']

@@ -5,6 +5,8 @@ A fetch of QEMU's main loop is only known to lie between two stores to registers
 import blocks
 from qemu_log import Fetch, Post
 
+MOST_LINES = 1 << 22  # of a schedule
+
 
 class Schedule:
     def __init__(self, rows, items, rings):
@@ -111,4 +113,6 @@ class Schedule:
                 use.slot == slot and (kind != blocks.SET_TR_DEQUEUE or use.index == index) for use in ring.uses)}
 
     def text(self):
-        return 'xsched 1\n' + ''.join(line + '\n' for line in self.lines if line)
+        lines = ['xsched 1'] + [line for line in self.lines if line]
+        self.is_cut = len(lines) > MOST_LINES
+        return ''.join(line + '\n' for line in lines[:MOST_LINES])

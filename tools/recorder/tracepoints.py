@@ -11,7 +11,7 @@ import commands
 import descriptors
 import rows as row_list
 from areas import RingUse
-from convert import MOST_LINES
+from convert import limited
 from notes import of_cut
 from qemu_log import Unsupported
 from rings import MOST_RINGS, Ring
@@ -302,8 +302,7 @@ def converted(lines, version=3):
     header = [f'xtrace {version}', f'ctx {run.size:02x}'] + [ring.line() for ring in run.rings if ring.comes is None]
     text = [row_list.text(row) for row in rows]
     notes = [NOT_JUDGED] + run.follower.notes + of_cut(plain, cut)
-    if len(header) + len(text) > MOST_LINES:
-        text = text[:MOST_LINES - len(header)]
-        notes.append(f'the trace ends after {MOST_LINES} lines, as many as a replay keeps')
+    text, full = limited(text, len(header), version)
+    notes += full
     lines = [''.join(line + '\n' for line in part) for part in (header + text, notes)]
     return *lines, f'{len(text)} rows, {len(run.rings)} rings'
