@@ -54,3 +54,16 @@ def passed(items):
 
 def succeeded(command):
     return blocks.code(command.completion) == blocks.SUCCESS
+
+
+def placed_by(words, memory):
+    """The endpoints that a command's success lets go or begins anew; `memory`: words by address."""
+    kind, context = blocks.kind(words), blocks.target(words)
+    if kind == blocks.DISABLE_SLOT:
+        return range(1, 32)
+    if kind == blocks.ADDRESS_DEVICE:
+        return [1]
+    if kind == blocks.RESET_DEVICE or kind == blocks.CONFIGURE_ENDPOINT and blocks.drops_all(words):
+        return range(2, 32)
+    flags = memory.get(context, 0) | memory.get(context + 4, 0) if kind == blocks.CONFIGURE_ENDPOINT else 0
+    return [index for index in range(2, 32) if flags >> index & 1]

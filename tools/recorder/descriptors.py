@@ -2,6 +2,7 @@
 from collections import namedtuple
 
 import blocks
+from commands import placed_by
 from rows import Row
 
 MOST_BLOCKS = 256
@@ -133,19 +134,7 @@ class Follower:
         if blocks.kind(words) in blocks.STOPPING:
             self.stopped.add((blocks.slot(words), blocks.endpoint(words)))
         else:
-            self.stopped -= {(blocks.slot(words), index) for index in self.placed_by(words)}
-
-    def placed_by(self, words):
-        """The endpoints that a command's success lets go or begins anew."""
-        kind, context = blocks.kind(words), blocks.target(words)
-        if kind == blocks.DISABLE_SLOT:
-            return range(1, 32)
-        if kind == blocks.ADDRESS_DEVICE:
-            return [1]
-        if kind == blocks.RESET_DEVICE or kind == blocks.CONFIGURE_ENDPOINT and blocks.drops_all(words):
-            return range(2, 32)
-        flags = self.memory.get(context, 0) | self.memory.get(context + 4, 0) if kind == blocks.CONFIGURE_ENDPOINT else 0
-        return [index for index in range(2, 32) if flags >> index & 1]
+            self.stopped -= {(blocks.slot(words), index) for index in placed_by(words, self.memory)}
 
 
 def follow(rows, rings, commands):

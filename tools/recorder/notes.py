@@ -67,10 +67,20 @@ def of_controller(schedule):
     lines = [fetched(schedule)]
     if schedule.not_followed:
         lines.append(f'{schedule.not_followed} blocks were fetched outside the rings of the trace: they have no step')
+    lines += of_stopped_endpoint(schedule.not_possible())
     if schedule.is_cut:
         lines.append(f'the schedule ends after {steps.MOST_LINES} lines, as many as it may have: the trace goes on')
     lines.append('what the controller writes to device contexts is not recorded: the schedule has no scrib lines')
     return lines
+
+
+def of_stopped_endpoint(look):
+    """Of a fetch that xHCI allows no controller."""
+    if not look:
+        return []
+    step, ring, (slot, index) = look
+    return [f'the schedule is not possible at step {step}: QEMU fetched a TRB of ring {ring:02x}, whose endpoint, DCI {index} of slot {slot}, '
+            'was stopped, with no doorbell since; what `check` says of the trace does not rest on it']
 
 
 def of_replay(lines):
