@@ -29,7 +29,7 @@ Options = namedtuple('Options', 'blocks version', defaults=(None, 3))
 
 
 def add_options(parser):
-    parser.add_argument('--blocks', type=block_count, help='blocks of a ring whose Link is never written')
+    parser.add_argument('--blocks', type=block_count, help='TRBs of a ring whose Link is never written')
     add_format(parser)
 
 
@@ -40,7 +40,7 @@ def add_format(parser):
 def block_count(text):
     """The value of --blocks: a ring of fewer or more blocks can't stand in a trace."""
     if not text.isdecimal() or not LEAST_BLOCKS <= int(text) <= MOST_BLOCKS:
-        raise argparse.ArgumentTypeError(f'{text} is no count of blocks: {LEAST_BLOCKS} to {MOST_BLOCKS} are')
+        raise argparse.ArgumentTypeError(f'{text} is no count of TRBs: {LEAST_BLOCKS} to {MOST_BLOCKS} are')
     return int(text)
 
 

@@ -60,13 +60,13 @@ def of_events(run):
 
 
 def fetched(schedule):
-    return f'blocks fetched: {schedule.fetched}, {schedule.fetched - schedule.other_words} with the words of the trace'
+    return f'TRBs fetched: {schedule.fetched}, {schedule.fetched - schedule.other_words} with the words of the trace'
 
 
 def of_controller(schedule):
     lines = [fetched(schedule)]
     if schedule.not_followed:
-        lines.append(f'{schedule.not_followed} blocks were fetched outside the rings of the trace: they have no step')
+        lines.append(f'{schedule.not_followed} TRBs were fetched outside the rings of the trace: they have no step')
     lines += of_stopped_endpoint(schedule.not_possible())
     if schedule.is_cut:
         lines.append(f'the schedule ends after {steps.MOST_LINES} lines, as many as it may have: the trace goes on')

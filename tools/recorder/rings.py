@@ -327,7 +327,7 @@ class Finder:
             why, count = 'the least power of two that holds what was fetched', max(16, 1 << (used - 1).bit_length())
         if count > room:
             why, count = 'up to where other memory begins', max(room, LEAST_BLOCKS)
-        notes.append(f'the Link of the segment at {start:#x} was never written: it is taken to have {count} blocks, {why}')
+        notes.append(f'the Link of the segment at {start:#x} was never written: it is taken to have {count} TRBs, {why}')
         return count
 
     def linked_counts(self):
