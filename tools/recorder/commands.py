@@ -42,15 +42,28 @@ def fetched(items):
 
 
 def passed(items):
-    """When each Link was first followed, by its address: QEMU fetches directly after it where it leads to."""
-    first, link = {}, None
+    """When each Link was followed, by its address: QEMU fetches directly after it where it leads to."""
+    keys, link = {}, None
     for item in items:
         if isinstance(item, Fetch):
             if link and item.at == blocks.target(link.words):
-                first.setdefault(link.at, link.key)
+                keys.setdefault(link.at, []).append(link.key)
             link = item if blocks.kind(item.words) == blocks.LINK else None
-    return first
+    return keys
 
 
 def succeeded(command):
     return blocks.code(command.completion) == blocks.SUCCESS
+
+
+def placed_by(words, memory):
+    """The endpoints that a command's success lets go or begins anew; `memory`: words by address."""
+    kind, context = blocks.kind(words), blocks.target(words)
+    if kind == blocks.DISABLE_SLOT:
+        return range(1, 32)
+    if kind == blocks.ADDRESS_DEVICE:
+        return [1]
+    if kind == blocks.RESET_DEVICE or kind == blocks.CONFIGURE_ENDPOINT and blocks.drops_all(words):
+        return range(2, 32)
+    flags = memory.get(context, 0) | memory.get(context + 4, 0) if kind == blocks.CONFIGURE_ENDPOINT else 0
+    return [index for index in range(2, 32) if flags >> index & 1]

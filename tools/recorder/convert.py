@@ -21,7 +21,7 @@ from rings import LEAST_BLOCKS, MOST_BLOCKS, Finder
 from runs import Splitter
 from steps import Schedule
 
-MOST_LINES = 1 << 20
+MOST_LINES = {1: 1 << 20, 3: (1 << 32) - 2}  # of a trace, by its version
 MOST_HELD = 1 << 20  # items and stores that are held before what is needed of them is looked at
 
 
@@ -30,7 +30,7 @@ Options = namedtuple('Options', 'blocks version', defaults=(None, 3))
 
 
 def add_options(parser):
-    parser.add_argument('--blocks', type=block_count, help='blocks of a ring whose Link is never written')
+    parser.add_argument('--blocks', type=block_count, help='TRBs of a ring whose Link is never written')
     add_format(parser)
 
 
@@ -41,7 +41,7 @@ def add_format(parser):
 def block_count(text):
     """The value of --blocks: a ring of fewer or more blocks can't stand in a trace."""
     if not text.isdecimal() or not LEAST_BLOCKS <= int(text) <= MOST_BLOCKS:
-        raise argparse.ArgumentTypeError(f'{text} is no count of blocks: {LEAST_BLOCKS} to {MOST_BLOCKS} are')
+        raise argparse.ArgumentTypeError(f'{text} is no count of TRBs: {LEAST_BLOCKS} to {MOST_BLOCKS} are')
     return int(text)
 
 
@@ -49,7 +49,7 @@ class Content:
     """What is in a run: the commands that were taken, the rings, the rows before descriptors are declared."""
 
     def __init__(self, run, memory, context_size, options):
-        written = registers.joined(run.items)
+        self.version, written = options.version, registers.joined(run.items)
         self.commands = commands.find(run.items, memory)
         self.areas = Areas(written, self.commands, memory, context_size)
         self.finder = Finder(self.areas, memory, commands.fetched(run.items), commands.passed(run.items), options)
@@ -57,7 +57,7 @@ class Content:
 
     def is_over(self):
         """Whether nothing that comes later makes a row."""
-        return len(self.rows) >= MOST_LINES or self.finder.cut is not None
+        return len(self.rows) >= MOST_LINES[self.version] or self.finder.cut is not None
 
     def stretches(self):
         return [stretch[:4] for stretch in row_list.stretches(self.areas, self.finder.rings, self.finder.cut)]
@@ -72,21 +72,28 @@ class Trace:
         producers = descriptors.follow(plain, finder.rings, content.commands)
         rows, cut = descriptors.declared(plain, producers, options.version)
         header = [f'xtrace {options.version}', f'ctx {context_size:02x}'] + [ring.line() for ring in finder.rings if ring.comes is None]
-        is_full = len(header) + len(rows) > MOST_LINES
+        rows, full = limited(rows, len(header), options.version)
+        ends_early = full or finder.cut is not None or cut is not None
         self.run_notes = run.notes
-        if is_full:
-            rows = rows[:MOST_LINES - len(header)]
-            run.notes.append(f'the trace ends after {MOST_LINES} lines, as many as a replay keeps')
+        run.notes.extend(full)
         self.text = ''.join(line + '\n' for line in header + [row_list.text(row) for row in rows])
-        schedule = Schedule(rows, items_until(run, rows, len(rows) < len(plain) or finder.cut), finder.rings)
+        schedule = Schedule(rows, items_until(run, rows, ends_early), finder.rings)
         self.schedule = schedule.text()
-        self.other_notes = notes.of_run(run, memory, finder, plain, cut, schedule)
-        early = ', ends early (see the notes)' if is_full or finder.cut or cut < len(plain) else ''
+        self.other_notes = notes.of_run(run, memory, finder, plain, cut, schedule) + notes.of_replay(len(header) + len(rows))
+        early = ', ends early (see the notes)' if ends_early else ''
         self.summary = f'{len(rows)} rows, {len(finder.rings)} rings, {notes.fetched(schedule)}{early}'
 
     @property
     def notes(self):
         return ''.join(line + '\n' for line in self.run_notes + self.other_notes)
+
+
+def limited(rows, header, version):
+    """The rows that fit behind so many lines; and, where others are left out, a note in a list."""
+    most = MOST_LINES[version]
+    if header + len(rows) <= most:
+        return rows, []
+    return rows[:most - header], [f'the trace ends after {most} lines, as many as one of version {version} may have']
 
 
 def items_until(run, rows, ends_early):

@@ -1,8 +1,14 @@
 """Declares descriptors: finds the row that gives each block (xHCI 4.9.2) and puts a `sub` row before a descriptor's first one."""
+from collections import namedtuple
+
 import blocks
+from commands import placed_by
 from rows import Row
 
 MOST_BLOCKS = 256
+
+# Where the rows have to end: the first row that gives a block of a descriptor that can't be declared; and why
+Left = namedtuple('Left', 'row why')
 
 
 class Producer:
@@ -50,18 +56,26 @@ class Producer:
         self.floor = position if self.ring.cycle(of) == cycle else position + len(self.ring.data)
 
     def descriptors(self):
-        """Lists of (row number, words) in order, and the first row that gives a block of no whole descriptor, or None."""
+        """Lists of (row number, words) in order; and what has to be left out behind them, or None."""
         whole, open_one, position = [], [], 0
         while position in self.given:
             open_one.append(self.given[position])
             position += 1
             if not blocks.chained(open_one[-1][1]) or self.ring.kind == 'cmd':
+                if len(open_one) > MOST_BLOCKS:
+                    break
                 whole.append(open_one)
                 open_one = []
-            elif len(open_one) == MOST_BLOCKS:
-                break
         left = open_one + [given for place, given in self.given.items() if place >= position]
-        return whole, min((number for number, words in left), default=None)
+        return whole, Left(min(number for number, words in left), why_left(open_one)) if left else None
+
+
+def why_left(descriptor):
+    """Why no `sub` row says this descriptor, of which these blocks were given."""
+    if len(descriptor) <= MOST_BLOCKS:
+        return 'a TD was not given whole'
+    least = 'at least ' if blocks.chained(descriptor[-1][1]) else ''
+    return f'a TD has {least}{len(descriptor)} TRBs, and a `sub` row may have {MOST_BLOCKS}'
 
 
 class Follower:
@@ -120,19 +134,7 @@ class Follower:
         if blocks.kind(words) in blocks.STOPPING:
             self.stopped.add((blocks.slot(words), blocks.endpoint(words)))
         else:
-            self.stopped -= {(blocks.slot(words), index) for index in self.placed_by(words)}
-
-    def placed_by(self, words):
-        """The endpoints that a command's success lets go or begins anew."""
-        kind, context = blocks.kind(words), blocks.target(words)
-        if kind == blocks.DISABLE_SLOT:
-            return range(1, 32)
-        if kind == blocks.ADDRESS_DEVICE:
-            return [1]
-        if kind == blocks.RESET_DEVICE or kind == blocks.CONFIGURE_ENDPOINT and blocks.drops_all(words):
-            return range(2, 32)
-        flags = self.memory.get(context, 0) | self.memory.get(context + 4, 0) if kind == blocks.CONFIGURE_ENDPOINT else 0
-        return [index for index in range(2, 32) if flags >> index & 1]
+            self.stopped -= {(blocks.slot(words), index) for index in placed_by(words, self.memory)}
 
 
 def follow(rows, rings, commands):
@@ -144,12 +146,11 @@ def follow(rows, rings, commands):
 
 
 def declared(rows, producers, version):
-    """The rows with their `sub` rows, and the `nop` rows of later versions than 1; and the number of rows that are left, fewer where a descriptor isn't whole."""
-    before, cut = {}, len(rows)
+    """The rows with their `sub` rows, and the `nop` rows of later versions than 1; and, where they end before a descriptor that can't be declared, its `Left`."""
+    before, cut = {}, None
     for producer in producers:
-        whole, unfinished = producer.descriptors()
-        if unfinished is not None:
-            cut = min(cut, unfinished)
+        whole, left = producer.descriptors()
+        cut = min(filter(None, (cut, left)), default=None)
         due = len(rows)
         placed = []
         for descriptor in reversed(whole):
@@ -161,6 +162,6 @@ def declared(rows, producers, version):
         for number, position in producer.withdrawals if version > 1 else []:
             before.setdefault(number, []).append(Row(rows[number].key, 'nop', (producer.ring.number, position)))
     out = []
-    for number, row in enumerate(rows[:cut]):
+    for number, row in enumerate(rows[:cut and cut.row]):
         out += before.get(number, []) + [row]
     return out, cut

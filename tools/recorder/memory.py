@@ -4,7 +4,8 @@ from collections import namedtuple
 
 from qemu_log import KEPT, Found, Page, Store
 
-Entry = namedtuple('Entry', 'key word found')  # found: no store was seen that left this word, but then it stood there; or None
+# found: no store was seen that left this word, but it stood there at this key, and did not yet at the entry's own; or None
+Entry = namedtuple('Entry', 'key word found')
 
 BEFORE_ALL = -1
 
@@ -14,6 +15,7 @@ class Memory:
 
     def __init__(self):
         self.entries = {}       # by address, in order
+        self.looked = {}        # by address: the key of the last look
         self.known_from = 0     # stores before this count may be missing
         self.size = 0           # how many entries there are
 
@@ -34,12 +36,11 @@ class Memory:
             entries.append(entry)
 
     def compare(self, found):
-        """A word that no store has left was there before the first one, or another device wrote it after the last."""
-        entries = self.entries.get(found.at)
-        if entries and entries[-1].word != found.word:
-            self.add(found.at, Entry(entries[-1].key | 1, found.word, found.key))
-        elif not entries and found.word:
-            self.add(found.at, Entry(BEFORE_ALL, found.word, found.key))
+        """A word that no store has left came behind the last store, and behind the last look, which still showed the word before it."""
+        last = self.entries.get(found.at, [Entry(BEFORE_ALL, 0, None)])[-1]
+        if last.word != found.word:
+            self.add(found.at, Entry(max(last.key, self.looked.get(found.at, BEFORE_ALL)) | 1, found.word, found.key))
+        self.looked[found.at] = found.key
 
     def place(self, at, key):
         """How many entries of this word are at or before `key`."""
@@ -68,7 +69,8 @@ class Memory:
         return self.cycle_since(at, key, since) if self.word(at, key) & 1 else None
 
     def life(self, at, named, ended):
-        """The entries of a word of an area: from the last one of 0 before `named` on, else from the first, to `ended` or on."""
+        """The entries of a word of an area: from the last one of 0 before `named` on, else from the first, to `ended` or on. A word that was
+        found later than `ended` came when the controller looked there no more."""
         entries = self.entries.get(at, [])
         if not entries:
             return []
@@ -76,6 +78,8 @@ class Memory:
         while first > 0 and entries[first - 1].word:
             first -= 1
         last = len(entries) if ended is None else bisect_left(entries, (ended,))
+        if ended is not None and last and (entries[last - 1].found or 0) > ended:
+            last -= 1
         return entries[max(first - 1, 0):last]
 
     def prune(self, stretches):

@@ -1,7 +1,10 @@
 """What a trace can't say: the text beside it."""
 import registers
+import steps
 from commands import events
 from qemu_log import Bell
+
+MOST_KEPT = 1 << 20  # lines of a trace that is replayed
 
 
 def of_run(run, memory, finder, rows, cut, schedule):
@@ -26,9 +29,9 @@ def of_memory(memory, rows):
 
 
 def of_cut(rows, cut):
-    if cut == len(rows):
+    if cut is None:
         return []
-    return [f'a descriptor was not given whole: the trace ends before its first row, and {len(rows) - cut} rows are left out']
+    return [f'{cut.why}: the trace ends before its first row, and {len(rows) - cut.row} rows are left out']
 
 
 def of_rows(run):
@@ -57,12 +60,31 @@ def of_events(run):
 
 
 def fetched(schedule):
-    return f'blocks fetched: {schedule.fetched}, {schedule.fetched - schedule.other_words} with the words of the trace'
+    return f'TRBs fetched: {schedule.fetched}, {schedule.fetched - schedule.other_words} with the words of the trace'
 
 
 def of_controller(schedule):
     lines = [fetched(schedule)]
     if schedule.not_followed:
-        lines.append(f'{schedule.not_followed} blocks were fetched outside the rings of the trace: they have no step')
+        lines.append(f'{schedule.not_followed} TRBs were fetched outside the rings of the trace: they have no step')
+    lines += of_stopped_endpoint(schedule.not_possible())
+    if schedule.is_cut:
+        lines.append(f'the schedule ends after {steps.MOST_LINES} lines, as many as it may have: the trace goes on')
     lines.append('what the controller writes to device contexts is not recorded: the schedule has no scrib lines')
     return lines
+
+
+def of_stopped_endpoint(look):
+    """Of a fetch that xHCI allows no controller."""
+    if not look:
+        return []
+    step, ring, (slot, index) = look
+    return [f'the schedule is not possible at step {step}: QEMU fetched a TRB of ring {ring:02x}, whose endpoint, DCI {index} of slot {slot}, '
+            'was stopped, with no doorbell since; what `check` says of the trace does not rest on it']
+
+
+def of_replay(lines):
+    """Of a trace that has more lines than a replay keeps."""
+    if lines <= MOST_KEPT:
+        return []
+    return [f'the trace has {lines} lines: `check` and `verify` take them all, `replay` of the schedule takes traces of at most {MOST_KEPT}']

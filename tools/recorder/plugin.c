@@ -5,6 +5,9 @@
  * physical address base=N and of which all beyond low=N bytes lies at 4 GB; log=FILE, QEMU's log; history=N, the stores that are
  * remembered.
  *
+ * DC ZVA of aarch64 clears a block of memory by a function of QEMU that no plugin sees. That one is executed is seen, not where: before
+ * the next store to a watched page, register or read event each block that was cleared since is told as stores of 0.
+ *
  * Lines, all numbers in hex; SEQ counts stores, loads of events and stores to the device, in the order in which the CPU made them:
  *   xr w SEQ ADDR WORD      a store has left this word; one that was remembered comes later in the log than its SEQ says
  *   xr v SEQ ADDR WORD      the word as it was found
@@ -45,9 +48,13 @@ typedef struct {
 typedef void (*tb_trans_cb)(qemu_plugin_id_t id, struct qemu_plugin_tb *tb);
 typedef void (*mem_cb)(unsigned int cpu, qemu_plugin_meminfo_t info, uint64_t vaddr, void *data);
 typedef void (*udata_cb)(qemu_plugin_id_t id, void *data);
+typedef void (*insn_cb)(unsigned int cpu, void *data);
 void qemu_plugin_register_vcpu_tb_trans_cb(qemu_plugin_id_t id, tb_trans_cb cb);
 void qemu_plugin_register_vcpu_mem_cb(struct qemu_plugin_insn *insn, mem_cb cb, enum qemu_plugin_cb_flags flags,
                                       enum qemu_plugin_mem_rw rw, void *data);
+void qemu_plugin_register_vcpu_insn_exec_cb(struct qemu_plugin_insn *insn, insn_cb cb, enum qemu_plugin_cb_flags flags, void *data);
+/* up to version 2 of the interface it has the first argument alone, and returns where the instruction stands; from 3 on its size */
+uintptr_t qemu_plugin_insn_data(const struct qemu_plugin_insn *insn, void *to, size_t size);
 void qemu_plugin_register_atexit_cb(qemu_plugin_id_t id, udata_cb cb, void *data);
 size_t qemu_plugin_tb_n_insns(const struct qemu_plugin_tb *tb);
 struct qemu_plugin_insn *qemu_plugin_tb_get_insn(const struct qemu_plugin_tb *tb, size_t idx);
@@ -75,6 +82,8 @@ enum { REGISTERS = 0x4000, CAPABILITIES = 0x40, DOORBELLS_END = 0x3000, DEVICES 
 enum { PAGE = 4096, BLOCK = 16, AHEAD = 1024, DCBAA = 2048, SEGMENTS = 64, BOUNDARY = 0x10000 };
 enum { LINK = 6, DISABLE_SLOT = 10, ADDRESS_DEVICE, CONFIGURE_ENDPOINT, EVALUATE_CONTEXT, SET_TR_DEQUEUE = 16, RESET_DEVICE };
 enum { COMMAND_COMPLETION = 33, SUCCESS = 1 };
+enum { CLEARED = 64, MOST_INSN = 16 }; /* bytes that DC ZVA clears, or a multiple of it; bytes of an instruction */
+#define DC_ZVA 0xd50b7420u             /* but for the five low bits, which name a register */
 enum { DECONFIGURE = 1 << 9 }; /* of Configure Endpoint: it has no input context */
 #define HIGH 0x100000000ull    /* where memory beyond the first block lies */
 #define NO_PLACE UINT64_MAX
@@ -85,6 +94,8 @@ static const uint8_t *ram;
 static uint64_t ram_size, ram_base, ram_low = UINT64_MAX, seq;
 static bool *watched, *before;      /* by page of the file; before: what was watched, while pages are swept */
 static uint64_t *until;             /* by page: all stores up to this one are in the log already */
+static uint32_t **known;            /* by page of the file that is watched: the words that the log has; NULL where nothing clears unseen */
+static uint64_t cleared;            /* the last DC ZVA behind which no one has looked yet; 0: none */
 static struct store *history;       /* a ring; next counts all stores ever remembered */
 static uint64_t history_size = 1 << 22, next;
 static FILE *log_file;
@@ -145,9 +156,57 @@ static void say(char kind, uint64_t when, uint64_t at, uint64_t value)
     put_line(line);
 }
 
+static bool is_clear(const uint32_t *words, uint64_t at, uint64_t but, unsigned size)
+{
+    for (unsigned i = 0; i < CLEARED; i += 4)
+        if (words[i / 4] && !(at + i >= but && at + i < but + size))
+            return false;
+    return true;
+}
+
+/* A block that was cleared since the log has told of it, but for the `size` bytes at `but`, which were stored after that */
+static void see_cleared_block(uint32_t *had, uint64_t place, uint64_t at, uint64_t but, unsigned size)
+{
+    if (is_clear(had, at, but, size) || !is_clear((const uint32_t *)(ram + place), at, but, size))
+        return;
+    for (unsigned i = 0; i < CLEARED; i += 4) {
+        if (had[i / 4])
+            say('w', cleared, at + i, 0);
+        had[i / 4] = 0;
+    }
+}
+
+static uint64_t address_of(uint64_t place)
+{
+    return place < ram_low || ram_low >= ram_size ? place + ram_base : place - ram_low + HIGH;
+}
+
+/* What DC ZVA has cleared in watched pages */
+static void see_cleared(uint64_t but, unsigned size)
+{
+    for (uint64_t page = 0; cleared && page < ram_size / PAGE; page++)
+        for (unsigned i = 0; watched[page] && i < PAGE; i += CLEARED)
+            see_cleared_block(known[page] + i / 4, page * PAGE + i, address_of(page * PAGE + i), but, size);
+    cleared = 0;
+}
+
+/* The log has the page's words as they are; or, of one that is let go, no more */
+static void keep_known(uint64_t page, bool is_watched)
+{
+    if (!known)
+        return;
+    free(known[page]);
+    known[page] = is_watched ? malloc(PAGE) : NULL;
+    if (is_watched && !known[page])
+        abort();
+    if (is_watched)
+        memcpy(known[page], ram + page * PAGE, PAGE);
+}
+
 /* A page that wasn't watched: the stores to it that are remembered and aren't in the log, and what stands there */
 static void watch_page(uint64_t page)
 {
+    bool told[PAGE / 4] = { false };
     uint64_t place = place_of(page) / PAGE;
     if (place_of(page) == NO_PLACE || watched[place])
         return;
@@ -158,12 +217,15 @@ static void watch_page(uint64_t page)
     say('p', seq, page, known > until[place] ? known : 0);
     for (uint64_t i = oldest; i < next; i++) {
         const struct store *s = &history[i % history_size];
-        if (s->at / (PAGE / 4) == page / PAGE && s->seq > until[place])
+        if (s->at / (PAGE / 4) == page / PAGE && s->seq > until[place]) {
             say('w', s->seq, s->at * (uint64_t)4, s->word);
+            told[s->at % (PAGE / 4)] = true;
+        }
     }
     for (uint64_t at = page; at < page + PAGE; at += 4)
-        if (word_at(at))
+        if (word_at(at) || told[at % PAGE / 4])
             say('v', seq, at, word_at(at));
+    keep_known(place, true);
 }
 
 static bool watched_at(uint64_t at) { return place_of(at) == NO_PLACE || watched[place_of(at) / PAGE]; }
@@ -250,8 +312,10 @@ static void sweep(void)
             watch_named(slots[i].rings[index]);
     }
     for (size_t page = 0; page < pages; page++)
-        if (before[page] && !watched[page])
+        if (before[page] && !watched[page]) {
             until[page] = seq;
+            keep_known(page, false);
+        }
     free(before);
     before = NULL;
     sweep_at = 0;
@@ -411,6 +475,7 @@ static uint32_t moved_word(qemu_plugin_meminfo_t info, uint64_t phys, uint64_t a
 static void device_stored(uint64_t phys, unsigned size)
 {
     writes = 0;
+    see_cleared(0, 0);
     follow_log();
     if (writes)
         registers = phys & ~(uint64_t)(REGISTERS - 1);
@@ -424,6 +489,8 @@ static void stored(uint64_t at, uint32_t word)
     history[next++ % history_size] = s;
     if (!watched_at(at))
         return;
+    if (known)
+        known[place_of(at) / PAGE][at % PAGE / 4] = word;
     say('w', seq, at, word);
     uint64_t block = at & ~(uint64_t)(BLOCK - 1);
     if (is_link(block))
@@ -443,6 +510,8 @@ static void stored_part(qemu_plugin_meminfo_t info, uint64_t vaddr, unsigned siz
         return;
     }
     phys = ram_address(hw);
+    if (cleared && watched_at(phys))
+        see_cleared(phys & ~(uint64_t)3, size + phys % 4);
     for (uint64_t at = phys & ~(uint64_t)3; at < phys + size && place_of(at) != NO_PLACE; at += 4)
         stored(at, whole ? moved_word(info, phys, at, size) : word_at(at));
 }
@@ -463,6 +532,7 @@ static void loaded(qemu_plugin_meminfo_t info, uint64_t vaddr, unsigned size)
     uint64_t phys = ram_address(hw);
     if (phys > wanted || wanted >= phys + size || (moved_word(info, phys, wanted, size) & 1) != events.cycle)
         return;
+    see_cleared(0, 0);
     char line[128];
     snprintf(line, sizeof line, "xr e %" PRIx64 " %" PRIx64 " %x %x %x %x\n", ++seq, place,
              word_at(place), word_at(place + 4), word_at(place + 8), word_at(wanted));
@@ -490,15 +560,32 @@ static void moved(unsigned int cpu, qemu_plugin_meminfo_t info, uint64_t vaddr, 
         stored_part(info, vaddr + first, size - first, false);
 }
 
+static bool is_dc_zva(const struct qemu_plugin_insn *insn)
+{
+    unsigned char copied[MOST_INSN] = { 0 };
+    uint32_t word;
+    uintptr_t got = qemu_plugin_insn_data(insn, copied, sizeof copied);
+    memcpy(&word, got > sizeof copied ? (const void *)got : copied, sizeof word);
+    return (word & ~31u) == DC_ZVA;
+}
+
+/* Called before DC ZVA clears */
+static void clears(unsigned int cpu, void *data) { cleared = ++seq; }
+
 static void translated(qemu_plugin_id_t id, struct qemu_plugin_tb *tb)
 {
-    for (size_t i = 0; i < qemu_plugin_tb_n_insns(tb); i++)
-        qemu_plugin_register_vcpu_mem_cb(qemu_plugin_tb_get_insn(tb, i), moved, QEMU_PLUGIN_CB_NO_REGS, QEMU_PLUGIN_MEM_RW, NULL);
+    for (size_t i = 0; i < qemu_plugin_tb_n_insns(tb); i++) {
+        struct qemu_plugin_insn *insn = qemu_plugin_tb_get_insn(tb, i);
+        qemu_plugin_register_vcpu_mem_cb(insn, moved, QEMU_PLUGIN_CB_NO_REGS, QEMU_PLUGIN_MEM_RW, NULL);
+        if (known && is_dc_zva(insn))
+            qemu_plugin_register_vcpu_insn_exec_cb(insn, clears, QEMU_PLUGIN_CB_NO_REGS, NULL);
+    }
 }
 
 static void ended(qemu_plugin_id_t id, void *data)
 {
     char line[60];
+    see_cleared(0, 0);
     snprintf(line, sizeof line, "xr end %" PRIx64 " %" PRIx64 "\n", seq, lines + 1);
     put_line(line);
 }
@@ -542,7 +629,9 @@ __attribute__((visibility("default"))) int qemu_plugin_install(qemu_plugin_id_t 
     watched = calloc(ram_size / PAGE + 1, sizeof *watched);
     until = calloc(ram_size / PAGE + 1, sizeof *until);
     history = calloc(history_size, sizeof *history);
-    if (!watched || !until || !history)
+    bool may_clear = !strcmp(info->target_name, "aarch64");
+    known = may_clear ? calloc(ram_size / PAGE + 1, sizeof *known) : NULL;
+    if (!watched || !until || !history || (may_clear && !known))
         return refuse("no memory for the history of stores");
     qemu_plugin_register_vcpu_tb_trans_cb(id, translated);
     qemu_plugin_register_atexit_cb(id, ended, NULL);

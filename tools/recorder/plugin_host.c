@@ -4,6 +4,7 @@
  *   store VADDR SIZE VALUE   the CPU stores
  *   load VADDR SIZE VALUE    the CPU has loaded this value
  *   dma ADDR WORD            another device writes
+ *   clear VADDR              the CPU clears 64 bytes by DC ZVA, of which a plugin sees only that it is executed
  *   anything else            is a line of QEMU's log
  * Built with VALUES it offers qemu_plugin_mem_get_value, as QEMU does from 9.2 on, and no qemu_plugin_n_vcpus.
  */
@@ -25,18 +26,33 @@ struct value { int type; union { uint8_t u8; uint16_t u16; uint32_t u32; uint64_
 typedef void (*translated)(uint64_t id, void *block);
 typedef void (*moved)(unsigned cpu, uint32_t info, uint64_t vaddr, void *data);
 typedef void (*ended)(uint64_t id, void *data);
+typedef void (*executed)(unsigned cpu, void *data);
 
 static uint64_t ram_pages[PAGES], current, place;
 static uint8_t *ram;
 static FILE *log_file;
 static moved on_move;
+static executed on_clear;
 static ended on_end;
 
 void qemu_plugin_register_vcpu_mem_cb(void *insn, moved cb, int flags, int rw, void *data) { on_move = cb; }
 void qemu_plugin_register_atexit_cb(uint64_t id, ended cb, void *data) { on_end = cb; }
 void qemu_plugin_register_vcpu_tb_trans_cb(uint64_t id, translated cb) { cb(id, NULL); }
+void qemu_plugin_register_vcpu_insn_exec_cb(void *insn, executed cb, int flags, void *data) { on_clear = cb; }
 size_t qemu_plugin_tb_n_insns(const void *block) { return 1; }
 void *qemu_plugin_tb_get_insn(const void *block, size_t i) { return NULL; }
+
+/* The one instruction there is: dc zva, x3 */
+#ifdef VALUES
+size_t qemu_plugin_insn_data(const void *insn, void *to, size_t size)
+{
+    memcpy(to, "\x23\x74\x0b\xd5", 4);
+    return 4;
+}
+#else
+const void *qemu_plugin_insn_data(const void *insn) { return "\x23\x74\x0b\xd5"; }
+#endif
+
 unsigned qemu_plugin_mem_size_shift(uint32_t info) { return info & 7; }
 bool qemu_plugin_mem_is_store(uint32_t info) { return info & STORE; }
 bool qemu_plugin_hwaddr_is_io(const void *hw) { return *(const uint64_t *)hw >= DEVICE; }
@@ -86,7 +102,10 @@ static void follow(const char *line)
         move(false, a, b, c);
     else if (sscanf(line, "dma %" SCNx64 " %" SCNx64, &a, &b) == 2)
         memcpy(ram + a, &b, 4);
-    else
+    else if (sscanf(line, "clear %" SCNx64, &a) == 1) {
+        on_clear(0, NULL);
+        memset(ram + ram_pages[a / PAGE % PAGES] + a % PAGE, 0, 64);
+    } else
         qemu_plugin_outs(line);
 }
 
@@ -104,7 +123,7 @@ int main(int argc, char **argv)
     if (ram == MAP_FAILED || !log_file || !plugin || !script)
         return 2;
     int (*install)(uint64_t, const struct info *, int, char **) = dlsym(plugin, "qemu_plugin_install");
-    struct info info = { "x86_64", { 0, 1 }, true, { 1, 1 } };
+    struct info info = { "aarch64", { 0, 1 }, true, { 1, 1 } };
     snprintf(from, sizeof from, "ram=%s", argv[2]);
     snprintf(to, sizeof to, "log=%s", argv[3]);
     for (uint64_t i = 0; i < PAGES; i++)

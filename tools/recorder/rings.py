@@ -1,5 +1,6 @@
 """The rings of a run: their segments, found by their Links, and the positions of their blocks (xHCI 4.9.2)."""
 from bisect import bisect_left
+from collections import namedtuple
 
 import blocks
 from qemu_log import FOREVER
@@ -85,6 +86,13 @@ class Links:
         return self.places[bisect_left(self.places, start):bisect_left(self.places, end)]
 
 
+class Leading(namedtuple('Leading', 'link states changed')):
+    """A Link of a segment with its keys and targets; and the first of them to other memory after it was followed, or None."""
+
+    def targets(self):
+        return [target for key, target in self.states]
+
+
 class Finder:
     """Gives each ring that is named its segments; `options.blocks` is the count where a Link isn't written. In version 1 all rings stand in
     the header; in version 3 a transfer ring comes where it is needed, and goes where its last endpoint has let it go."""
@@ -92,7 +100,7 @@ class Finder:
     def __init__(self, areas, memory, fetched, passed, options):
         self.areas, self.memory, self.option, self.version = areas, memory, options.blocks, options.version
         self.fetched = fetched  # by address, when a block was fetched, in order
-        self.passed = passed    # by address, when a Link was first followed
+        self.passed = passed    # by address, when a Link was followed, in order
         self.links = Links(memory)
         self.rings = []
         self.cut = self.why = None  # the key of the last row, where memory gets other rings than the header can say
@@ -139,7 +147,10 @@ class Finder:
 
     def was_fetched(self, at, since, until):
         """Whether a block was fetched from one moment to another."""
-        keys = self.fetched.get(at, [])
+        return self.is_within(self.fetched.get(at, []), since, until)
+
+    def is_within(self, keys, since, until):
+        """Whether one of these keys, which are in order, lies from one moment to another."""
         place = bisect_left(keys, since)
         return place < len(keys) and keys[place] < until
 
@@ -196,10 +207,17 @@ class Finder:
 
     def segments_of(self, uses):
         """Every segment that a Link ever led to, in the order in which the last Links lead; what to note of them; and since when each is one."""
-        first, found, notes = uses[0].start, self.linked(uses), []
+        first, notes = uses[0].start, []
+        found, joined = self.linked(uses)
+        for link, states, changed in found.values():
+            if changed:
+                self.end_at(changed[0], f'the Link at {link:#x} was followed and then leads to other memory, {changed[1]:#x}: the trace ends there')
         starts, last = [first], {}
         for start in starts:
-            for target in found[start][1] if start in found else []:
+            for target in found[start].targets() if start in found else []:
+                if self.had_meanwhile(target, uses, joined[target]):
+                    self.end_at(joined[target], f'the ring at {first:#x} grows by memory that another ring had meanwhile, {target:#x}: the trace ends there')
+                    continue
                 last[start] = target
                 if target not in starts and len(starts) < MOST_SEGMENTS:
                     starts.append(target)
@@ -209,53 +227,72 @@ class Finder:
         if len(starts) > len(ordered):
             notes.append(f'the ring at {first:#x} has lost segments: they stand last in its line')
         ordered += [start for start in starts if start not in ordered]
-        counts = [(found[start][0] - start) // 16 + 1 if start in found else self.guess(start, uses, notes) for start in ordered]
-        return list(zip(ordered, counts)), notes, self.joined(uses, found)
+        counts = [(found[start].link - start) // 16 + 1 if start in found else self.guess(start, uses, notes) for start in ordered]
+        return list(zip(ordered, counts)), notes, joined
+
+    def had_meanwhile(self, start, uses, joined):
+        """Whether a segment was another ring's after this ring was named and before it joined: no line can say both."""
+        others = [use for use in self.areas.rings if use.what == 'xfer' and use not in uses and uses[0].named < use.named < joined]
+        return any(start in self.linked([use])[1] for use in others)
+
+    def linked(self, uses):
+        """The Link of each segment of a ring with its states since the segment is one, and since when that is: what a Link led to in an
+        earlier life of its memory is none of the ring's."""
+        before, joined = None, {}
+        found = self.led(uses, joined)
+        while found != before and len(joined) <= MOST_SEGMENTS:
+            before, joined = found, self.joined(uses, found)
+            found = self.led(uses, joined)
+        return found, joined
+
+    def led(self, uses, joined):
+        """The Link of each segment of a ring with its states: one from which Links lead back to the first segment."""
+        first, candidates = uses[0].start, {}
+        waiting = [first]
+        while waiting and len(candidates) < 4 * MOST_SEGMENTS:
+            start = waiting.pop()
+            since = joined.get(start, FOREVER) if joined and start != first else None
+            candidates[start] = [self.leading(link, uses, since) for link in self.links.between(start + 16, self.bound(start, uses))
+                                 if link % 16 == start % 16]
+            waiting += [to for leading in candidates[start] for to in leading.targets() if to not in candidates and to not in waiting]
+        closed, before = {first}, 0
+        while len(closed) > before:
+            before = len(closed)
+            closed |= {start for start, links in candidates.items() for leading in links if closed.intersection(leading.targets())}
+        return {start: leading for start, links in candidates.items()
+                for leading in reversed(links) if closed.intersection(leading.targets())}
 
     def joined(self, uses, found):
         """From when on each segment is of the ring: since Links lead there from the first one."""
         joined = {uses[0].start: uses[0].named}
         for _ in found:
             for start in joined.keys() & found.keys():
-                for key, target in self.states(found[start][0], uses):
+                for key, target in found[start].states:
                     joined[target] = min(joined.get(target, FOREVER), max(joined[start], key))
         return joined
 
-    def linked(self, uses):
-        """The Link of each segment of a ring with the targets it ever had: one from which Links lead back to the first segment."""
-        first, candidates = uses[0].start, {}
-        waiting = [first]
-        while waiting and len(candidates) < 4 * MOST_SEGMENTS:
-            start = waiting.pop()
-            candidates[start] = [(link, self.targets(link, uses)) for link in self.links.between(start + 16, self.bound(start, uses))
-                                 if link % 16 == start % 16]
-            waiting += [to for link, targets in candidates[start] for to in targets if to not in candidates and to not in waiting]
-        closed, before = {first}, 0
-        while len(closed) > before:
-            before = len(closed)
-            closed |= {start for start, links in candidates.items() for link, targets in links if closed.intersection(targets)}
-        return {start: (link, targets) for start, links in candidates.items()
-                for link, targets in reversed(links) if closed.intersection(targets)}
+    def leading(self, link, uses, joined):
+        """What the Link was up to where it leads elsewhere though it was followed."""
+        states = self.states(link, uses, joined)
+        for i, (key, target) in enumerate(states[1:], 1):
+            since, earlier = states[i - 1]
+            if target != earlier and self.is_within(self.passed.get(link, []), max(since, uses[0].named), key):
+                return Leading(link, states[:i], states[i])
+        return Leading(link, states, None)
 
-    def targets(self, link, uses):
-        """Where the block led to while the ring was used and it was a Link, up to where it leads elsewhere though it was followed."""
-        targets = []
-        for key, target in self.states(link, uses):
-            if targets and target != targets[-1] and self.passed.get(link, key) < key:
-                self.end_at(key, f'the Link at {link:#x} was followed and then leads to other memory, {target:#x}: the trace ends there')
-                break
-            targets.append(target)
-        return targets
-
-    def states(self, link, uses):
-        """The keys and targets of a Link during these uses."""
+    def states(self, link, uses, joined=None):
+        """The keys and targets of a Link during these uses; where its segment joined the ring later, from the one on that stood then."""
         states = set()
         for use in uses:
             life = self.memory.life(link + 12, use.named, use.ended)
             if life:
                 first = self.first_state(link, use, life[0].key)
                 states |= {(key, target) for key, target in self.links.states[link] if key >= first and not (use.ended and key >= use.ended)}
-        return sorted(states)
+        if joined is None:
+            return sorted(states)
+        earlier = sorted(state for state in states if state[0] <= joined)
+        stands = self.links.is_link(self.memory.word(link + 12, joined))
+        return earlier[-1:] * stands + sorted(states.difference(earlier))
 
     def first_state(self, link, use, key):
         """From where on a Link's states are this use's: what a ring that is gone then made of it counts only where it still stands."""
@@ -290,14 +327,14 @@ class Finder:
             why, count = 'the least power of two that holds what was fetched', max(16, 1 << (used - 1).bit_length())
         if count > room:
             why, count = 'up to where other memory begins', max(room, LEAST_BLOCKS)
-        notes.append(f'the Link of the segment at {start:#x} was never written: it is taken to have {count} blocks, {why}')
+        notes.append(f'the Link of the segment at {start:#x} was never written: it is taken to have {count} TRBs, {why}')
         return count
 
     def linked_counts(self):
         """The counts of all first segments of this run whose Link was written."""
         counts = set()
         for use in self.areas.rings:
-            found = {} if use.what == 'evt' else self.linked([use])
+            found = {} if use.what == 'evt' else self.linked([use])[0]
             if use.start in found:
-                counts.add((found[use.start][0] - use.start) // 16 + 1)
+                counts.add((found[use.start].link - use.start) // 16 + 1)
         return counts

@@ -4,7 +4,7 @@ from collections import namedtuple
 from qemu_log import Bell, Seen, count_of
 
 # made_up: a `w` row for a word that no store was seen to leave; if_set: to be left out where the trace's memory has 0 there; rank: its
-# place among the rows of its key
+# place among the rows of its key, behind that of a ring that goes
 Row = namedtuple('Row', 'key kind fields made_up if_set rank', defaults=(False, False, 0))
 
 
@@ -29,8 +29,8 @@ def text(row):
 
 def writes(areas, rings, memory, cut):
     """A row for each store to a word of an area while the area lives."""
-    rows = {}
-    for start, length, named, ended, mixed in stretches(areas, rings, cut):
+    rows, looked_at = {}, list(stretches(areas, rings, cut))
+    for start, length, named, ended, mixed in looked_at:
         for at in range(start, start + length, 4):
             for i, entry in enumerate(memory.life(at, named, ended)):
                 if mixed and entry.found and count_of(entry.found) > count_of(named):
@@ -38,8 +38,17 @@ def writes(areas, rings, memory, cut):
                 if_set = i == 0 and entry.word == 0 and entry.key < named
                 known = rows.get((at, entry.key))
                 if not known or known.if_set:
-                    rows[at, entry.key] = Row(entry.key, 'w', (at, entry.word), entry.found is not None, if_set)
+                    row = Row(entry.key, 'w', (at, entry.word), entry.found is not None, if_set)
+                    rows[at, entry.key] = behind_areas(row, entry.found, looked_at) if entry.found else row
     return list(rows.values())
+
+
+def behind_areas(row, found, looked_at):
+    """Where a word that was found may have come at any time since `row.key`: behind the areas that had it and were let go meanwhile."""
+    lives = [(named, ended) for start, length, named, ended, mixed in looked_at if start <= row.fields[0] < start + length]
+    latest = min([named for named, ended in lives if named > row.key] + [found])
+    ends = [ended for named, ended in lives if ended and row.key < ended <= latest]
+    return row._replace(key=max(ends), rank=2) if ends else row
 
 
 def stretches(areas, rings, cut):

@@ -3,7 +3,10 @@
 A fetch of QEMU's main loop is only known to lie between two stores to registers: it is put where memory first has its words.
 """
 import blocks
+from commands import placed_by
 from qemu_log import Fetch, Post
+
+MOST_LINES = 1 << 22  # of a schedule
 
 
 class Schedule:
@@ -20,6 +23,8 @@ class Schedule:
         self.cycle = 1           # the command ring's
         self.taken = {}          # by ring: (line, address) of the looks of its transfers
         self.given_back = {}     # by ring: the addresses of the looks that were given back when it stopped last
+        self.rung = set()        # slots and DCIs of the endpoints whose doorbell was rung since they stopped or began
+        self.unasked = []        # where in `lines` there are looks at rings of other endpoints, and such an endpoint
         self.fetched = self.other_words = self.not_followed = 0
         for row in rows:
             self.before(row)
@@ -38,6 +43,8 @@ class Schedule:
         """The rings that are there."""
         if row.kind == 'ring':
             self.come(*row.fields)
+        elif row.kind == 'db':
+            self.rung.add(row.fields)
         elif row.kind == 'free':
             self.owner = {at: ring for at, ring in self.owner.items() if ring is not row.fields[0]}
 
@@ -71,9 +78,16 @@ class Schedule:
             self.cycle ^= not waits and blocks.kind(item.words) == blocks.LINK and blocks.toggles(item.words)
         else:
             self.go_on(ring, item.at)
+            self.see_unasked(ring)
             self.taken.setdefault(ring.number, []).append((len(self.lines), item.at))
         self.lines.append(f'look {ring.number:02x}')
         return True
+
+    def see_unasked(self, ring):
+        """QEMU looks at a ring of an endpoint that was stopped, has halted or is new, with no doorbell since."""
+        endpoints = [(use.slot, use.index) for use in ring.uses]
+        if not self.rung.intersection(endpoints):
+            self.unasked.append((len(self.lines), ring.number, endpoints[-1]))
 
     def go_on(self, ring, at):
         """QEMU goes on behind all that it had fetched: a controller comes there over what it gave back."""
@@ -86,10 +100,15 @@ class Schedule:
             return
         kind, at = blocks.kind(item.words), blocks.pointer(item.words)
         stops = blocks.code(item.words) in blocks.HALTING_CODES + blocks.STOPPED_CODES
+        if kind == blocks.TRANSFER_EVENT and stops:
+            self.rung.discard((blocks.slot(item.words), blocks.endpoint(item.words)))
         if kind == blocks.TRANSFER_EVENT and stops and at in self.owner:
             self.give_back(self.owner[at], at)
         if kind == blocks.COMMAND_COMPLETION:
-            self.finish((0, 0, 0, self.memory.get(at + 12, 0)))
+            command = tuple(self.memory.get(at + 4 * i, 0) for i in range(4))
+            self.finish(command)
+            if blocks.code(item.words) == blocks.SUCCESS:
+                self.stop(command)
         name = {blocks.TRANSFER_EVENT: 'report', blocks.COMMAND_COMPLETION: 'finish'}.get(kind, 'other')
         self.lines.append(name + ' %08x %08x %08x %08x' % item.words)
 
@@ -110,5 +129,17 @@ class Schedule:
             self.given_back = {ring: back for ring, back in self.given_back.items() if not any(
                 use.slot == slot and (kind != blocks.SET_TR_DEQUEUE or use.index == index) for use in ring.uses)}
 
+    def stop(self, command):
+        """The endpoints that a command's success stops, lets go or begins anew work no more."""
+        stopped = [blocks.endpoint(command)] if blocks.kind(command) in blocks.STOPPING else placed_by(command, self.memory)
+        self.rung -= {(blocks.slot(command), index) for index in stopped}
+
+    def not_possible(self):
+        """The first look that no doorbell asked for: its step's number, the ring's and the endpoint; or None."""
+        steps = [(sum(map(bool, self.lines[:place + 1])), *what) for place, *what in self.unasked if self.lines[place]]
+        return steps[0] if steps else None
+
     def text(self):
-        return 'xsched 1\n' + ''.join(line + '\n' for line in self.lines if line)
+        lines = ['xsched 1'] + [line for line in self.lines if line]
+        self.is_cut = len(lines) > MOST_LINES
+        return ''.join(line + '\n' for line in lines[:MOST_LINES])

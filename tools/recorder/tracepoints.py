@@ -1,8 +1,9 @@
-"""Rows of Linux's own xhci-hcd trace events, as their text stands in `trace` with options/fields=1 (Linux 6.12).
+"""Rows of Linux's own xhci-hcd trace events, as their text stands in `trace` with options/fields=1 (Linux 6.12, Linux 7.2).
 
-An event `xhci_queue_trb` doesn't say where its TRB lies: the `xhci_inc_enq` that follows it does, under the driver's one lock. What
-no event tells is made up here: the registers' set-up, the DCBAA, the segment table, Links, ERDP, and when a TD's first TRB, which
-Linux stores with the other Cycle bit, is given: at the doorbell.
+In 6.12 an event `xhci_queue_trb` doesn't say where its TRB lies: the `xhci_inc_enq` that follows it does, under the driver's one lock. In
+7.2 its `dma` does, and an `xhci_inc_enq` or `xhci_inc_deq` comes only where a segment ends; `xhci_address_ctx` has no `ctx_data`. What
+no event tells is made up here: the registers' set-up, the DCBAA, the segment table, Links, ERDP, when a TD's first TRB, which
+Linux stores with the other Cycle bit, is given: at the doorbell; and without `ctx_data` the Input Context of Address Device.
 """
 import re
 
@@ -11,7 +12,8 @@ import commands
 import descriptors
 import rows as row_list
 from areas import RingUse
-from convert import MOST_LINES
+from convert import limited
+from notes import of_cut
 from qemu_log import Unsupported
 from rings import MOST_RINGS, Ring
 from rows import Row
@@ -24,17 +26,33 @@ INPUT_CONTEXT = 2
 SLOTS = 255
 NOT_JUDGED = ('rules 10 to 14, 17 and 22 are not judged: the set-up of registers, ERDP, the DCBAA, the segment table and Links are made up, '
               'and so is when the first TRB of a TD is given; stores into TRBs that are withdrawn are missing')
+MADE_CONTEXTS = ('the Input Contexts of Address Device are made up, since xhci_address_ctx has no ctx_data: rule 19 is not judged of that '
+                 'command')
+CONTROL = 4 << 3 | 3 << 1                         # word 1 of an Endpoint Context: EP Type Control, CErr 3
+PACKETS = {2: 64, 3: 64, 5: 512, 6: 512}          # by Linux's number of a speed: the packets of a control endpoint; else 8 bytes
 
 
 class TraceRing:
-    """A ring as Linux has it: where the next TRB goes, and the TRBs that were stored with the other Cycle bit."""
+    """A ring as Linux has it: where the next TRB goes, the TRBs that were stored with the other Cycle bit, and the last TRB."""
 
     def __init__(self, kind, start, cycle):
         self.kind, self.start, self.enqueue, self.cycle = kind, start, start, cycle
         self.segments, self.held, self.index, self.is_gone = [start], [], None, False
+        self.last = (0, 0, 0, 0)
 
     def what(self):
         return {COMMAND_RING: 'cmd', EVENT_RING: 'evt'}.get(self.kind, 'xfer')
+
+
+class Fields(dict):
+    """The fields of an event; one that is needed and isn't there is told of by name."""
+
+    def __init__(self, event, values):
+        super().__init__(values)
+        self.event = event
+
+    def __missing__(self, name):
+        raise Unsupported(f'an event {self.event} has no field {name}: events as those of Linux 6.12 and of 7.2 can be read')
 
 
 def events_of(lines):
@@ -42,7 +60,7 @@ def events_of(lines):
     for line in lines:
         match = EVENT.search(line)
         if match:
-            fields = {name: int(value, 16) for name, value in FIELD.findall(match[2] + ' ')}
+            fields = Fields(match[1], ((name, int(value, 16)) for name, value in FIELD.findall(match[2] + ' ')))
             data = re.search(r'ctx_data=([0-9a-f,]+)', match[2])
             if data:
                 octets = bytes(int(octet, 16) for octet in data[1].strip(',').split(','))
@@ -51,14 +69,17 @@ def events_of(lines):
 
 
 class Follower:
-    """Makes rows of events in order. `indices`: the endpoint of each ring, by its number of allocation, as doorbells tell it. In version 3
-    a ring in memory of an earlier one comes where it is made, and the earlier one goes there."""
+    """Makes rows of events in order. `indices`: the endpoint of each ring, by its number of allocation, as doorbells tell it; `slots`: the
+    slot context behind each Address Device. In version 3 a ring in memory of an earlier one comes where it is made, and the earlier one
+    goes there."""
 
-    def __init__(self, events, version, indices=()):
-        self.indices, self.version = dict(indices), version
+    def __init__(self, events, version, indices=(), slots=()):
+        self.indices, self.version, self.slots = dict(indices), version, list(slots)
         self.rows, self.commands, self.notes = [], [], []
         self.rings, self.by_pointer, self.image, self.contexts = [], {}, {}, {}
         self.queued = self.command = self.last_held = None
+        self.control_rings, self.unaddressed, self.speeds, self.addressed = {}, set(), {}, []
+        self.address_control, self.erdp = (0, 3), None
         self.control = self.slot_context = None
         self.added, self.device = [], {}
         self.size, self.started, self.over = 32, False, False
@@ -71,7 +92,7 @@ class Follower:
 
     def free_memory(self, events):
         """An address above all that the events name, for what is made up."""
-        known = [fields[name] for what, fields in events for name in ('enq', 'deq', 'ctx_dma', 'in_ctx', 'out_ctx') if name in fields]
+        known = [fields[name] for what, fields in events for name in ('enq', 'deq', 'dma', 'ctx_dma', 'in_ctx', 'out_ctx') if name in fields]
         return (max(known, default=0) | 0xffff) + 1
 
     def row(self, kind, *fields):
@@ -135,31 +156,52 @@ class Follower:
     def xhci_inc_deq(self, fields):
         ring = self.by_pointer.get(fields['ring'])
         if ring and ring.kind == EVENT_RING:
-            if fields['deq_seg'] not in ring.segments:
-                ring.segments.append(fields['deq_seg'])
-            self.row('reg', 'erdp', fields['deq'] | 8)
+            self.dequeue(ring, fields['deq'])
+
+    def dequeue(self, ring, at):
+        """The Event Ring's dequeue pointer is here now."""
+        if at - at % SEGMENT not in ring.segments:
+            ring.segments.append(at - at % SEGMENT)
+        if at != self.erdp:
+            self.row('reg', 'erdp', at | 8)
+        self.erdp = at
 
     def xhci_queue_trb(self, fields):
-        self.queued = tuple(fields[f'field{i}'] for i in range(4))
+        words = tuple(fields[f'field{i}'] for i in range(4))
         if fields['type'] == COMMAND_RING:
-            self.prepare(self.queued)
+            self.prepare(words)
+        if self.over:
+            return
+        if 'dma' not in fields:
+            self.queued = words
+            return
+        ring = self.ring_at(fields['dma'])
+        if ring:
+            self.put(ring, fields['dma'], words)
+
+    def ring_at(self, at):
+        return next((ring for ring in self.rings if not ring.is_gone and at - at % SEGMENT in ring.segments), None)
 
     def xhci_inc_enq(self, fields):
         ring, words = self.by_pointer.get(fields['ring']), self.queued
-        if not ring or words is None or ring.kind != fields['type']:
+        if not ring or ring.kind != fields['type']:
             return
         self.queued = None
-        if ring.enqueue % SEGMENT == SEGMENT - 16:
-            self.cross(ring, fields['enq'] - fields['enq'] % SEGMENT, 0)
-        at = ring.enqueue
+        if words is not None:
+            if ring.enqueue % SEGMENT == SEGMENT - 16:
+                self.cross(ring, fields['enq'] - fields['enq'] % SEGMENT, 0)
+            self.put(ring, ring.enqueue, words)
+        if ring.enqueue != fields['enq'] and fields['enq'] % SEGMENT == 0:
+            self.cross(ring, fields['enq'], blocks.chained(ring.last))
+
+    def put(self, ring, at, words):
+        """A TRB is stored here."""
         if blocks.cycle(words) != ring.cycle:
             ring.held.append((at + 12, words[3] ^ 1))
             self.last_held = ring
         for i, word in enumerate(words):
             self.store(at + 4 * i, word)
-        ring.enqueue = at + 16
-        if fields['enq'] % SEGMENT == 0:
-            self.cross(ring, fields['enq'], blocks.chained(words))
+        ring.enqueue, ring.last = at + 16, words
         if ring.kind == COMMAND_RING:
             self.command = (at, words)
 
@@ -179,11 +221,43 @@ class Follower:
 
     def xhci_address_ctx(self, fields):
         self.size = 64 if fields['ctx_64'] else 32
-        if fields['ctx_type'] == INPUT_CONTEXT:
+        if fields['ctx_type'] == INPUT_CONTEXT and 'ctx_data' in fields:
             self.contexts[fields['ctx_dma']] = fields['ctx_data']
+
+    def xhci_alloc_virt_device(self, fields):
+        self.control_rings[fields['in_ctx']] = self.rings[-1]
+
+    def xhci_setup_addressable_virt_device(self, fields):
+        self.unaddressed.add(fields['in_ctx'])
+
+    def xhci_address_ctrl_ctx(self, fields):
+        self.address_control = (fields['drop'], fields['add'])
 
     def xhci_setup_device(self, fields):
         self.device[fields['in_ctx']] = fields['out_ctx']
+        self.speeds[fields['in_ctx']] = fields['speed']
+
+    def xhci_handle_cmd_addr_dev(self, fields):
+        self.addressed.append(tuple(fields[name] for name in ('info', 'info2', 'tt_info')))
+
+    def made_context(self, at):
+        """The Input Context of an Address Device as Linux fills it in: at first with the beginning of the control endpoint's ring, later with
+        the place of its next TRB."""
+        ring = self.control_rings.get(at)
+        if not ring:
+            self.end(f'no event tells the ring of the control endpoint that the Input Context at {at:#x} names')
+            return []
+        self.note(MADE_CONTEXTS)
+        dequeue = ring.start | 1 if at in self.unaddressed else ring.enqueue | ring.cycle
+        self.unaddressed.discard(at)
+        slot = self.slots.pop(0) if self.slots else (1 << 27, 1 << 16, 0)
+        endpoint = (0, PACKETS.get(self.speeds.get(at), 8) << 16 | CONTROL, dequeue & 0xffffffff, dequeue >> 32, 8)
+        contexts = [context + (0,) * (self.size // 4 - len(context)) for context in (self.address_control, slot, endpoint)]
+        return [word for context in contexts for word in context]
+
+    def note(self, text):
+        if text not in self.notes:
+            self.notes.append(text)
 
     def xhci_add_endpoint(self, fields):
         self.added.append(tuple(fields[name] for name in ('info', 'info2', 'deq', 'tx_info')))
@@ -200,7 +274,7 @@ class Follower:
         if kind == blocks.ADDRESS_DEVICE:
             context = self.device.get(at, 0)
             self.store_new(self.made_up + 8 * blocks.slot(words), (context & 0xffffffff, context >> 32))
-            self.store_new(at, self.contexts.get(at, []))
+            self.store_new(at, self.contexts.get(at) or self.made_context(at))
         elif kind in (blocks.CONFIGURE_ENDPOINT, blocks.EVALUATE_CONTEXT) and not blocks.drops_all(words) and self.control:
             self.store_new(at, self.control)
             self.store_new(at + self.size, self.slot_context or ())
@@ -246,6 +320,13 @@ class Follower:
             at, command = self.command
             self.commands.append(commands.Command(None, at, command, None, words, len(self.rows)))
         self.row('ev', *words)
+        ring = self.ring_of_events(fields.get('dma'))
+        if ring and fields['dma'] % SEGMENT < SEGMENT - 16:
+            self.dequeue(ring, fields['dma'] + 16)
+
+    def ring_of_events(self, at):
+        """The Event Ring, where an event tells its own place."""
+        return next((ring for ring in self.rings if at is not None and ring.kind == EVENT_RING), None)
 
 
 class Tracepoints:
@@ -257,9 +338,11 @@ class Tracepoints:
             raise Unsupported('no xhci_queue_trb with its fields: set options/fields to 1 before the events are enabled')
         first = Follower(events, version)
         indices = {number: ring.index for number, ring in enumerate(first.rings) if ring.index}
-        self.follower = Follower(events, version, indices)
+        self.follower = Follower(events, version, indices, first.addressed)
         if not self.follower.started:
             raise Unsupported('the events begin after the rings of commands and events were made: enable them before xhci-pci is loaded')
+        if not any(ring.last[3] for ring in self.follower.rings):
+            raise Unsupported('no event tells where a TRB lies: xhci_queue_trb has no dma, and no xhci_inc_enq follows it')
         self.size, self.commands = self.follower.size, self.follower.commands
         self.rings = [self.laid(ring) for ring in self.follower.rings]
         for number, ring in enumerate(self.rings):
@@ -300,11 +383,8 @@ def converted(lines, version=3):
     rows, cut = descriptors.declared(plain, producers, version)
     header = [f'xtrace {version}', f'ctx {run.size:02x}'] + [ring.line() for ring in run.rings if ring.comes is None]
     text = [row_list.text(row) for row in rows]
-    notes = [NOT_JUDGED] + run.follower.notes
-    if cut < len(plain):
-        notes.append(f'a TD was not given whole: the trace ends before its first row, and {len(plain) - cut} rows are left out')
-    if len(header) + len(text) > MOST_LINES:
-        text = text[:MOST_LINES - len(header)]
-        notes.append(f'the trace ends after {MOST_LINES} lines, as many as a replay keeps')
+    notes = [NOT_JUDGED] + run.follower.notes + of_cut(plain, cut)
+    text, full = limited(text, len(header), version)
+    notes += full
     lines = [''.join(line + '\n' for line in part) for part in (header + text, notes)]
     return *lines, f'{len(text)} rows, {len(run.rings)} rings'
