@@ -250,12 +250,18 @@ static inline void xt_put(struct xt_state *xt, const char *end)
 
 static inline void xt_text(struct xt_state *xt, const char *text, unsigned int bytes)
 {
-	for (; bytes; bytes--) {
-		char *end = xt_piece(xt);
+	char *end = xt_piece(xt);
+	unsigned int part = 0;
 
+	for (; bytes; bytes--, part++) {
+		if (part == XT_PIECE) {
+			xt_put(xt, end);
+			end = xt_piece(xt);
+			part = 0;
+		}
 		*end++ = *text++;
-		xt_put(xt, end);
 	}
+	xt_put(xt, end);
 }
 
 /* The Command Ring or the Event Ring may still come, before the rows that wait */
