@@ -7,36 +7,55 @@
  *	#include "xhci_trace.h"
  *
  *	xt_open(path, 32)		before the controller's reset; contexts of 32 or 64 bytes
- *	xt_ring(..)			when a ring is made
+ *	xt_ring(..)			when a ring is made, at any time, behind the rows that clear its memory
+ *	xt_free(..)			when a Transfer Ring goes, behind the completion with which its endpoint let it go
  *	xt_submit(..)			before the first store for a TD: the TRBs that it is to have
  *	xt_submit_block(..)		or so, TRB by TRB, each before its own stores
+ *	xt_withdraw(..)			before the first store that makes a No Op of a TD's TRB
  *	xt_store32(..), xt_store64(..)	in place of each store to a ring, a context, the DCBAA or the ERST
+ *	xt_zero32(..), xt_copy32(..)	directly before a memset to 0 or a memcpy of such memory
  *	xt_reg(..), xt_reg_half(..)	in place of each store to a register
  *	xt_doorbell(..)			in place of each store to a doorbell
  *	xt_event(..)			when an event was read, before the driver acts on it
  *	xt_close()			when the controller was stopped
  *
- * Order: a row is written directly before its store, both under one lock; the row of an event is written after the event was read.
+ * Order: a row is made directly before its store, both under one lock; the row of an event is made after the event was read.
  * So no effect of a store has a row before the store's own, and rows stand in the order of the stores. The lock is held while the
  * store is made: no hook may be called within one. Barriers stay where they are in the driver: the rows are the order of the program,
  * and whether the controller sees it so is up to them.
  *
  * Addresses are bus addresses, values are in the CPU's byte order; xHCI's is little-endian, and on a big-endian CPU the bytes are
- * swapped here. Memory counts as 0 until a row writes it: clear it before xt_open, or store it by a hook. The controller writes event
- * rings: no hook stores there.
+ * swapped here. Memory counts as 0 until a row writes it: clear it before xt_open, or tell it by a hook. Memory that is used again is
+ * cleared again, and told so. The controller writes event rings: no hook stores there.
+ *
+ * Rings: Transfer Rings come and go among the rows. The Command Ring and the Event Ring stand before all rows, so rows wait in the
+ * buffer until both are made, or the controller starts, or the buffer is full. One that is made later is put in the file before them;
+ * with XT_PRINT it can't be told.
  *
  * A trace is one run of the controller. The row that stops it is its last one: what comes behind makes no row, up to the next xt_open,
  * which needs each xt_ring again.
  *
+ * When rows are out: they are gathered in a buffer, and all that were made are written to the file before a store to a doorbell or a
+ * register, and when the buffer is full, at xt_flush() and at xt_close(). Where the driver dies those since then are missing.
+ * xt_flush_unlocked(), in the handler of a signal or a panic, writes them too: it takes no lock, since the driver may have died within a
+ * hook. Or each row is written before its store:
+ *
+ *	#define XT_AT_ONCE 1		0 where it isn't defined, with XT_PRINT 1
+ *	#define XT_BUFFER 3072		the buffer's bytes, at least 1536
+ *
  * In a kernel or in firmware, where there is no stdio, two macros say how text goes out and what lock is held. xt_begin(32) then
  * stands for xt_open, and nothing for xt_close:
  *
- *	#define XT_PRINT(text)	serial_puts(text)	appends the text: a line, or a piece of a long one
+ *	#define XT_PRINT(text)	serial_puts(text)	appends the text, less than XT_BUFFER bytes: whole lines, or a piece of a long one
  *	#define XT_LOCKED(...)	do { unsigned long flags; spin_lock_irqsave(&lock, flags); __VA_ARGS__; \
  *				     spin_unlock_irqrestore(&lock, flags); } while (0)
  *
- * A ring that is made late has its line among the rows then, and all rings must stand before them:
- *	{ grep -E '^(xtrace|ctx|ring) ' log; grep -vE '^(xtrace|ctx|ring) ' log; } > trace
+ * Several controllers, each with its own trace: each hook has a pointer to the controller's state as one argument more, the first one,
+ * &xt_states[0] and so on: xt_store32(&xt_states[1], word, bus, value). XT_PRINT may use it by the name xt.
+ *
+ *	#define XT_CONTROLLERS 2
+ *
+ * A state takes less than 4 KB. Each file that calls xt_submit_block has 61 KB for each controller besides.
  */
 #ifndef XHCI_TRACE_H
 #define XHCI_TRACE_H
@@ -53,6 +72,21 @@
 #else
 #define XT_BIG_ENDIAN 0
 #endif
+#endif
+
+#ifndef XT_CONTROLLERS
+#define XT_CONTROLLERS 1
+#endif
+
+/* The first parameter of a hook, and what it is in it */
+#if XT_CONTROLLERS > 1
+#define XT_FIRST struct xt_state *xt,
+#define XT_ALONE struct xt_state *xt
+#define XT_SELF xt
+#else
+#define XT_FIRST
+#define XT_ALONE void
+#define XT_SELF (&xt_state)
 #endif
 
 static inline uint32_t xt_le32(uint32_t value)
@@ -74,23 +108,31 @@ static inline uint64_t xt_le64(uint64_t value)
 #ifndef XT_PRINT
 #include <stdio.h>
 #define XT_STDIO 1
-#define XT_PRINT(text) fputs(text, xt_state.rows)
-#define XT_PRINT_HEAD(text) fputs(text, xt_state.head)
 #else
 #define XT_STDIO 0
 #endif
-#ifndef XT_PRINT_HEAD
-#define XT_PRINT_HEAD(text) XT_PRINT(text)
+
+#ifndef XT_AT_ONCE
+#define XT_AT_ONCE !XT_STDIO
 #endif
 
-#ifndef XT_LOCKED
-#define XT_LOCKED(...) \
+#ifdef XT_LOCKED
+#define XT_LOCKED_BY(xt, ...) XT_LOCKED(__VA_ARGS__)
+#else
+#define XT_LOCKED_BY(xt, ...) \
 	do { \
-		while (__atomic_test_and_set(&xt_state.lock, __ATOMIC_ACQUIRE)) \
+		while (__atomic_test_and_set(&(xt)->lock, __ATOMIC_ACQUIRE)) \
 			; \
 		__VA_ARGS__; \
-		__atomic_clear(&xt_state.lock, __ATOMIC_RELEASE); \
+		__atomic_clear(&(xt)->lock, __ATOMIC_RELEASE); \
 	} while (0)
+#endif
+
+#ifndef XT_BUFFER
+#define XT_BUFFER 3072
+#endif
+#if XT_BUFFER < 1536
+#error "XT_BUFFER is too small for the line of a ring of 64 segments"
 #endif
 
 /* How many bytes of rows are held back while a TD comes block by block: 4 rows of 28 bytes for each of 256 TRBs, and as much again */
@@ -99,6 +141,17 @@ static inline uint64_t xt_le64(uint64_t value)
 #endif
 
 #define XT_TRBS 256	/* of a TD, at most */
+#define XT_PIECE 48	/* bytes that are put at once, at most: a row, or the four words of a TRB */
+
+/* A TD that comes block by block, and the rows behind its sub row */
+struct xt_hold {
+	unsigned int ring;
+	unsigned int trbs;	/* how many TRBs of it have come */
+	const char *lost;	/* why its rows can't be told */
+	unsigned int bytes;
+	uint32_t td[XT_TRBS][4];
+	char rows[XT_HOLD + 2 * XT_PIECE];
+};
 
 /* The halves of a 64-bit register: the one that was written and waits for the other */
 struct xt_wide {
@@ -110,23 +163,31 @@ struct xt_state {
 	unsigned char lock;
 	unsigned char on;	/* a trace has begun and not ended */
 	unsigned char started;	/* Run/Stop was set */
-	uint8_t ring;		/* of the TD that comes block by block */
-	unsigned int trbs;	/* how many TRBs of it have come */
-	const char *lost;	/* why its rows can't be told */
-	uint32_t td[XT_TRBS][4];
-	unsigned int held_bytes;
-	char held[XT_HOLD];
+	unsigned char rings;	/* that were made: 1 the Command Ring, 2 the Event Ring */
+	unsigned char head_open;	/* no row is out, so that a line can still be put before all rows */
+	unsigned int head_bytes;	/* of the buffer: the lines before its first row, while that is so */
+	unsigned int bytes;	/* of the buffer */
+	struct xt_hold *hold;	/* where rows are held back for a TD that isn't whole */
 	struct xt_wide wide[4];
 #if XT_STDIO
-	FILE *head;		/* xtrace, ctx and ring lines */
-	FILE *rows;
-	char rows_path[FILENAME_MAX];
+	FILE *file;
+	long file_head;		/* of the file: the lines before its first row */
+	int failed;
 #endif
+	char buffer[XT_BUFFER];
 };
 
+#if XT_CONTROLLERS > 1
+extern struct xt_state xt_states[XT_CONTROLLERS];
+#else
 extern struct xt_state xt_state;
+#endif
 #ifdef XHCI_TRACE_HERE
+#if XT_CONTROLLERS > 1
+struct xt_state xt_states[XT_CONTROLLERS];
+#else
 struct xt_state xt_state;
+#endif
 #endif
 
 /* ---- text; all that follows up to the hooks is called under the lock ---- */
@@ -135,7 +196,6 @@ static inline char *xt_word(char *end, const char *word)
 {
 	while (*word)
 		*end++ = *word++;
-	*end = 0;
 	return end;
 }
 
@@ -145,80 +205,185 @@ static inline char *xt_hex(char *end, uint64_t value, int digits)
 
 	for (i = digits - 1; i >= 0; i--, value >>= 4)
 		end[i] = "0123456789abcdef"[value & 15];
-	end[digits] = 0;
 	return end + digits;
 }
 
-/* A row, or a piece of one: held back while a TD comes block by block */
-static inline void xt_put(const char *text)
+/* Writes what was gathered */
+static inline void xt_give_out(struct xt_state *xt)
 {
-	if (!xt_state.trbs) {
-		XT_PRINT(text);
-		return;
+	xt->buffer[xt->bytes] = 0;
+#if XT_STDIO
+	if (xt->head_open)
+		xt->file_head += (long)xt->head_bytes;
+	if (xt->bytes && fwrite(xt->buffer, 1, xt->bytes, xt->file) != xt->bytes)
+		xt->failed = 1;
+#else
+	if (xt->bytes)
+		XT_PRINT(xt->buffer);
+#endif
+	if (xt->bytes > xt->head_bytes)
+		xt->head_open = 0;
+	xt->bytes = 0;
+	xt->head_bytes = 0;
+}
+
+/* Where the next XT_PIECE bytes may be put: with those that are held back, while there are such */
+static inline char *xt_piece(struct xt_state *xt)
+{
+	if (xt->hold) {
+		if (xt->hold->bytes > XT_HOLD)
+			xt->hold->lost = "XT_HOLD is too small";
+		return xt->hold->rows + xt->hold->bytes;
 	}
-	for (; *text; text++) {
-		if (xt_state.held_bytes < XT_HOLD - 1)
-			xt_state.held[xt_state.held_bytes++] = *text;
-		else
-			xt_state.lost = "XT_HOLD is too small";
+	if (xt->bytes >= XT_BUFFER - XT_PIECE)
+		xt_give_out(xt);
+	return xt->buffer + xt->bytes;
+}
+
+static inline void xt_put(struct xt_state *xt, const char *end)
+{
+	if (!xt->hold)
+		xt->bytes = (unsigned int)(end - xt->buffer);
+	else if (xt->hold->bytes <= XT_HOLD)
+		xt->hold->bytes = (unsigned int)(end - xt->hold->rows);
+}
+
+static inline void xt_text(struct xt_state *xt, const char *text, unsigned int bytes)
+{
+	char *end = xt_piece(xt);
+	unsigned int part = 0;
+
+	for (; bytes; bytes--, part++) {
+		if (part == XT_PIECE) {
+			xt_put(xt, end);
+			end = xt_piece(xt);
+			part = 0;
+		}
+		*end++ = *text++;
 	}
+	xt_put(xt, end);
+}
+
+/* The Command Ring or the Event Ring may still come, before the rows that wait */
+static inline int xt_head_waits(const struct xt_state *xt)
+{
+	return xt->head_open && xt->rings != 3;
+}
+
+static inline void xt_row_is_whole(struct xt_state *xt)
+{
+	if (XT_AT_ONCE && !xt->hold && !xt_head_waits(xt))
+		xt_give_out(xt);
+}
+
+static inline void xt_end_row(struct xt_state *xt, char *end)
+{
+	*end++ = '\n';
+	xt_put(xt, end);
+	xt_row_is_whole(xt);
+}
+
+/* What was gathered is out before a store on which the controller acts */
+static inline void xt_before_act(struct xt_state *xt)
+{
+	if (xt->started || !xt_head_waits(xt))
+		xt_give_out(xt);
 }
 
 /* A line that no trace has, so that the checker names it: rows were lost */
-static inline void xt_complain(const char *why)
+static inline void xt_complain(struct xt_state *xt, const char *why)
 {
-	xt_put("xhci_trace.h: ");
-	xt_put(why);
-	xt_put("\n");
+	unsigned int bytes = 0;
+
+	while (why[bytes])
+		bytes++;
+	xt_text(xt, "xhci_trace.h: ", 14);
+	xt_text(xt, why, bytes);
+	xt_end_row(xt, xt_piece(xt));
 }
 
-static inline void xt_sub_row(unsigned int ring, const uint32_t *words, unsigned int trbs)
-{
-	char piece[16];
-	unsigned int i;
+/* ---- rows ---- */
 
-	xt_hex(xt_word(piece, "sub "), ring, 2);
-	xt_put(piece);
-	for (i = 0; i < 4 * trbs; i++) {
-		xt_hex(xt_word(piece, " "), i % 4 == 3 ? words[i] & ~(uint32_t)1 : words[i], 8);
-		xt_put(piece);
+static inline void xt_sub_row(struct xt_state *xt, unsigned int ring, const uint32_t *words, unsigned int trbs)
+{
+	char *end = xt_hex(xt_word(xt_piece(xt), "sub "), ring, 2);
+
+	for (; trbs; trbs--, words += 4) {
+		xt_put(xt, end);
+		end = xt_hex(xt_word(xt_piece(xt), " "), words[0], 8);
+		end = xt_hex(xt_word(end, " "), words[1], 8);
+		end = xt_hex(xt_word(end, " "), words[2], 8);
+		end = xt_hex(xt_word(end, " "), words[3] & ~(uint32_t)1, 8);
 	}
-	xt_put("\n");
+	xt_end_row(xt, end);
 }
 
-static inline void xt_store_row(uint64_t bus, uint32_t value)
+static inline void xt_submit_row(struct xt_state *xt, unsigned int ring, const uint32_t *words, unsigned int trbs)
 {
-	char row[32];
-	char *end = xt_hex(xt_word(row, "w "), bus, 16);
-
-	if (!xt_state.on)
-		return;
-	xt_word(xt_hex(xt_word(end, " "), value, 8), "\n");
-	xt_put(row);
+	if (xt->on)
+		xt_sub_row(xt, ring, words, trbs);
 }
 
-static inline void xt_doorbell_row(unsigned int slot, unsigned int target)
+static inline void xt_store_row(struct xt_state *xt, uint64_t bus, uint32_t value)
 {
-	char row[16];
-	char *end = xt_hex(xt_word(row, "db "), slot, 2);
+	char *end;
 
-	if (!xt_state.on)
+	if (!xt->on)
 		return;
-	xt_word(xt_hex(xt_word(end, " "), target, 2), "\n");
-	xt_put(row);
+	end = xt_hex(xt_word(xt_piece(xt), "w "), bus, 16);
+	xt_end_row(xt, xt_hex(xt_word(end, " "), value, 8));
 }
 
-static inline void xt_event_row(uint32_t word0, uint32_t word1, uint32_t word2, uint32_t word3)
+static inline void xt_zero_rows(struct xt_state *xt, uint64_t bus, unsigned int words)
 {
-	char row[48];
-	char *end = xt_hex(xt_word(row, "ev "), word0, 8);
+	for (; words; words--, bus += 4)
+		xt_store_row(xt, bus, 0);
+}
 
-	if (!xt_state.on)
+/* The bytes are those that the controller is to see */
+static inline void xt_copy_rows(struct xt_state *xt, uint64_t bus, const unsigned char *bytes, unsigned int words)
+{
+	for (; words; words--, bus += 4, bytes += 4)
+		xt_store_row(xt, bus, bytes[0] | (uint32_t)bytes[1] << 8 | (uint32_t)bytes[2] << 16 | (uint32_t)bytes[3] << 24);
+}
+
+static inline void xt_withdraw_row(struct xt_state *xt, unsigned int ring, uint64_t position)
+{
+	char *end;
+
+	if (!xt->on)
 		return;
+	end = xt_hex(xt_word(xt_piece(xt), "nop "), ring, 2);
+	xt_end_row(xt, xt_hex(xt_word(end, " "), position, 16));
+}
+
+static inline void xt_free_row(struct xt_state *xt, unsigned int ring)
+{
+	if (xt->on)
+		xt_end_row(xt, xt_hex(xt_word(xt_piece(xt), "free "), ring, 2));
+}
+
+static inline void xt_doorbell_row(struct xt_state *xt, unsigned int slot, unsigned int target)
+{
+	char *end;
+
+	if (!xt->on)
+		return;
+	end = xt_hex(xt_word(xt_piece(xt), "db "), slot, 2);
+	xt_end_row(xt, xt_hex(xt_word(end, " "), target, 2));
+	xt_before_act(xt);
+}
+
+static inline void xt_event_row(struct xt_state *xt, uint32_t word0, uint32_t word1, uint32_t word2, uint32_t word3)
+{
+	char *end;
+
+	if (!xt->on)
+		return;
+	end = xt_hex(xt_word(xt_piece(xt), "ev "), word0, 8);
 	end = xt_hex(xt_word(end, " "), word1, 8);
 	end = xt_hex(xt_word(end, " "), word2, 8);
-	xt_word(xt_hex(xt_word(end, " "), word3, 8), "\n");
-	xt_put(row);
+	xt_end_row(xt, xt_hex(xt_word(end, " "), word3, 8));
 }
 
 static inline int xt_is(const char *name, const char *other)
@@ -231,24 +396,24 @@ static inline int xt_is(const char *name, const char *other)
 }
 
 /* Run/Stop is bit 0 of USBCMD, HCRST bit 1: what stops a controller that was started ends the trace */
-static inline void xt_reg_row(const char *name, uint64_t value)
+static inline void xt_reg_row(struct xt_state *xt, const char *name, uint64_t value)
 {
-	char row[40];
-	char *end = xt_word(xt_word(row, "reg "), name);
+	char *end;
 
-	if (!xt_state.on)
+	if (!xt->on)
 		return;
-	xt_word(xt_hex(xt_word(end, " "), value, 16), "\n");
-	xt_put(row);
+	end = xt_word(xt_word(xt_piece(xt), "reg "), name);
+	xt_end_row(xt, xt_hex(xt_word(end, " "), value, 16));
 	if (xt_is(name, "usbcmd")) {
-		if (xt_state.started && (value & 3) != 1)
-			xt_state.on = 0;
+		if (xt->started && (value & 3) != 1)
+			xt->on = 0;
 		else if ((value & 3) == 1)
-			xt_state.started = 1;
+			xt->started = 1;
 	}
+	xt_before_act(xt);
 }
 
-static inline void xt_half_row(const char *name, unsigned int high, uint32_t value)
+static inline void xt_half_row(struct xt_state *xt, const char *name, unsigned int high, uint32_t value)
 {
 	static const char *const names[4] = { "crcr", "dcbaap", "erstba", "erdp" };
 	struct xt_wide *wide;
@@ -256,181 +421,310 @@ static inline void xt_half_row(const char *name, unsigned int high, uint32_t val
 
 	while (i < 3 && !xt_is(name, names[i]))
 		i++;
-	wide = &xt_state.wide[i];
+	wide = &xt->wide[i];
 	if (wide->waits == 1 + high)
-		xt_complain("the same half of a register twice: a half that is written alone goes by xt_reg");
+		xt_complain(xt, "the same half of a register twice: a half that is written alone goes by xt_reg");
 	wide->half[high] = value;
 	if (wide->waits == 2 - high) {
 		wide->waits = 0;
-		xt_reg_row(name, (uint64_t)wide->half[1] << 32 | wide->half[0]);
+		xt_reg_row(xt, name, (uint64_t)wide->half[1] << 32 | wide->half[0]);
 	} else {
 		wide->waits = (unsigned char)(1 + high);
 	}
 }
 
-static inline void xt_submit_row(unsigned int ring, const uint32_t *words, unsigned int trbs)
-{
-	if (xt_state.on)
-		xt_sub_row(ring, words, trbs);
-}
-
 /* The rows that were held back, behind the sub row of the TD that they write */
-static inline void xt_let_go(void)
+static inline void xt_let_go(struct xt_state *xt)
 {
-	unsigned int trbs = xt_state.trbs;
+	struct xt_hold *hold = xt->hold;
 
-	xt_state.trbs = 0;
-	if (xt_state.lost)
-		xt_complain(xt_state.lost);
+	xt->hold = 0;
+	if (hold->lost)
+		xt_complain(xt, hold->lost);
 	else
-		xt_sub_row(xt_state.ring, xt_state.td[0], trbs);
-	xt_state.held[xt_state.held_bytes] = 0;
-	XT_PRINT(xt_state.held);
-	xt_state.held_bytes = 0;
-	xt_state.lost = 0;
+		xt_sub_row(xt, hold->ring, hold->td[0], hold->trbs);
+	xt_text(xt, hold->rows, hold->bytes);
 }
 
-static inline void xt_block_row(unsigned int ring, uint32_t word0, uint32_t word1, uint32_t word2, uint32_t word3)
+static inline void xt_hold_back(struct xt_state *xt, struct xt_hold *hold, unsigned int ring)
 {
-	uint32_t *block;
-
-	if (!xt_state.on)
-		return;
-	if (xt_state.trbs && xt_state.ring != ring)
-		xt_state.lost = "xt_submit_block of a ring while a TD of another one isn't whole";
-	if (xt_state.trbs == XT_TRBS) {
-		xt_state.lost = "a TD of more than 256 TRBs";
-		xt_state.trbs--;
-	}
-	xt_state.ring = (uint8_t)ring;
-	block = xt_state.td[xt_state.trbs++];
-	block[0] = word0;
-	block[1] = word1;
-	block[2] = word2;
-	block[3] = word3;
-	if (!(word3 & 0x10))
-		xt_let_go();
+	xt->hold = hold;
+	hold->ring = ring;
+	hold->trbs = 0;
+	hold->lost = 0;
+	hold->bytes = 0;
 }
 
-static inline void xt_ring_line(unsigned int id, const char *kind, unsigned int segments, const uint64_t *bases, const uint16_t *trbs)
-{
-	char piece[32];
-	unsigned int i;
-
-	if (!xt_state.on)
-		return;
-	xt_hex(xt_word(piece, "ring "), id, 2);
-	XT_PRINT_HEAD(piece);
-	XT_PRINT_HEAD(" ");
-	XT_PRINT_HEAD(kind);
-	for (i = 0; i < segments; i++) {
-		xt_hex(xt_word(xt_hex(xt_word(piece, " "), bases[i], 16), ":"), trbs[i], 4);
-		XT_PRINT_HEAD(piece);
-	}
-	XT_PRINT_HEAD("\n");
-}
-
-static inline void xt_head(unsigned int context_bytes)
+static inline void xt_block_row(struct xt_state *xt, struct xt_hold *hold, unsigned int ring, const uint32_t *words)
 {
 	unsigned int i;
 
-	xt_state.on = 1;
-	xt_state.started = 0;
-	xt_state.trbs = 0;
-	xt_state.held_bytes = 0;
-	xt_state.lost = 0;
+	if (!xt->on)
+		return;
+	if (!xt->hold)
+		xt_hold_back(xt, hold, ring);
+	hold = xt->hold;
+	if (hold->ring != ring)
+		hold->lost = "xt_submit_block of a ring while a TD of another one isn't whole";
+	if (hold->trbs == XT_TRBS) {
+		hold->lost = "a TD of more than 256 TRBs";
+		hold->trbs--;
+	}
 	for (i = 0; i < 4; i++)
-		xt_state.wide[i].waits = 0;
-	XT_PRINT_HEAD("xtrace 1\n");
-	XT_PRINT_HEAD(context_bytes == 64 ? "ctx 40\n" : "ctx 20\n");
+		hold->td[hold->trbs][i] = words[i];
+	hold->trbs++;
+	if (!(words[3] & 0x10))
+		xt_let_go(xt);
+}
+
+/* ---- rings ---- */
+
+static inline void xt_ring_line(struct xt_state *xt, unsigned int id, const char *kind, unsigned int segments, const uint64_t *bases,
+				const uint16_t *trbs)
+{
+	char *end = xt_hex(xt_word(xt_piece(xt), "ring "), id, 2);
+	unsigned int i;
+
+	end = xt_word(xt_word(end, " "), kind);
+	for (i = 0; i < segments; i++) {
+		xt_put(xt, end);
+		end = xt_hex(xt_word(xt_piece(xt), " "), bases[i], 16);
+		end = xt_hex(xt_word(end, ":"), trbs[i], 4);
+	}
+	*end++ = '\n';
+	xt_put(xt, end);
+}
+
+static inline void xt_reverse(char *from, char *end)
+{
+	while (from < end) {
+		char last = *--end;
+
+		*end = *from;
+		*from++ = last;
+	}
+}
+
+/* Puts the line that begins at `line` before the rows that wait */
+static inline void xt_line_to_head(struct xt_state *xt, unsigned int line)
+{
+	xt_reverse(xt->buffer + xt->head_bytes, xt->buffer + line);
+	xt_reverse(xt->buffer + line, xt->buffer + xt->bytes);
+	xt_reverse(xt->buffer + xt->head_bytes, xt->buffer + xt->bytes);
+	xt->head_bytes += xt->bytes - line;
+}
+
+/* Puts the line that stands alone in the buffer before the rows that are out; 0 where that can't be */
+static inline int xt_line_among_rows(struct xt_state *xt)
+{
+#if XT_STDIO
+	size_t line = xt->bytes, room = XT_BUFFER - line, part;
+	long at = fseek(xt->file, 0, SEEK_END) ? -1 : ftell(xt->file);
+
+	if (at < 0)
+		return 0;
+	while (at > xt->file_head) {
+		part = (size_t)(at - xt->file_head) < room ? (size_t)(at - xt->file_head) : room;
+		at -= (long)part;
+		if (fseek(xt->file, at, SEEK_SET) || fread(xt->buffer + line, 1, part, xt->file) != part ||
+		    fseek(xt->file, at + (long)line, SEEK_SET) || fwrite(xt->buffer + line, 1, part, xt->file) != part)
+			xt->failed = 1;
+	}
+	if (fseek(xt->file, at, SEEK_SET) || fwrite(xt->buffer, 1, line, xt->file) != line || fseek(xt->file, 0, SEEK_END))
+		xt->failed = 1;
+	xt->file_head += (long)line;
+	xt->bytes = 0;
+	return 1;
+#else
+	(void)xt;
+	return 0;
+#endif
+}
+
+/* The Command Ring and the Event Ring stand before all rows, whenever they are made */
+static inline void xt_early_ring(struct xt_state *xt, unsigned int id, const char *kind, unsigned int segments, const uint64_t *bases,
+				 const uint16_t *trbs)
+{
+	struct xt_hold *hold = xt->hold;
+	unsigned int line;
+
+	if (!xt->head_open)
+		xt_give_out(xt);
+	xt->hold = 0;
+	line = xt->bytes;
+	xt_ring_line(xt, id, kind, segments, bases, trbs);
+	xt->rings |= xt_is(kind, "cmd") ? 1 : 2;
+	if (xt->head_open) {
+		xt_line_to_head(xt, line);
+	} else if (!xt_line_among_rows(xt)) {
+		xt->bytes = 0;
+		xt_complain(xt, "the Command Ring or the Event Ring behind rows that are out: call xt_ring before them");
+	}
+	xt->hold = hold;
+}
+
+/* A Transfer Ring has its line where it is made */
+static inline void xt_make_ring(struct xt_state *xt, unsigned int id, const char *kind, unsigned int segments, const uint64_t *bases,
+				const uint16_t *trbs)
+{
+	int rows;
+
+	if (!xt->on)
+		return;
+	if (xt->bytes + 22 * segments + 16 >= XT_BUFFER - XT_PIECE)
+		xt_give_out(xt);
+	rows = !xt->head_open || xt->hold || xt->bytes > xt->head_bytes;
+	if (!xt_is(kind, "xfer"))
+		xt_early_ring(xt, id, kind, segments, bases, trbs);
+	else
+		xt_ring_line(xt, id, kind, segments, bases, trbs);
+	if (!rows)
+		xt->head_bytes = xt->bytes;
+	xt_row_is_whole(xt);
+}
+
+static inline void xt_head(struct xt_state *xt, unsigned int context_bytes)
+{
+	unsigned int i;
+
+	xt->on = 1;
+	xt->started = 0;
+	xt->rings = 0;
+	xt->head_open = 1;
+	xt->bytes = 0;
+	xt->hold = 0;
+	for (i = 0; i < 4; i++)
+		xt->wide[i].waits = 0;
+	xt_text(xt, context_bytes == 64 ? "xtrace 3\nctx 40\n" : "xtrace 3\nctx 20\n", 16);
+	xt->head_bytes = xt->bytes;
 }
 
 /* ---- the hooks ---- */
 
 #if XT_STDIO
-/* Begins a trace; rows stand in PATH.rows until xt_close, so that of a driver that dies `cat PATH PATH.rows` is left. 0, or -1 and errno */
-static inline int xt_open(const char *path, unsigned int context_bytes)
+/* Begins a trace. 0, or -1 and errno */
+static inline int xt_open(XT_FIRST const char *path, unsigned int context_bytes)
 {
-	int length = snprintf(xt_state.rows_path, sizeof(xt_state.rows_path), "%s.rows", path);
+	struct xt_state *state = XT_SELF;
 
-	if (length < 0 || (unsigned int)length >= sizeof(xt_state.rows_path))
+	state->file = fopen(path, "w+");
+	if (!state->file)
 		return -1;
-	xt_state.head = fopen(path, "w");
-	if (!xt_state.head)
-		return -1;
-	xt_state.rows = fopen(xt_state.rows_path, "w+");
-	if (!xt_state.rows) {
-		fclose(xt_state.head);
-		return -1;
-	}
-	setvbuf(xt_state.head, 0, _IOLBF, BUFSIZ);
-	setvbuf(xt_state.rows, 0, _IOLBF, BUFSIZ);
-	XT_LOCKED(xt_head(context_bytes));
+	setvbuf(state->file, 0, _IONBF, 0);
+	state->file_head = 0;
+	state->failed = 0;
+	XT_LOCKED_BY(state, xt_head(state, context_bytes));
 	return 0;
 }
 
-/* Ends the trace and puts its rows behind its rings. 0, or -1 where something could not be written */
-static inline int xt_close(void)
+/* Ends the trace. 0, or -1 where something could not be written */
+static inline int xt_close(XT_ALONE)
 {
-	int failed, byte;
+	struct xt_state *state = XT_SELF;
+	int failed;
 
-	XT_LOCKED(xt_state.on = 0;
-		  if (xt_state.trbs) { xt_state.lost = "the last TD isn't whole"; xt_let_go(); });
-	failed = ferror(xt_state.rows) || fflush(xt_state.rows) || fseek(xt_state.rows, 0, SEEK_SET);
-	while (!failed && (byte = getc(xt_state.rows)) != EOF)
-		putc(byte, xt_state.head);
-	failed |= ferror(xt_state.rows) || ferror(xt_state.head);
-	fclose(xt_state.rows);
-	failed |= fclose(xt_state.head);
-	if (!failed)
-		failed = remove(xt_state.rows_path);
+	XT_LOCKED_BY(state, state->on = 0;
+		     if (state->hold) { state->hold->lost = "the last TD isn't whole"; xt_let_go(state); } xt_give_out(state));
+	failed = state->failed;
+	failed |= fclose(state->file);
+	state->file = 0;
 	return failed ? -1 : 0;
 }
 #else
-static inline void xt_begin(unsigned int context_bytes)
+static inline void xt_begin(XT_FIRST unsigned int context_bytes)
 {
-	XT_LOCKED(xt_head(context_bytes));
+	XT_LOCKED_BY(XT_SELF, xt_head(XT_SELF, context_bytes));
 }
 #endif
 
-/* A ring of several segments, in their order; the Link TRB counts in trbs. kind: "cmd", "evt" or "xfer"; id is yours to choose */
-static inline void xt_ring_segments(unsigned int id, const char *kind, unsigned int segments, const uint64_t *bases, const uint16_t *trbs)
+/* Writes what was gathered; what is held back for a TD that isn't whole stays */
+static inline void xt_flush(XT_ALONE)
 {
-	XT_LOCKED(xt_ring_line(id, kind, segments, bases, trbs));
+	XT_LOCKED_BY(XT_SELF, xt_give_out(XT_SELF));
 }
 
-static inline void xt_ring(unsigned int id, const char *kind, uint64_t base, uint16_t trbs)
+/* The same where the driver has died, perhaps within a hook: no other may be called behind it */
+static inline void xt_flush_unlocked(XT_ALONE)
 {
-	xt_ring_segments(id, kind, 1, &base, &trbs);
+	xt_give_out(XT_SELF);
+}
+
+/*
+ * A ring of several segments, in their order; the Link TRB counts in trbs. kind: "cmd", "evt" or "xfer". id is yours to choose, once in a
+ * trace: a ring that is made where another one went has its own. A Transfer Ring comes behind the rows that clear its memory.
+ */
+static inline void xt_ring_segments(XT_FIRST unsigned int id, const char *kind, unsigned int segments, const uint64_t *bases,
+				    const uint16_t *trbs)
+{
+	XT_LOCKED_BY(XT_SELF, xt_make_ring(XT_SELF, id, kind, segments, bases, trbs));
+}
+
+/* A Transfer Ring goes: its memory is used for something else from now on. No endpoint has it, as the driver has read */
+static inline void xt_free(XT_FIRST unsigned int ring)
+{
+	XT_LOCKED_BY(XT_SELF, xt_free_row(XT_SELF, ring));
 }
 
 /*
  * What the TRBs of the next TD on this ring are to be: four words each, Link TRBs left out; the Cycle bits don't matter. Each stage of a
  * control transfer is a TD of its own, and so is each command. Take them from what is wanted, not from what was stored.
  */
-static inline void xt_submit(unsigned int ring, const uint32_t *words, unsigned int trbs)
+static inline void xt_submit(XT_FIRST unsigned int ring, const uint32_t *words, unsigned int trbs)
 {
-	XT_LOCKED(xt_submit_row(ring, words, trbs));
+	XT_LOCKED_BY(XT_SELF, xt_submit_row(XT_SELF, ring, words, trbs));
 }
 
 /*
  * The same, TRB by TRB, for a driver that never has the whole TD at hand: before each TRB's own stores. All rows are held back until the
  * TRB whose Chain bit is 0, and stand behind the sub row then. No other TD may be put on any ring meanwhile.
  */
-static inline void xt_submit_block(unsigned int ring, uint32_t word0, uint32_t word1, uint32_t word2, uint32_t word3)
+static inline void xt_submit_block(XT_FIRST unsigned int ring, uint32_t word0, uint32_t word1, uint32_t word2, uint32_t word3)
 {
-	XT_LOCKED(xt_block_row(ring, word0, word1, word2, word3));
+	static struct xt_hold holds[XT_CONTROLLERS];
+#if XT_CONTROLLERS > 1
+	struct xt_hold *hold = &holds[xt - xt_states];
+#else
+	struct xt_hold *hold = holds;
+#endif
+	uint32_t words[4];
+
+	words[0] = word0;
+	words[1] = word1;
+	words[2] = word2;
+	words[3] = word3;
+	XT_LOCKED_BY(XT_SELF, xt_block_row(XT_SELF, hold, ring, words));
 }
 
-static inline void xt_store32(volatile uint32_t *word, uint64_t bus, uint32_t value)
+/*
+ * A TD is cancelled: its TRBs become No Ops. The endpoint is stopped, as the driver has read; position is the number of TRBs that were
+ * submitted on the ring before the TD since the ring was made. Each TRB that was handed over is stored as a No Op before the endpoint goes on.
+ */
+static inline void xt_withdraw(XT_FIRST unsigned int ring, uint64_t position)
 {
-	XT_LOCKED(xt_store_row(bus, value); *word = xt_le32(value));
+	XT_LOCKED_BY(XT_SELF, xt_withdraw_row(XT_SELF, ring, position));
+}
+
+static inline void xt_store32(XT_FIRST volatile uint32_t *word, uint64_t bus, uint32_t value)
+{
+	XT_LOCKED_BY(XT_SELF, xt_store_row(XT_SELF, bus, value); *word = xt_le32(value));
 }
 
 /* One store of 64 bits, two rows, the low word first: the controller may see the halves one after the other */
-static inline void xt_store64(volatile uint64_t *pair, uint64_t bus, uint64_t value)
+static inline void xt_store64(XT_FIRST volatile uint64_t *pair, uint64_t bus, uint64_t value)
 {
-	XT_LOCKED(xt_store_row(bus, (uint32_t)value); xt_store_row(bus + 4, (uint32_t)(value >> 32)); *pair = xt_le64(value));
+	XT_LOCKED_BY(XT_SELF, xt_store_row(XT_SELF, bus, (uint32_t)value); xt_store_row(XT_SELF, bus + 4, (uint32_t)(value >> 32));
+		     *pair = xt_le64(value));
+}
+
+/* The rows alone of a memset to 0, and of a memcpy from bytes, of so many words: that is the driver's own, directly behind */
+static inline void xt_zero32(XT_FIRST uint64_t bus, unsigned int words)
+{
+	XT_LOCKED_BY(XT_SELF, xt_zero_rows(XT_SELF, bus, words));
+}
+
+static inline void xt_copy32(XT_FIRST uint64_t bus, const void *bytes, unsigned int words)
+{
+	XT_LOCKED_BY(XT_SELF, xt_copy_rows(XT_SELF, bus, (const unsigned char *)bytes, words));
 }
 
 /*
@@ -439,73 +733,137 @@ static inline void xt_store64(volatile uint64_t *pair, uint64_t bus, uint64_t va
  * xt_reg_half(name, high, value, store): a half of crcr, dcbaap, erstba or erdp, high 0 or 1. The two halves make one row, at the second.
  * xt_doorbell(slot, target, store): slot 0 and target 0 for the Command Ring, else the slot and the DCI.
  */
-#define xt_reg(name, value, ...) XT_LOCKED(xt_reg_row(name, value); __VA_ARGS__)
-#define xt_reg_half(name, high, value, ...) XT_LOCKED(xt_half_row(name, high, value); __VA_ARGS__)
-#define xt_doorbell(slot, target, ...) XT_LOCKED(xt_doorbell_row(slot, target); __VA_ARGS__)
+#define XT_REG(xt, name, value, ...) XT_LOCKED_BY(xt, xt_reg_row(xt, name, value); __VA_ARGS__)
+#define XT_REG_HALF(xt, name, high, value, ...) XT_LOCKED_BY(xt, xt_half_row(xt, name, high, value); __VA_ARGS__)
+#define XT_DOORBELL(xt, slot, target, ...) XT_LOCKED_BY(xt, xt_doorbell_row(xt, slot, target); __VA_ARGS__)
+#define XT_ONE (&xt_state)
 
-static inline void xt_event(uint32_t word0, uint32_t word1, uint32_t word2, uint32_t word3)
+static inline void xt_event(XT_FIRST uint32_t word0, uint32_t word1, uint32_t word2, uint32_t word3)
 {
-	XT_LOCKED(xt_event_row(word0, word1, word2, word3));
+	XT_LOCKED_BY(XT_SELF, xt_event_row(XT_SELF, word0, word1, word2, word3));
 }
 
 #else /* no trace: the stores alone */
 
-static inline int xt_open(const char *path, unsigned int context_bytes)
+struct xt_state {
+	char none;
+};
+
+#if XT_CONTROLLERS > 1
+extern struct xt_state xt_states[XT_CONTROLLERS];
+#ifdef XHCI_TRACE_HERE
+struct xt_state xt_states[XT_CONTROLLERS];
+#endif
+#define XT_UNUSED (void)xt
+#else
+#define XT_UNUSED (void)0
+#endif
+
+static inline int xt_open(XT_FIRST const char *path, unsigned int context_bytes)
 {
-	(void)path, (void)context_bytes;
+	XT_UNUSED, (void)path, (void)context_bytes;
 	return 0;
 }
 
-static inline int xt_close(void)
+static inline int xt_close(XT_ALONE)
 {
+	XT_UNUSED;
 	return 0;
 }
 
-static inline void xt_begin(unsigned int context_bytes)
+static inline void xt_begin(XT_FIRST unsigned int context_bytes)
 {
-	(void)context_bytes;
+	XT_UNUSED, (void)context_bytes;
 }
 
-static inline void xt_ring_segments(unsigned int id, const char *kind, unsigned int segments, const uint64_t *bases, const uint16_t *trbs)
+static inline void xt_flush(XT_ALONE)
 {
-	(void)id, (void)kind, (void)segments, (void)bases, (void)trbs;
+	XT_UNUSED;
 }
 
-static inline void xt_ring(unsigned int id, const char *kind, uint64_t base, uint16_t trbs)
+static inline void xt_flush_unlocked(XT_ALONE)
 {
-	(void)id, (void)kind, (void)base, (void)trbs;
+	XT_UNUSED;
 }
 
-static inline void xt_submit(unsigned int ring, const uint32_t *words, unsigned int trbs)
+static inline void xt_ring_segments(XT_FIRST unsigned int id, const char *kind, unsigned int segments, const uint64_t *bases,
+				    const uint16_t *trbs)
 {
-	(void)ring, (void)words, (void)trbs;
+	XT_UNUSED, (void)id, (void)kind, (void)segments, (void)bases, (void)trbs;
 }
 
-static inline void xt_submit_block(unsigned int ring, uint32_t word0, uint32_t word1, uint32_t word2, uint32_t word3)
+static inline void xt_free(XT_FIRST unsigned int ring)
 {
-	(void)ring, (void)word0, (void)word1, (void)word2, (void)word3;
+	XT_UNUSED, (void)ring;
 }
 
-static inline void xt_store32(volatile uint32_t *word, uint64_t bus, uint32_t value)
+static inline void xt_submit(XT_FIRST unsigned int ring, const uint32_t *words, unsigned int trbs)
 {
-	(void)bus;
+	XT_UNUSED, (void)ring, (void)words, (void)trbs;
+}
+
+static inline void xt_submit_block(XT_FIRST unsigned int ring, uint32_t word0, uint32_t word1, uint32_t word2, uint32_t word3)
+{
+	XT_UNUSED, (void)ring, (void)word0, (void)word1, (void)word2, (void)word3;
+}
+
+static inline void xt_withdraw(XT_FIRST unsigned int ring, uint64_t position)
+{
+	XT_UNUSED, (void)ring, (void)position;
+}
+
+static inline void xt_store32(XT_FIRST volatile uint32_t *word, uint64_t bus, uint32_t value)
+{
+	XT_UNUSED, (void)bus;
 	*word = xt_le32(value);
 }
 
-static inline void xt_store64(volatile uint64_t *pair, uint64_t bus, uint64_t value)
+static inline void xt_store64(XT_FIRST volatile uint64_t *pair, uint64_t bus, uint64_t value)
 {
-	(void)bus;
+	XT_UNUSED, (void)bus;
 	*pair = xt_le64(value);
 }
 
-static inline void xt_event(uint32_t word0, uint32_t word1, uint32_t word2, uint32_t word3)
+static inline void xt_zero32(XT_FIRST uint64_t bus, unsigned int words)
 {
-	(void)word0, (void)word1, (void)word2, (void)word3;
+	XT_UNUSED, (void)bus, (void)words;
 }
 
-#define xt_reg(name, value, ...) do { (void)(name); (void)(value); __VA_ARGS__; } while (0)
-#define xt_reg_half(name, high, value, ...) do { (void)(name); (void)(high); (void)(value); __VA_ARGS__; } while (0)
-#define xt_doorbell(slot, target, ...) do { (void)(slot); (void)(target); __VA_ARGS__; } while (0)
+static inline void xt_copy32(XT_FIRST uint64_t bus, const void *bytes, unsigned int words)
+{
+	XT_UNUSED, (void)bus, (void)bytes, (void)words;
+}
+
+static inline void xt_event(XT_FIRST uint32_t word0, uint32_t word1, uint32_t word2, uint32_t word3)
+{
+	XT_UNUSED, (void)word0, (void)word1, (void)word2, (void)word3;
+}
+
+#define XT_ONE 0
+#define XT_REG(xt, name, value, ...) do { (void)(xt); (void)(name); (void)(value); __VA_ARGS__; } while (0)
+#define XT_REG_HALF(xt, name, high, value, ...) do { (void)(xt); (void)(name); (void)(high); (void)(value); __VA_ARGS__; } while (0)
+#define XT_DOORBELL(xt, slot, target, ...) do { (void)(xt); (void)(slot); (void)(target); __VA_ARGS__; } while (0)
 
 #endif
+
+/* A ring of one segment */
+static inline void xt_ring(XT_FIRST unsigned int id, const char *kind, uint64_t base, uint16_t trbs)
+{
+#if XT_CONTROLLERS > 1
+	xt_ring_segments(xt, id, kind, 1, &base, &trbs);
+#else
+	xt_ring_segments(id, kind, 1, &base, &trbs);
+#endif
+}
+
+#if XT_CONTROLLERS > 1
+#define xt_reg(xt, name, value, ...) XT_REG(xt, name, value, __VA_ARGS__)
+#define xt_reg_half(xt, name, high, value, ...) XT_REG_HALF(xt, name, high, value, __VA_ARGS__)
+#define xt_doorbell(xt, slot, target, ...) XT_DOORBELL(xt, slot, target, __VA_ARGS__)
+#else
+#define xt_reg(name, value, ...) XT_REG(XT_ONE, name, value, __VA_ARGS__)
+#define xt_reg_half(name, high, value, ...) XT_REG_HALF(XT_ONE, name, high, value, __VA_ARGS__)
+#define xt_doorbell(slot, target, ...) XT_DOORBELL(XT_ONE, slot, target, __VA_ARGS__)
+#endif
+
 #endif

@@ -1,7 +1,7 @@
 /* SPDX-License-Identifier: MIT */
 /*
  * The hooks that toy_driver.c calls, written by hand with stdio for one thread: what xhci_trace.h does, and a start for hooks of your own.
- * All rows are kept in memory; a sub row that is known late is put in where its TD began.
+ * All rows of a controller are kept in memory; a sub row that is known late is put in where its TD began.
  */
 #ifndef OWN_HOOKS_H
 #define OWN_HOOKS_H
@@ -10,7 +10,7 @@
 #include <stdio.h>
 #include <string.h>
 
-static struct {
+static struct xt_state {
 	FILE *file;
 	char rows[1 << 20];
 	size_t length;
@@ -19,104 +19,121 @@ static struct {
 	size_t sub_length;
 	int stopped, running;
 	uint32_t low;		/* of a register whose low half was written */
-} hooks;
+} xt_states[XT_CONTROLLERS];
 
-#define row(...) \
+#define row(xt, ...) \
 	do { \
-		if (!hooks.stopped) \
-			hooks.length += (size_t)snprintf(hooks.rows + hooks.length, sizeof(hooks.rows) - hooks.length, __VA_ARGS__); \
+		if (!(xt)->stopped) \
+			(xt)->length += (size_t)snprintf((xt)->rows + (xt)->length, sizeof((xt)->rows) - (xt)->length, __VA_ARGS__); \
 	} while (0)
 
-static int xt_open(const char *path, unsigned int context_bytes)
+static int xt_open(struct xt_state *xt, const char *path, unsigned int context_bytes)
 {
-	hooks.file = fopen(path, "w");
-	if (!hooks.file)
+	xt->file = fopen(path, "w");
+	if (!xt->file)
 		return -1;
-	fprintf(hooks.file, "xtrace 1\nctx %02x\n", context_bytes);
+	row(xt, "xtrace 3\nctx %02x\n", context_bytes);
 	return 0;
 }
 
-static int xt_close(void)
+static int xt_close(struct xt_state *xt)
 {
-	fwrite(hooks.rows, 1, hooks.length, hooks.file);
-	return fclose(hooks.file);
+	fwrite(xt->rows, 1, xt->length, xt->file);
+	return fclose(xt->file);
 }
 
-static void xt_ring_segments(unsigned int id, const char *kind, unsigned int segments, const uint64_t *bases, const uint16_t *trbs)
+static void xt_ring_segments(struct xt_state *xt, unsigned int id, const char *kind, unsigned int segments, const uint64_t *bases,
+			     const uint16_t *trbs)
 {
 	unsigned int i;
 
-	fprintf(hooks.file, "ring %02x %s", id, kind);
+	row(xt, "ring %02x %s", id, kind);
 	for (i = 0; i < segments; i++)
-		fprintf(hooks.file, " %016" PRIx64 ":%04x", bases[i], trbs[i]);
-	fprintf(hooks.file, "\n");
+		row(xt, " %016" PRIx64 ":%04x", bases[i], trbs[i]);
+	row(xt, "\n");
 }
 
-static void xt_ring(unsigned int id, const char *kind, uint64_t base, uint16_t trbs)
-{
-	xt_ring_segments(id, kind, 1, &base, &trbs);
-}
+#define xt_free(xt, id) row(xt, "free %02x\n", id)
+#define xt_withdraw(xt, id, position) row(xt, "nop %02x %016" PRIx64 "\n", id, position)
 
-static void xt_submit(unsigned int ring, const uint32_t *words, unsigned int trbs)
+static void xt_submit(struct xt_state *xt, unsigned int ring, const uint32_t *words, unsigned int trbs)
 {
 	unsigned int i;
 
-	row("sub %02x", ring);
+	row(xt, "sub %02x", ring);
 	for (i = 0; i < trbs; i++, words += 4)
-		row(" %08x %08x %08x %08x", words[0], words[1], words[2], words[3] & ~1u);
-	row("\n");
+		row(xt, " %08x %08x %08x %08x", words[0], words[1], words[2], words[3] & ~1u);
+	row(xt, "\n");
 }
 
-static void xt_submit_block(unsigned int ring, uint32_t word0, uint32_t word1, uint32_t word2, uint32_t word3)
+static void xt_submit_block(struct xt_state *xt, unsigned int ring, uint32_t word0, uint32_t word1, uint32_t word2, uint32_t word3)
 {
-	if (!hooks.sub_length) {
-		hooks.td = hooks.length;
-		hooks.sub_length = (size_t)sprintf(hooks.sub, "sub %02x", ring);
+	if (!xt->sub_length) {
+		xt->td = xt->length;
+		xt->sub_length = (size_t)sprintf(xt->sub, "sub %02x", ring);
 	}
-	hooks.sub_length += (size_t)sprintf(hooks.sub + hooks.sub_length, " %08x %08x %08x %08x", word0, word1, word2, word3 & ~1u);
+	xt->sub_length += (size_t)sprintf(xt->sub + xt->sub_length, " %08x %08x %08x %08x", word0, word1, word2, word3 & ~1u);
 	if (word3 & 0x10)
 		return;
-	hooks.sub[hooks.sub_length++] = '\n';
-	memmove(hooks.rows + hooks.td + hooks.sub_length, hooks.rows + hooks.td, hooks.length - hooks.td);
-	memcpy(hooks.rows + hooks.td, hooks.sub, hooks.sub_length);
-	hooks.length += hooks.sub_length;
-	hooks.sub_length = 0;
+	xt->sub[xt->sub_length++] = '\n';
+	memmove(xt->rows + xt->td + xt->sub_length, xt->rows + xt->td, xt->length - xt->td);
+	memcpy(xt->rows + xt->td, xt->sub, xt->sub_length);
+	xt->length += xt->sub_length;
+	xt->sub_length = 0;
 }
 
-static void xt_store32(volatile uint32_t *word, uint64_t bus, uint32_t value)
+static void xt_store32(struct xt_state *xt, volatile uint32_t *word, uint64_t bus, uint32_t value)
 {
-	row("w %016" PRIx64 " %08x\n", bus, value);
+	row(xt, "w %016" PRIx64 " %08x\n", bus, value);
 	*word = le32(value);
 }
 
-static void xt_store64(volatile uint64_t *pair, uint64_t bus, uint64_t value)
+static void xt_store64(struct xt_state *xt, volatile uint64_t *pair, uint64_t bus, uint64_t value)
 {
 	volatile uint32_t *word = (volatile uint32_t *)pair;
 
-	xt_store32(word, bus, (uint32_t)value);
-	xt_store32(word + 1, bus + 4, (uint32_t)(value >> 32));
+	xt_store32(xt, word, bus, (uint32_t)value);
+	xt_store32(xt, word + 1, bus + 4, (uint32_t)(value >> 32));
 }
 
-static void register_row(const char *name, uint64_t value)
+/* The memset or memcpy itself is the driver's, behind these rows */
+static void xt_zero32(struct xt_state *xt, uint64_t bus, unsigned int words)
 {
-	row("reg %s %016" PRIx64 "\n", name, value);
-	if (!strcmp(name, "usbcmd")) {
-		hooks.stopped = hooks.running && !(value & 1);
-		hooks.running = value & 1;
+	for (; words; words--, bus += 4)
+		row(xt, "w %016" PRIx64 " %08x\n", bus, 0u);
+}
+
+static void xt_copy32(struct xt_state *xt, uint64_t bus, const void *bytes, unsigned int words)
+{
+	uint32_t word;
+	unsigned int i;
+
+	for (i = 0; i < words; i++) {
+		memcpy(&word, (const char *)bytes + 4 * i, 4);
+		row(xt, "w %016" PRIx64 " %08x\n", bus + 4 * i, le32(word));
 	}
 }
 
-static void half_row(const char *name, unsigned int high, uint32_t value)
+static void register_row(struct xt_state *xt, const char *name, uint64_t value)
 {
-	if (high)
-		register_row(name, (uint64_t)value << 32 | hooks.low);
-	else
-		hooks.low = value;
+	row(xt, "reg %s %016" PRIx64 "\n", name, value);
+	if (!strcmp(name, "usbcmd")) {
+		xt->stopped = xt->running && !(value & 1);
+		xt->running = value & 1;
+	}
 }
 
-#define xt_reg(name, value, store) do { register_row(name, value); store; } while (0)
-#define xt_reg_half(name, high, value, store) do { half_row(name, high, value); store; } while (0)
-#define xt_doorbell(slot, target, store) do { row("db %02x %02x\n", slot, target); store; } while (0)
-#define xt_event(word0, word1, word2, word3) row("ev %08x %08x %08x %08x\n", word0, word1, word2, word3)
+static void half_row(struct xt_state *xt, const char *name, unsigned int high, uint32_t value)
+{
+	if (high)
+		register_row(xt, name, (uint64_t)value << 32 | xt->low);
+	else
+		xt->low = value;
+}
+
+#define xt_reg(xt, name, value, store) do { register_row(xt, name, value); store; } while (0)
+#define xt_reg_half(xt, name, high, value, store) do { half_row(xt, name, high, value); store; } while (0)
+#define xt_doorbell(xt, slot, target, store) do { row(xt, "db %02x %02x\n", slot, target); store; } while (0)
+#define xt_event(xt, word0, word1, word2, word3) row(xt, "ev %08x %08x %08x %08x\n", word0, word1, word2, word3)
 
 #endif

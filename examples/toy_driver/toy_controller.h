@@ -1,5 +1,5 @@
 /* SPDX-License-Identifier: MIT */
-/* A machine of 1 MB of memory with a toy xHCI controller, in the driver's own process */
+/* Toy xHCI controllers, in the driver's own process. Each sees 1 MB of memory of its own, as behind an IOMMU */
 #ifndef TOY_CONTROLLER_H
 #define TOY_CONTROLLER_H
 
@@ -21,8 +21,6 @@ union toy_memory {
 	volatile uint64_t pair[MEMORY_BYTES / 8];
 };
 
-extern union toy_memory memory;
-
 static inline uint32_t le32(uint32_t value)
 {
 	if (!XT_BIG_ENDIAN)
@@ -30,10 +28,22 @@ static inline uint32_t le32(uint32_t value)
 	return value << 24 | (value & 0xff00) << 8 | (value >> 8 & 0xff00) | value >> 24;
 }
 
-enum hc_register { HC_USBCMD, HC_CONFIG, HC_CRCR, HC_DCBAAP, HC_ERSTSZ, HC_ERSTBA, HC_ERDP };
+enum hc_register { HC_USBCMD, HC_CONFIG, HC_CRCR, HC_DCBAAP, HC_ERSTSZ, HC_ERSTBA, HC_ERDP, HC_REGISTERS };
 
-void hc_write(enum hc_register reg, uint64_t value);
-void hc_write_half(enum hc_register reg, unsigned int high, uint32_t value);
-void hc_doorbell(unsigned int slot, unsigned int target);
+struct dequeue {
+	uint64_t trb;
+	uint32_t cycle;
+};
+
+struct toy {
+	union toy_memory memory;
+	struct dequeue commands, endpoints[32];
+	uint64_t registers[HC_REGISTERS];
+	unsigned int posted;
+};
+
+void hc_write(struct toy *hc, enum hc_register reg, uint64_t value);
+void hc_write_half(struct toy *hc, enum hc_register reg, unsigned int high, uint32_t value);
+void hc_doorbell(struct toy *hc, unsigned int slot, unsigned int target);
 
 #endif

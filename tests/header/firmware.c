@@ -25,6 +25,7 @@ int firmware_main(int how);
 int firmware_main(int how)
 {
 	static const uint32_t td[2][4] = { { 1, 2, 3, 0x411 }, { 4, 5, 6, 0x421 } };
+	static const unsigned char bytes[8] = { 0x44, 0x33, 0x22, 0x11, 0x88, 0x77, 0x66, 0x55 };
 	unsigned int i, before;
 
 	xt_begin(32);
@@ -51,6 +52,11 @@ int firmware_main(int how)
 		xt_reg_half("erdp", 0, 2, firmware_register = 8);
 	}
 	xt_event(0x30000, 0, 0x01000000, 0x01018001);
+	xt_withdraw(2, 0x123456789u);
+	xt_zero32(0x30020, 2);
+	xt_copy32(0x30028, bytes, 2);
+	xt_free(2);
+	xt_ring(3, "xfer", 0x30000, 4);
 	xt_reg("usbcmd", 2, firmware_register = 9);
 	xt_reg("usbcmd", 1, before = length);
 	if (before != length) /* the row is there before the store */
@@ -59,6 +65,8 @@ int firmware_main(int how)
 	xt_reg("usbcmd", 4, firmware_register = 12);
 	xt_doorbell(0, 0, firmware_register = 13);
 	xt_ring(4, "xfer", 0x50000, 4);
+	xt_free(3);
+	xt_flush();
 	firmware_log[length] = 0;
 	return depth == 0 ? locked : -1;
 }

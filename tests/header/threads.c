@@ -55,6 +55,7 @@ int main(void)
 		pthread_create(&threads[i], 0, store_all, (void *)(i + 1));
 	for (i = 0; i < THREADS; i++)
 		pthread_join(threads[i], 0);
+	xt_flush();
 	fputs(trace, stdout);
 	for (i = 0; i < WORDS; i++)
 		printf("%016x %08x\n", 0x1000 + 4 * (unsigned int)i, memory.word[i]);
