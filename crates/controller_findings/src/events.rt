@@ -657,20 +657,7 @@ fn note_stale(
         return Ok(());
     };
     match last_write(case.before, ring.shape.address(position) | 12) {
-        Some(wrote) if wrote > td.row => {
-            let line = line_of(case.first, td.row);
-            let note = format!(in case.alloc; "it was submitted at row {line}")?;
-            finding.note(note)?;
-            finding.mark(
-                case.alloc,
-                Some(wrote),
-                "its control word, with the Cycle bit of another lap",
-            )?;
-            finding.help(
-                case.alloc,
-                "flip the Producer Cycle State where you pass the Link TRB with Toggle Cycle (xHCI 4.9.2)",
-            )
-        }
+        Some(wrote) if wrote > td.row => note_other_lap(case, finding, td.row, wrote),
         _ => {
             finding.mark(
                 case.alloc,
@@ -683,4 +670,25 @@ fn note_stale(
             note_breach(case, finding)
         }
     }
+}
+
+/// Notes that the control word of a TRB, which a row submitted, was written with the Cycle bit of another lap.
+fn note_other_lap(
+    case: &Case,
+    finding: &mut Finding,
+    row: usize,
+    wrote: usize,
+) -> Result<(), AllocError> {
+    let line = line_of(case.first, row);
+    let note = format!(in case.alloc; "it was submitted at row {line}")?;
+    finding.note(note)?;
+    finding.mark(
+        case.alloc,
+        Some(wrote),
+        "its control word, with the Cycle bit of another lap",
+    )?;
+    finding.help(
+        case.alloc,
+        "flip the Producer Cycle State where you pass the Link TRB with Toggle Cycle (xHCI 4.9.2)",
+    )
 }
