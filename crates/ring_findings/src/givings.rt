@@ -297,7 +297,7 @@ pub fn link_fault(case: &Case, address: u64, word: u32) -> Result<Finding, Alloc
         if let Some(Place::Link { segment, .. }) = ring.shape.place_at(address) {
             let link = trb_at(case, address, word);
             note_link(case, &mut finding, ring, segment, link)?;
-            note_left_out(case, &mut finding, ring, address, word)?;
+            note_left_out(case, &mut finding, ring, segment, address, word)?;
         }
     }
     Ok(finding)
@@ -309,6 +309,7 @@ fn note_left_out(
     case: &Case,
     finding: &mut Finding,
     ring: &Ring,
+    segment: u32,
     address: u64,
     word: u32,
 ) -> Result<(), AllocError> {
@@ -317,9 +318,7 @@ fn note_left_out(
     };
     let (Some(td), Some(part)) = (
         submission(case, ring.id, position),
-        ring.shape.segments().iter().find(|part| address
-            .checked_sub(part.base)
-            .is_some_and(|from| from < 16 * u64::from(part.count))),
+        ring.shape.segments().get(segment as usize),
     ) else {
         return Ok(());
     };
