@@ -153,8 +153,15 @@ def bar_markup(bar, layout, rows, refused):
     until = 'on' if lease.is_open else f'to row {lease.end}'
     told = (f'<rect class="{kind}" data-lease="{lease.kind} {lease.ring} {lease.position} {lease.begin} {lease.end}" x="{x - half:g}" y="{begin}" '
             f'width="{2 * half:g}" height="{max(last - begin, 3)}" rx="{0 if kind == "link" else 3}">'
-            f'<title>{escape(bar.place.label)}: the controller\u2019s from row {lease.begin} {until}</title></rect>')
+            f'<title>{escape(leased_text(bar))}: the controller\u2019s from row {lease.begin} {until}</title></rect>')
     return told + (f'<path class="beyond" d="M{x:g} {last}V{end}"/>' if last < end else '')
+
+
+def leased_text(bar):
+    """What a bar is of: a TRB by its position, which counts it among all of its ring, and where it lies."""
+    if bar.place.kind == TRB:
+        return f'TRB {bar.lease.position} of {bar.place.group}, at {bar.place.start:x}'
+    return bar.place.label
 
 
 def mark_markup(shape, x, y, is_bad=False):

@@ -101,12 +101,17 @@ def note_text(rows):
 
 
 def labels_of(columns):
-    """The columns' labels; two that have one label in a group get the ends of their addresses."""
+    """The columns' labels: of a TRB the end of its address, of two others that have one label in a group that besides."""
     seen = {}
     for place in columns:
         seen.setdefault((place.group, place.label), []).append(place)
-    return {place: place.label + (f' {end_of(place.start)}' if len(places) > 1 and place.kind not in (TRB, LINK_TRB) else '')
-            for places in seen.values() for place in places}
+    return {place: label_of(place, len(places) > 1) for places in seen.values() for place in places}
+
+
+def label_of(place, is_shared):
+    if place.kind == TRB:
+        return end_of(place.start)
+    return f'{place.label} {end_of(place.start)}' if is_shared and place.kind != LINK_TRB else place.label
 
 
 def end_of(address):

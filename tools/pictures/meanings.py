@@ -76,7 +76,7 @@ def word_text(place, offset, value, context_bytes):
     if place.kind == DEVICE_CONTEXT:
         return f'Device Context: {standard.context_word(offset, context_bytes, value)}'
     if place.kind == EVENT_RING:
-        return f'Event Ring, TRB {offset // 16}, word {offset % 16 // 4}'
+        return f'Event Ring, TRB at {place.start + offset // 16 * 16:x}, word {offset % 16 // 4}'
     if place.kind in (ERST, DCBAA_ENTRY):
         return f'{place.label}, word {offset // 4}'
     return trb_word_text(place, offset // 4, value)

@@ -29,7 +29,7 @@ def trb_place(ring, segment, address):
     start = segment.base + 16 * number
     if ring.is_link(segment, address):
         return Place(LINK_TRB, ring.name, index, start, 16, 'Link')
-    return Place(TRB, ring.name, index, start, 16, f'TRB {segment.first + number}')
+    return Place(TRB, ring.name, index, start, 16, f'TRB at {start:x}')
 
 
 class MemoryMap:
@@ -95,6 +95,6 @@ class MemoryMap:
         return None
 
     def trb_text(self, address):
-        """A TRB by its ring and its number, for example as an event names it."""
+        """A TRB by its ring and its address, for example as an event names it."""
         ring, segment = self.trace.segment_at(address)
         return f'{trb_place(ring, segment, address).label} of {ring.name}' if ring else f'{address:x}'

@@ -208,10 +208,45 @@ fn note_type(
                 case.alloc,
                 "write EP Type, bits 5:3 of word 1 of the Endpoint Context; 4 is Control",
             )?;
+            note_other_size(case, finding, context, endpoint)?;
             Ok(true)
         }
         None => Ok(false),
     }
+}
+
+/// Asks whether contexts have the other size, where an Endpoint Context makes sense that is read so: its EP Type is one, and a ring begins
+/// where its TR Dequeue Pointer leads.
+fn note_other_size(
+    case: &Case,
+    finding: &mut Finding,
+    context: u64,
+    endpoint: u8,
+) -> Result<(), AllocError> {
+    let size = case.header.context_size.bytes();
+    let other = if size == 32 { 64 } else { 32 };
+    let from = context.saturating_add((u64::from(endpoint) + 1).saturating_mul(other));
+    let kind = case.known.word(from.saturating_add(4)) >> 3 & 7;
+    let low = u64::from(case.known.word(from.saturating_add(8)) & !15);
+    let pointer = low | u64::from(case.known.word(from.saturating_add(12))) << 32;
+    if kind == 0 || !begins_ring(case, pointer) {
+        return Ok(());
+    }
+    let note = format!(in case.alloc;
+        "read with contexts of {other} bytes, DCI {endpoint} has EP Type {kind}, and a ring begins at its TR Dequeue Pointer, {pointer:016x}"
+    )?;
+    finding.note(note)?;
+    let csz = u8::from(other == 64);
+    let help = format!(in case.alloc;
+        "does `ctx {size:x}` in the trace's line 2 have to be `ctx {other:x}`? It is that where CSZ, bit 2 of HCCPARAMS1, is {csz} (xHCI 5.3.6)"
+    )?;
+    finding.help(case.alloc, help.as_str())
+}
+
+/// Whether a ring begins at an address.
+fn begins_ring(case: &Case, address: u64) -> bool {
+    let rings = case.header.rings.as_slice();
+    rings.iter().any(|ring| ring.shape.address(0) == address)
 }
 
 /// Notes that Configure Endpoint adds an endpoint without a type, or one that is enabled and not dropped. Whether it is so.

@@ -43,8 +43,37 @@ pub fn bad_doorbell(case: &Case, slot: u8, target: u8) -> Result<Finding, AllocE
         && note_dropped(case, &mut finding, slot, target)?;
     if !is_told {
         finding.say(case.alloc, bell_note(cause))?;
+        let is_alone = finding.earlier.is_none();
+        if is_alone && matches!(cause, NoBell::Disabled | NoBell::NoEndpoint) {
+            note_running(case, &mut finding, slot)?;
+        }
     }
     Ok(finding)
+}
+
+/// Notes which endpoints of a slot may have their doorbell rung, with their rings: one of them may be meant.
+fn note_running(case: &Case, finding: &mut Finding, slot: u8) -> Result<(), AllocError> {
+    let mut text = String::new(case.alloc);
+    for endpoint in 1..32u8 {
+        let state = case.known.devices.endpoint_state(slot, endpoint);
+        if let (EndpointState::Running | EndpointState::Stopped, Some(id)) = (
+            state,
+            case.known.devices.ring_of(slot, endpoint),
+        ) {
+            let name = endpoint_state_name(state);
+            let before = if text.is_empty() { "" } else { "; " };
+            let named = format!(in case.alloc;
+                "{before}DCI {endpoint} with ring {id:02x}, {name}"
+            )?;
+            text.push_str(named.as_str())?;
+        }
+    }
+    let note = if text.is_empty() {
+        format!(in case.alloc; "no endpoint of slot {slot} is Running or Stopped")?
+    } else {
+        format!(in case.alloc; "endpoints of slot {slot}: {text}")?
+    };
+    finding.note(note)
 }
 
 /// Points at the row by which a doorbell may not ring.
@@ -185,10 +214,9 @@ fn busy_ring(case: &Case, at: Addr, word: u32) -> Result<Option<Finding>, AllocE
         return Ok(None);
     };
     let here = match giving {
-        RingGiving::Position(position) => {
-            let place = position % u64::from(ring.shape.places());
-            format!(in case.alloc; "TRB {place} of ring {id:02x}")?
-        }
+        RingGiving::Position(position) => format!(in case.alloc;
+            "TRB {position} of ring {id:02x}"
+        )?,
         RingGiving::Crossing(_) => format!(in case.alloc; "a Link TRB of ring {id:02x}")?,
     };
     let given = busy_with(case, ring)?;
@@ -203,14 +231,12 @@ fn busy_ring(case: &Case, at: Addr, word: u32) -> Result<Option<Finding>, AllocE
         finding.earlier = given.mark(case)?;
     }
     finding.say(case.alloc, "its Command Completion Event wasn't read yet")?;
-    if is_moved {
-        finding.say(case.alloc, NOT_JUDGED)?;
+    let why = if is_moved {
+        "the controller may take the TRB before it moves the ring, and again behind that"
     } else {
-        finding.say(
-            case.alloc,
-            "the ring runs still, for the endpoint that had it: the controller may take the TRB for that endpoint, and again for the other",
-        )?;
-    }
+        "the ring runs still, for the endpoint that had it: the controller may take the TRB for that endpoint, and again for the other"
+    };
+    finding.say(case.alloc, why)?;
     finding.help(case.alloc, "wait for it, and hand the TRB over then")?;
     Ok(Some(finding))
 }

@@ -1,6 +1,6 @@
 //! What xHCI allows and the profile leaves out.
 use commands::Command;
-use row_history::{Case, Finding, NOT_JUDGED, command_at, last_write, trb_at, type_name};
+use row_history::{Case, Finding, NOT_JUDGED, Ordinal, command_at, last_write, trb_at, type_name};
 use std::alloc::{AllocError, Global};
 use traces::{Row, Version};
 use trb::{Block, BlockFlags, BlockKind, Flags};
@@ -95,12 +95,12 @@ fn note_endpoint(
     Ok(())
 }
 
-/// Which of some TRBs is left out, and why. They count from 1.
+/// Which of some TRBs is left out, and why.
 pub fn left_out_among(alloc: Global, blocks: &[Block]) -> Result<String, AllocError> {
     let Some(index) = blocks.iter().position(|block| is_left_out(*block)) else {
         return String::from_str(alloc, "one of the TRBs");
     };
-    let number = index.saturating_add(1);
+    let number = Ordinal((index as u64).saturating_add(1));
     let block = match blocks.get(index) {
         Some(block) => *block,
         None => return String::from_str(alloc, "one of the TRBs"),
@@ -109,26 +109,26 @@ pub fn left_out_among(alloc: Global, blocks: &[Block]) -> Result<String, AllocEr
     let target = block.w[2] >> 22;
     if kind.is_left_out_transfer() {
         let name = type_name(kind);
-        return format!(in alloc; "TRB {number} is of type {name}, which isn't judged");
+        return format!(in alloc; "the {number} TRB is of type {name}, which isn't judged");
     }
     if kind.is_transfer() {
         return format!(in alloc;
-            "TRB {number}: its Interrupter Target is {target}, and only 0 is judged"
+            "the {number} TRB: its Interrupter Target is {target}, and only 0 is judged"
         );
     }
     let code = kind.number();
     match kind {
         BlockKind::SetTrDequeue => {
             format!(in alloc;
-                "TRB {number}: Set TR Dequeue Pointer of a stream (Stream Context Type above 0)"
+                "the {number} TRB: Set TR Dequeue Pointer of a stream (Stream Context Type above 0)"
             )
         }
         BlockKind::ResetEndpoint => {
             format!(in alloc;
-                "TRB {number}: Reset Endpoint that preserves the transfer state (TSP 1)"
+                "the {number} TRB: Reset Endpoint that preserves the transfer state (TSP 1)"
             )
         }
-        _ => { format!(in alloc; "TRB {number}: a command of type {code}, which isn't judged") }
+        _ => { format!(in alloc; "the {number} TRB: a command of type {code}, which isn't judged") }
     }
 }
 

@@ -1,7 +1,7 @@
 //! Writes of registers.
 use row_history::{
-    Beside, Case, Finding, NOT_JUDGED, clash, given_back, last_read, last_register, line_of, reads,
-    register_name, register_value, ring_of_kind, start, stop,
+    Beside, Case, Finding, NOT_JUDGED, begun_with_0, clash, given_back, last_read, last_register,
+    line_of, reads, register_name, register_value, ring_of_kind, start, stop,
 };
 use segments::{Place, RingShape};
 use std::alloc::AllocError;
@@ -189,7 +189,7 @@ fn note_crcr(case: &Case, finding: &mut Finding, value: u64) -> Result<(), Alloc
                     "Ring Cycle State (bit 0) is 0, and must be 1: the rings of a trace begin with Cycle bit 1",
                 )?;
                 if found == base {
-                    finding.say(case.alloc, NOT_JUDGED)?;
+                    finding.say(case.alloc, begun_with_0(case, ring))?;
                 }
             }
             let high = base | 1;

@@ -3,8 +3,9 @@ use commands::{Command, EndpointState};
 use ring_knowledge::RingRecord;
 use row_history::{
     Case, Finding, code_name, command_name, endpoint_state_name, given_back, is_handed_over,
-    last_event, last_halt, last_register, last_write, line_of, note_dropped, reads, register_value,
-    ring_known, ring_of_kind, slot_state_name, start, submission, type_name,
+    last_event, last_halt, last_register, last_write, line_of, note_dropped, position_at, reads,
+    register_value, ring_known, ring_of_kind, slot_state_name, start, submission, trb_named,
+    type_name,
 };
 use segments::Place;
 use std::alloc::AllocError;
@@ -156,9 +157,24 @@ fn note_other_command(
     )?;
     finding.note(note)?;
     match last_event(case.before, BlockKind::CommandCompletion, found) {
-        Some(row) => finding.mark(case.alloc, Some(row), "the last completion that named it"),
+        Some(row) => {
+            finding.mark(case.alloc, Some(row), "the last completion that named it")?;
+            note_breach(case, finding)
+        }
         None => Ok(()),
     }
+}
+
+/// Notes that a controller may have posted what the standard doesn't let it post, so that neither the trace nor the driver need be wrong.
+fn note_breach(case: &Case, finding: &mut Finding) -> Result<(), AllocError> {
+    finding.say(
+        case.alloc,
+        "no controller of the model posts this: a row is missing, or the controller breaks the standard, as some are known to do here",
+    )?;
+    finding.help(
+        case.alloc,
+        "look for a missing row first; where none is, the driver has to let such an event pass, and this run isn't judged from here on",
+    )
 }
 
 /// Notes that a Link TRB isn't handed over, and points at the last write of its control word. `next` is the position behind it.
@@ -258,6 +274,11 @@ fn note_state(
             let endpoint_state = endpoint_state_name(
                 case.known.devices.endpoint_state(slot, endpoint),
             );
+            if is_stop_of(command, slot, endpoint)
+                && case.known.devices.endpoint_state(slot, endpoint) == EndpointState::Stopped
+            {
+                return note_stopped_again(case, finding, slot, endpoint);
+            }
             format!(in case.alloc;
                 "{name} can't succeed where slot {slot} is {state} and DCI {endpoint} {endpoint_state} (xHCI 4.5.3, 4.8.3)"
             )?
@@ -269,6 +290,28 @@ fn note_state(
         }
     };
     finding.note(note)
+}
+
+/// Notes that a Stop Endpoint succeeded whose endpoint was Stopped before.
+fn note_stopped_again(
+    case: &Case,
+    finding: &mut Finding,
+    slot: u8,
+    endpoint: u8,
+) -> Result<(), AllocError> {
+    let note = match case.known.stopped_by(slot, endpoint) {
+        Some(row) => {
+            let line = line_of(case.first, row);
+            format!(in case.alloc;
+                "slot {slot}, DCI {endpoint} is Stopped since row {line}, with no doorbell behind it: a second Stop Endpoint ends with Context State Error (xHCI 4.6.9)"
+            )?
+        }
+        None => format!(in case.alloc;
+            "slot {slot}, DCI {endpoint} is Stopped already: Stop Endpoint ends with Context State Error there (xHCI 4.6.9)"
+        )?,
+    };
+    finding.note(note)?;
+    note_breach(case, finding)
 }
 
 /// The flag of a command on which its success depends.
@@ -311,7 +354,7 @@ fn note_transfer(case: &Case, finding: &mut Finding, event: Block) -> Result<(),
     let pointer = event.pointer();
     match ring.shape.place_at(pointer) {
         Some(Place::Data { place, word: 0 }) => {
-            let position = position_of(ring, known, u64::from(place));
+            let position = position_at(ring, known, place);
             note_named_trb(case, finding, ring, known, position, event)
         }
         Some(Place::Link { segment, word: 0 }) => {
@@ -406,23 +449,25 @@ fn note_unsubmitted(
     position: u64,
     pointer: u64,
 ) -> Result<(), AllocError> {
-    let places = u64::from(ring.shape.places());
-    let (id, place) = (ring.id, position % places);
-    if position < places {
-        let note = format!(in case.alloc;
-            "it names TRB {place} of ring {id:02x}, which wasn't submitted"
-        )?;
+    let id = ring.id;
+    let Some(last) = position.checked_sub(u64::from(ring.shape.places())) else {
+        let named = trb_named(case, ring, position)?;
+        let note = format!(in case.alloc; "it names {named}, which wasn't submitted")?;
         return finding.note(note);
-    }
-    finding.mark(
-        case.alloc,
-        last_event(case.before, BlockKind::TransferEvent, pointer),
-        "the last event that named it",
-    )?;
-    let note = format!(in case.alloc;
-        "it names TRB {place} of ring {id:02x}, which wasn't submitted since it came back"
-    )?;
-    finding.note(note)
+    };
+    let note = match last_event(case.before, BlockKind::TransferEvent, pointer) {
+        Some(row) => {
+            finding.mark(case.alloc, Some(row), "the last event that named it")?;
+            format!(in case.alloc;
+                "it names {pointer:016x} again: TRB {last} of ring {id:02x}, which was there, came back, and TRB {position}, which would be there now, wasn't submitted"
+            )?
+        }
+        None => format!(in case.alloc;
+            "it names {pointer:016x}: TRB {last} of ring {id:02x}, which was there, came back with an event that named a later one, and TRB {position}, which would be there now, wasn't submitted"
+        )?,
+    };
+    finding.note(note)?;
+    note_breach(case, finding)
 }
 
 /// Notes that no doorbell let the controller go on along the ring.
@@ -463,15 +508,16 @@ fn note_gap(
     known: &RingRecord,
 ) -> Result<(), AllocError> {
     let next = known.given_count();
-    let (id, place) = (ring.id, next % u64::from(ring.shape.places()));
     if is_handed_over(ring, known, next) {
+        let id = ring.id;
         let note = format!(in case.alloc;
-            "the Link TRB before TRB {place} of ring {id:02x} isn't handed over: the controller waits there"
+            "the Link TRB before TRB {next} of ring {id:02x} isn't handed over: the controller waits there"
         )?;
         return note_ungiven_link(case, finding, ring, next, note);
     }
+    let named = trb_named(case, ring, next)?;
     let note = format!(in case.alloc;
-        "TRB {place} of ring {id:02x}, which comes before, isn't handed over: the controller waits there"
+        "{named}, which comes before, isn't handed over: the controller waits there"
     )?;
     finding.note(note)
 }
@@ -509,7 +555,8 @@ fn note_stopped(
         let note = format!(in case.alloc;
             "it names {pointer:016x}, which came back before, and isn't submitted since"
         )?;
-        return finding.note(note);
+        finding.note(note)?;
+        return note_breach(case, finding);
     }
     let note = format!(in case.alloc;
         "it names {pointer:016x}, behind where the controller can have come: a TRB or Link TRB before isn't handed over"
@@ -521,7 +568,7 @@ fn note_stopped(
 fn has_come_back(ring: &Ring, known: &RingRecord, address: u64) -> bool {
     match ring.shape.place_at(address) {
         Some(Place::Data { place, .. }) => {
-            let position = position_of(ring, known, u64::from(place));
+            let position = position_at(ring, known, place);
             position >= u64::from(ring.shape.places()) && position > known.declared_count() as u64
         }
         _ => false,
@@ -586,19 +633,6 @@ fn next_command(case: &Case) -> Option<NextCommand> {
     })
 }
 
-/// The least position from the floor on at a place.
-fn position_of(ring: &Ring, known: &RingRecord, place: u64) -> u64 {
-    let places = u64::from(ring.shape.places());
-    let floor = known.floor_number();
-    let reached = floor % places;
-    let ahead = if place < reached {
-        (places - reached).saturating_add(place)
-    } else {
-        place - reached
-    };
-    floor.saturating_add(ahead)
-}
-
 /// Notes that a TRB was never handed over, and the write that gave it a stale Cycle bit.
 fn note_stale(
     case: &Case,
@@ -609,11 +643,11 @@ fn note_stale(
 ) -> Result<(), AllocError> {
     let id = ring.id;
     let places = u64::from(ring.shape.places());
-    let place = position % places;
     let wanted = u8::from(ring.shape.cycle(position));
     let lap = (position / places).saturating_add(1);
+    let named = trb_named(case, ring, position)?;
     let note = format!(in case.alloc;
-        "TRB {place} of ring {id:02x} was never handed to the controller: in lap {lap} of the ring that takes Cycle bit {wanted}"
+        "{named}, was never handed to the controller: in lap {lap} of the ring that takes Cycle bit {wanted}"
     )?;
     finding.note(note)?;
     if position >= known.declared_count() as u64 {
@@ -623,24 +657,38 @@ fn note_stale(
         return Ok(());
     };
     match last_write(case.before, ring.shape.address(position) | 12) {
-        Some(wrote) if wrote > td.row => {
-            let line = line_of(case.first, td.row);
-            let note = format!(in case.alloc; "it was submitted at row {line}")?;
-            finding.note(note)?;
+        Some(wrote) if wrote > td.row => note_other_lap(case, finding, td.row, wrote),
+        _ => {
             finding.mark(
                 case.alloc,
-                Some(wrote),
-                "its control word, with the Cycle bit of another lap",
+                Some(td.row),
+                "submitted here, and its control word isn't written since",
             )?;
-            finding.help(
-                case.alloc,
-                "flip the Producer Cycle State where you pass the Link TRB with Toggle Cycle (xHCI 4.9.2)",
-            )
+            if position < places {
+                return Ok(());
+            }
+            note_breach(case, finding)
         }
-        _ => finding.mark(
-            case.alloc,
-            Some(td.row),
-            "submitted here, and its control word isn't written since",
-        ),
     }
+}
+
+/// Notes that the control word of a TRB, which a row submitted, was written with the Cycle bit of another lap.
+fn note_other_lap(
+    case: &Case,
+    finding: &mut Finding,
+    row: usize,
+    wrote: usize,
+) -> Result<(), AllocError> {
+    let line = line_of(case.first, row);
+    let note = format!(in case.alloc; "it was submitted at row {line}")?;
+    finding.note(note)?;
+    finding.mark(
+        case.alloc,
+        Some(wrote),
+        "its control word, with the Cycle bit of another lap",
+    )?;
+    finding.help(
+        case.alloc,
+        "flip the Producer Cycle State where you pass the Link TRB with Toggle Cycle (xHCI 4.9.2)",
+    )
 }

@@ -96,15 +96,19 @@ fn note_take(
     let Some(Place::Data { place, .. }) = ring.shape.place_at(at) else {
         return Ok(());
     };
-    let note = format!(in case.alloc; "it took TRB {place} of ring {id:02x}, at {at:016x}")?;
-    notes.push(note)?;
-    if harm != Harm::TakenOtherWords {
+    let Some(position) = last_position(ring, known, place) else {
+        let note = format!(in case.alloc;
+            "it took the TRB at {at:016x} of ring {id:02x}, where none was submitted"
+        )?;
+        notes.push(note)?;
         return Ok(());
+    };
+    let note = format!(in case.alloc; "it took TRB {position} of ring {id:02x}, at {at:016x}")?;
+    notes.push(note)?;
+    if harm == Harm::TakenOtherWords {
+        return note_other_words(case, notes, taken, ring, known, position);
     }
-    match last_position(ring, known, place) {
-        Some(position) => note_other_words(case, notes, taken, ring, known, position),
-        None => Ok(()),
-    }
+    Ok(())
 }
 
 /// The last submitted position at a place of a ring.

@@ -2,9 +2,9 @@
 use commands::{Command, EndpointState};
 use ring_knowledge::RingRecord;
 use row_history::{
-    Binding, Case, Finding, NOT_JUDGED, Unfinished, all_unfinished, binds_ring, command_at,
-    endpoint_state_name, has_block, is_handed_over, last_halt, last_write, line_of, ring_at,
-    ring_known, submission,
+    Binding, Case, Finding, NOT_JUDGED, Unfinished, all_unfinished, begun_with_0, binds_ring,
+    command_at, endpoint_state_name, has_block, is_handed_over, last_halt, last_write, line_of,
+    ring_at, ring_known, submission,
 };
 use segments::{Place, Spot};
 use std::alloc::AllocError;
@@ -107,7 +107,7 @@ fn note_dequeue(
     };
     if let Some((ring, known)) = ring_known(case, id) {
         note_bound_by(case, finding, id)?;
-        note_named(case, finding, ring, dequeue, cycle)?;
+        note_named(case, finding, ring, known, dequeue, cycle)?;
         note_reached(case, finding, ring, known, dequeue, cycle)?;
         note_allowed(case, finding, ring, known)?;
     }
@@ -153,28 +153,13 @@ fn note_named(
     case: &Case,
     finding: &mut Finding,
     ring: &Ring,
+    known: &RingRecord,
     pointer: u64,
     cycle: bool,
 ) -> Result<(), AllocError> {
-    let id = ring.id;
     let dcs = u8::from(cycle);
-    let note = match ring.shape.place_at(pointer) {
-        Some(Place::Data { place, .. }) => {
-            format!(in case.alloc;
-                "the command says {pointer:016x}, DCS {dcs}: TRB {place} of ring {id:02x}"
-            )?
-        }
-        Some(Place::Link { segment, .. }) => {
-            format!(in case.alloc;
-                "the command says {pointer:016x}, DCS {dcs}: the Link TRB of segment {segment} of ring {id:02x}"
-            )?
-        }
-        None => {
-            format!(in case.alloc;
-                "the command says {pointer:016x}, DCS {dcs}: no TRB of the endpoint's ring {id:02x}"
-            )?
-        }
-    };
+    let name = spot_name(case, ring, known, pointer, cycle)?;
+    let note = format!(in case.alloc; "the command says {pointer:016x}, DCS {dcs}: {name}")?;
     finding.note(note)
 }
 
@@ -222,9 +207,8 @@ fn note_number(
     }
     for position in known.ceiling()..number {
         if !is_handed_over(ring, known, position) {
-            let place = position % u64::from(ring.shape.places());
             let note = format!(in case.alloc;
-                "TRB {place}, which is before that place, isn't handed over yet"
+                "TRB {position}, which comes before, isn't handed over yet"
             )?;
             return finding.note(note);
         }
@@ -316,21 +300,21 @@ fn note_added(
             row,
             "the TR Dequeue Pointer of the Endpoint Context is written here",
         )?;
-        return note_second(case, finding, slot);
+        return note_second(case, finding, slot, pointer, cycle);
     }
+    let bound = Bound {
+        slot,
+        endpoint,
+        context,
+        pointer,
+        cycle,
+    };
     if case.header.version.is_three() {
-        let binding = Bound {
-            slot,
-            endpoint,
-            context,
-            pointer,
-            cycle,
-        };
-        return note_bound(case, finding, binding);
+        return note_bound(case, finding, bound);
     }
     match ring_beginning(case, pointer) {
-        None => note_nowhere(case, finding, context, endpoint, pointer, cycle),
-        Some(ring) => note_ring(case, finding, ring, endpoint, cycle),
+        None => note_nowhere(case, finding, bound),
+        Some(ring) => note_ring(case, finding, ring, bound),
     }
 }
 
@@ -374,7 +358,7 @@ fn note_bound(case: &Case, finding: &mut Finding, bound: Bound) -> Result<(), Al
         context_row(case, bound.context, endpoint),
         "the TR Dequeue Pointer of the Endpoint Context is written here",
     )?;
-    let name = spot_name(case, ring, pointer)?;
+    let name = spot_name(case, ring, known, pointer, bound.cycle)?;
     let note = format!(in case.alloc;
         "DCI {endpoint}: the Endpoint Context says {pointer:016x}, DCS {dcs}: {name}"
     )?;
@@ -390,15 +374,27 @@ fn ring_having<'a>(case: &Case<'a>, address: u64) -> Option<(&'a Ring, &'a RingR
     }
 }
 
-/// What lies at an address of a ring.
-fn spot_name(case: &Case, ring: &Ring, pointer: u64) -> Result<String, AllocError> {
+/// What lies at an address of a ring: a TRB by its number, where pointer and cycle state say that.
+fn spot_name(
+    case: &Case,
+    ring: &Ring,
+    known: &RingRecord,
+    pointer: u64,
+    cycle: bool,
+) -> Result<String, AllocError> {
     let id = ring.id;
-    match ring.shape.place_at(pointer) {
-        Some(Place::Link { segment, .. }) => {
+    match (
+        ring.shape.place_at(pointer),
+        known.target(&ring.shape, pointer, cycle),
+    ) {
+        (Some(Place::Link { segment, .. }), _) => {
             format!(in case.alloc; "the Link TRB of segment {segment} of ring {id:02x}")
         }
-        Some(Place::Data { place, .. }) => format!(in case.alloc; "TRB {place} of ring {id:02x}"),
-        None => format!(in case.alloc; "no TRB of ring {id:02x}"),
+        (Some(_), Some(Spot::Data(number))) => {
+            format!(in case.alloc; "TRB {number} of ring {id:02x}")
+        }
+        (Some(_), _) => format!(in case.alloc; "a place of ring {id:02x}"),
+        (None, _) => format!(in case.alloc; "no TRB of ring {id:02x}, the endpoint's"),
     }
 }
 
@@ -460,11 +456,9 @@ fn note_standing(
 ) -> Result<(), AllocError> {
     let id = ring.id;
     let (floor, ceiling) = (known.floor_number(), known.ceiling());
-    let places = u64::from(ring.shape.places());
     if floor < ceiling {
-        let (first, behind) = (floor % places, ceiling % places);
         let note = format!(in case.alloc;
-            "ring {id:02x} doesn't stand still: the controller has finished what is before TRB {first}, and may have come as far as TRB {behind}"
+            "ring {id:02x} doesn't stand still: the controller has finished what is before TRB {floor}, and may have come as far as TRB {ceiling}"
         )?;
         finding.note(note)?;
         return finding.help(
@@ -543,38 +537,56 @@ fn note_between(
 }
 
 /// What is wrong with the pointer of an endpoint that no ring begins at.
-fn note_nowhere(
-    case: &Case,
-    finding: &mut Finding,
-    context: u64,
-    endpoint: u8,
-    pointer: u64,
-    cycle: bool,
-) -> Result<(), AllocError> {
+fn note_nowhere(case: &Case, finding: &mut Finding, bound: Bound) -> Result<(), AllocError> {
+    let (endpoint, pointer) = (bound.endpoint, bound.pointer);
     finding.mark(
         case.alloc,
-        context_row(case, context, endpoint),
+        context_row(case, bound.context, endpoint),
         "the TR Dequeue Pointer of the Endpoint Context is written here",
     )?;
-    let dcs = u8::from(cycle);
+    let dcs = u8::from(bound.cycle);
     let note = format!(in case.alloc;
         "DCI {endpoint}: the Endpoint Context says {pointer:016x}, DCS {dcs}; no `xfer` ring of the header begins there"
     )?;
     finding.note(note)?;
-    if let Some((ring, _)) = ring_at(case, pointer) {
+    if let Some((ring, known)) = ring_at(case, pointer) {
         if ring.shape.kind() == RingKind::Xfer {
             let (id, first) = (ring.id, ring.shape.address(0));
             let note = format!(in case.alloc;
                 "that is inside ring {id:02x}: the profile binds a ring at its first TRB, {first:016x}"
             )?;
             finding.note(note)?;
-            finding.say(case.alloc, NOT_JUDGED)?;
+            note_begun_inside(case, finding, ring, known, bound.cycle)?;
         }
     }
     finding.help(
         case.alloc,
         "name the first TRB of a ring, or declare that ring in the header",
     )
+}
+
+/// Notes what a controller does that begins a ring behind its first TRB: xHCI allows it on a ring of which nothing is used yet.
+fn note_begun_inside(
+    case: &Case,
+    finding: &mut Finding,
+    ring: &Ring,
+    known: &RingRecord,
+    cycle: bool,
+) -> Result<(), AllocError> {
+    if known.declared_count() > 0 {
+        let id = ring.id;
+        let note = format!(in case.alloc;
+            "TRBs were submitted on ring {id:02x} from its first one on: a controller that begins behind that leaves some out"
+        )?;
+        return finding.note(note);
+    }
+    if !cycle {
+        return finding.say(
+            case.alloc,
+            "Dequeue Cycle State is 0: such a controller takes each TRB whose Cycle bit is 0, as all memory that was never written has it",
+        );
+    }
+    finding.say(case.alloc, NOT_JUDGED)
 }
 
 /// Notes that an endpoint that is added gets the ring of one that the command adds before it.
@@ -608,7 +620,13 @@ fn note_twice(
 }
 
 /// What is wrong with a second Address Device of a slot.
-fn note_second(case: &Case, finding: &mut Finding, slot: u8) -> Result<(), AllocError> {
+fn note_second(
+    case: &Case,
+    finding: &mut Finding,
+    slot: u8,
+    pointer: u64,
+    cycle: bool,
+) -> Result<(), AllocError> {
     let Some(id) = case.known.devices.ring_of(slot, 1) else {
         return Ok(());
     };
@@ -621,7 +639,12 @@ fn note_second(case: &Case, finding: &mut Finding, slot: u8) -> Result<(), Alloc
             "not all TDs on ring {id:02x}, which the command moves, have come back: TRBs left: {left}"
         )?;
         finding.note(note)?;
-        finding.say(case.alloc, NOT_JUDGED)?;
+        let what = if known.may_move_on(&ring.shape, pointer, cycle) {
+            NOT_JUDGED
+        } else {
+            "the controller may take such a TRB before the command, and again behind it, or come into the middle of a TD"
+        };
+        finding.say(case.alloc, what)?;
         return finding.help(
             case.alloc,
             "read the events of all TDs on the ring before the command",
@@ -645,42 +668,67 @@ fn note_ring(
     case: &Case,
     finding: &mut Finding,
     ring: &Ring,
-    endpoint: u8,
-    cycle: bool,
+    bound: Bound,
 ) -> Result<(), AllocError> {
-    let id = ring.id;
-    if !cycle {
+    let (id, endpoint) = (ring.id, bound.endpoint);
+    if !bound.cycle {
         let note = format!(in case.alloc;
             "DCI {endpoint}: Dequeue Cycle State is 0, and must be 1: the rings of a trace begin with Cycle bit 1, and so does ring {id:02x}"
         )?;
         finding.note(note)?;
-        finding.say(case.alloc, NOT_JUDGED)?;
+        finding.say(case.alloc, begun_with_0(case, ring))?;
         finding.help(
             case.alloc,
             "set DCS, bit 0 of the TR Dequeue Pointer, to 1, and begin the ring with Cycle bit 1",
         )?;
     }
-    if let Some(given) = unfinished_binding(case, ring)? {
-        finding.earlier = given.mark(case)?;
-        let note = format!(in case.alloc;
-            "DCI {endpoint} would get ring {id:02x}, which that unfinished command gives to an endpoint already; the profile binds a ring once"
-        )?;
-        finding.note(note)?;
-        finding.say(case.alloc, NOT_JUDGED)?;
-        return finding.help(case.alloc, BIND_ANOTHER);
+    if note_owner(case, finding, ring, bound)? {
+        return finding.help(case.alloc, "give each endpoint a ring of its own");
     }
-    let Some(bound) = last_binding(case, id) else {
-        return Ok(());
-    };
-    let line = line_of(case.first, bound.row);
-    let (owner, index) = (bound.slot, bound.endpoint);
+    match last_binding(case, id) {
+        Some(before) => note_used(case, finding, ring, bound, before),
+        None => Ok(()),
+    }
+}
+
+/// Notes that an endpoint gets a ring that another had, and whether xHCI allows that there.
+fn note_used(
+    case: &Case,
+    finding: &mut Finding,
+    ring: &Ring,
+    bound: Bound,
+    before: Binding,
+) -> Result<(), AllocError> {
+    let (id, endpoint) = (ring.id, bound.endpoint);
+    let line = line_of(case.first, before.row);
+    let (owner, index) = (before.slot, before.endpoint);
     note_bound_by(case, finding, id)?;
     let note = format!(in case.alloc;
         "DCI {endpoint} would get ring {id:02x}, which slot {owner}, DCI {index} got at row {line}; the profile binds a ring once"
     )?;
     finding.note(note)?;
-    finding.say(case.alloc, NOT_JUDGED)?;
-    finding.help(case.alloc, BIND_ANOTHER)
+    if !bound.cycle {
+        return Ok(());
+    }
+    if may_begin_anew(case, ring) {
+        finding.say(case.alloc, NOT_JUDGED)?;
+        return finding.help(case.alloc, BIND_ANOTHER);
+    }
+    finding.say(
+        case.alloc,
+        "its first TRB has Cycle bit 1 in memory still: a controller that begins there takes again what stands there",
+    )?;
+    finding.help(case.alloc, "bind a ring that wasn't used")
+}
+
+/// Whether a controller that begins at a ring's first TRB with Cycle bit 1 finds nothing there that it had before.
+fn may_begin_anew(case: &Case, ring: &Ring) -> bool {
+    let first = ring.shape.address(0);
+    let stands_there = match ring_known(case, ring.id) {
+        Some((ring, known)) => known.may_be_bound(&ring.shape, first, true),
+        None => false,
+    };
+    stands_there || case.known.word(first | 12) % 2 == 0
 }
 
 const BIND_ANOTHER: &str =

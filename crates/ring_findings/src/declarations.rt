@@ -1,6 +1,11 @@
 //! Rows that submit TRBs: no room, and TRBs that make no TD.
-use row_history::{Case, Finding, ring_known, ring_with, type_name};
+use ring_knowledge::RingRecord;
+use row_history::{
+    Case, Endpoint, Finding, Ordinal, endpoint_with, last_bell, last_write, line_of, ring_known,
+    ring_with, type_name,
+};
 use std::alloc::{AllocError, Global};
+use traces::Ring;
 use trb::{Block, BlockFlags, BlockKind, Flags, RingKind};
 
 /// A TD for which the ring has no room.
@@ -38,7 +43,59 @@ pub fn ring_full(case: &Case, id: u8, count: usize) -> Result<Finding, AllocErro
         "read a Transfer Event of the ring before you submit, or use a longer ring"
     };
     finding.help(case.alloc, help)?;
+    if count as u64 <= u64::from(usable) {
+        note_no_bell(case, &mut finding, ring, known)?;
+    }
     Ok(finding)
+}
+
+/// Notes that TRBs are handed over on a full ring whose doorbell didn't ring since: no event gives them back.
+fn note_no_bell(
+    case: &Case,
+    finding: &mut Finding,
+    ring: &Ring,
+    known: &RingRecord,
+) -> Result<(), AllocError> {
+    let given = known.given_count();
+    let Some(last) = given.checked_sub(1) else {
+        return Ok(());
+    };
+    if given <= known.floor_number() {
+        return Ok(());
+    }
+    let Some(gave) = last_write(case.before, ring.shape.address(last) | 12) else {
+        return Ok(());
+    };
+    let Some((slot, target)) = bell_of(case, ring) else {
+        let id = ring.id;
+        let note = format!(in case.alloc;
+            "no endpoint has ring {id:02x}: no Address Device or Configure Endpoint that names it has completed"
+        )?;
+        return finding.note(note);
+    };
+    if last_bell(case.before, slot, target).is_some_and(|rang| rang > gave) {
+        return Ok(());
+    }
+    let line = line_of(case.first, gave);
+    let label = format!(in case.alloc; "hands TRB {last} over")?;
+    finding.mark(case.alloc, Some(gave), label.as_str())?;
+    let note = format!(in case.alloc;
+        "its doorbell didn't ring behind row {line}: no controller has to come to TRB {last}"
+    )?;
+    finding.note(note)?;
+    let help = format!(in case.alloc;
+        "ring `db {slot:02x} {target:02x}` behind what you hand over, and read its events before you submit more"
+    )?;
+    finding.help(case.alloc, help.as_str())
+}
+
+/// The doorbell of a ring, by its slot and its target; none where no endpoint has the ring.
+fn bell_of(case: &Case, ring: &Ring) -> Option<(u8, u8)> {
+    if ring.shape.kind() == RingKind::Cmd {
+        return Some((0, 0));
+    }
+    let Endpoint { slot, endpoint } = endpoint_with(&case.known.devices, ring.id)?;
+    Some((slot, endpoint))
 }
 
 const NO_ROOM: &str = "the ring has no room for this TD";
@@ -47,19 +104,19 @@ const NO_ROOM: &str = "the ring has no room for this TD";
 #[derive(Clone, Copy)]
 enum NoTd {
     /// The Cycle bit of this TRB is 1.
-    Cycle(usize),
+    Cycle(Ordinal),
     /// The Chain bit of this TRB is 0, and another follows.
-    Unchained(usize),
+    Unchained(Ordinal),
     /// The Chain bit of the last TRB is 1.
-    ChainedEnd(usize),
+    ChainedEnd(Ordinal),
     /// A Link TRB belongs to the ring.
-    HasLink(usize),
+    HasLink(Ordinal),
     /// Several commands.
     Several,
     /// This TRB is no command.
-    NoCommand(usize),
+    NoCommand(Ordinal),
     /// This TRB's type is no transfer's.
-    OtherType(usize),
+    OtherType(Ordinal),
     /// Setup, Data and Status Stage are TDs of their own.
     Stages,
     /// The Setup Stage has another length than 8.
@@ -112,16 +169,21 @@ fn types_of(alloc: Global, blocks: &[Block]) -> Result<String, AllocError> {
     Ok(text)
 }
 
+/// The number of a TRB by its index.
+fn nth(index: usize) -> Ordinal {
+    Ordinal((index as u64).saturating_add(1))
+}
+
 /// What is wrong with TRBs as a TD of such a ring.
 fn cause_of(kind: RingKind, blocks: &[Block]) -> NoTd {
     if let Some(index) = blocks
         .iter()
         .position(|block| block.kind() == BlockKind::Link)
     {
-        return NoTd::HasLink(index.saturating_add(1));
+        return NoTd::HasLink(nth(index));
     }
     if let Some(index) = blocks.iter().position(|block| block.cycle()) {
-        return NoTd::Cycle(index.saturating_add(1));
+        return NoTd::Cycle(nth(index));
     }
     match kind {
         RingKind::Cmd => command_cause(blocks),
@@ -135,9 +197,9 @@ fn command_cause(blocks: &[Block]) -> NoTd {
     }
     match blocks.first() {
         Some(block) => if block.chain() {
-            NoTd::ChainedEnd(1)
+            NoTd::ChainedEnd(Ordinal(1))
         } else {
-            NoTd::NoCommand(1)
+            NoTd::NoCommand(Ordinal(1))
         },
         None => NoTd::Mixed,
     }
@@ -148,16 +210,16 @@ fn transfer_cause(blocks: &[Block]) -> NoTd {
         return NoTd::Stages;
     }
     if let Some(index) = blocks.iter().position(|block| !block.kind().is_transfer()) {
-        return NoTd::OtherType(index.saturating_add(1));
+        return NoTd::OtherType(nth(index));
     }
     match blocks {
         [] => NoTd::Mixed,
         [front @ .., last] => {
             if let Some(index) = front.iter().position(|block| !block.chain()) {
-                return NoTd::Unchained(index.saturating_add(1));
+                return NoTd::Unchained(nth(index));
             }
             if last.chain() {
-                return NoTd::ChainedEnd(blocks.len());
+                return NoTd::ChainedEnd(Ordinal(blocks.len() as u64));
             }
             setup_cause(blocks)
         }
@@ -191,27 +253,29 @@ fn setup_cause(blocks: &[Block]) -> NoTd {
 /// What is wrong, in words.
 fn cause_note(alloc: Global, cause: NoTd) -> Result<String, AllocError> {
     match cause {
-        NoTd::Cycle(index) => {
+        NoTd::Cycle(number) => {
             format!(in alloc;
-                "TRB {index}: the Cycle bit is 1; in `sub` rows it is 0, since the lap of the ring gives it"
+                "the {number} TRB: the Cycle bit is 1; in `sub` rows it is 0, since the lap of the ring gives it"
             )
         }
-        NoTd::Unchained(index) => {
+        NoTd::Unchained(number) => {
             format!(in alloc;
-                "TRB {index}: the Chain bit is 0, and must be 1: it is 1 in all TRBs of a TD but the last"
+                "the {number} TRB: the Chain bit is 0, and must be 1: it is 1 in all TRBs of a TD but the last"
             )
         }
-        NoTd::ChainedEnd(index) => {
+        NoTd::ChainedEnd(number) => {
             format!(in alloc;
-                "TRB {index}: the Chain bit is 1, and must be 0: it is 1 in all TRBs of a TD but the last, and in no command"
+                "the {number} TRB: the Chain bit is 1, and must be 0: it is 1 in all TRBs of a TD but the last, and in no command"
             )
         }
-        NoTd::HasLink(index) => {
-            format!(in alloc; "TRB {index}: a Link TRB belongs to the ring and to no TD")
+        NoTd::HasLink(number) => {
+            format!(in alloc; "the {number} TRB: a Link TRB belongs to the ring and to no TD")
         }
-        NoTd::NoCommand(index) => { format!(in alloc; "TRB {index}: its type is no command's") }
-        NoTd::OtherType(index) => {
-            format!(in alloc; "TRB {index}: its type is none of a Transfer Ring's")
+        NoTd::NoCommand(number) => {
+            format!(in alloc; "the {number} TRB: its type is no command's")
+        }
+        NoTd::OtherType(number) => {
+            format!(in alloc; "the {number} TRB: its type is none of a Transfer Ring's")
         }
         NoTd::Several => String::from_str(alloc, "a command is one TRB"),
         NoTd::Stages => String::from_str(

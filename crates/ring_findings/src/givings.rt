@@ -1,10 +1,11 @@
 //! Writes of memory: to what the controller owns, of TRBs that weren't submitted, and of Link TRBs.
 use crate::restorings::flips_withdrawn;
 use commands::EndpointState;
-use ring_knowledge::RingRecord;
+use guest_memory::Addr;
+use ring_knowledge::{RingGiving, RingRecord};
 use row_history::{
-    Case, Finding, endpoint_with, going, last_event, last_write, line_of, note_unchanged,
-    ring_known, submission, trb_at, write_to_area,
+    Case, Finding, declared_now, endpoint_with, going, last_event, last_write, line_of,
+    note_unchanged, position_at, ring_known, submission, trb_at, write_to_area,
 };
 use segments::Place;
 use std::alloc::AllocError;
@@ -58,7 +59,7 @@ fn write_to_ring(
     } else {
         "write to a TRB that the controller owns"
     };
-    let here = word_named(case, ring.id, place)?;
+    let here = word_named(case, ring, place)?;
     let mut finding = Finding::new(case.alloc, head, here.as_str())?;
     let gave = last_write(case.before, address | 12);
     finding.mark(
@@ -124,11 +125,16 @@ fn withdrawable(case: &Case, ring: &Ring, known: &RingRecord, address: u64) -> O
 }
 
 /// Which word of a ring that the controller owns is written.
-fn word_named(case: &Case, id: u8, place: Place) -> Result<String, AllocError> {
+fn word_named(case: &Case, ring: &Ring, place: Place) -> Result<String, AllocError> {
+    let id = ring.id;
     match place {
         Place::Data { place, word } => {
+            let position = match ring_known(case, id) {
+                Some((_, known)) => position_at(ring, known, place),
+                None => u64::from(place),
+            };
             format!(in case.alloc;
-                "word {word} of TRB {place} of ring {id:02x}, before an event gives it back"
+                "word {word} of TRB {position} of ring {id:02x}, before an event gives it back"
             )
         }
         Place::Link { segment, word } => {
@@ -209,8 +215,9 @@ fn note_early(
     if submitted >= before {
         return Ok(());
     }
+    let (id, last) = (ring.id, before.saturating_sub(1));
     let note = format!(in case.alloc;
-        "it was handed over early: it stands behind TRB number {before} of the ring, and TRBs submitted so far are {submitted}"
+        "it was handed over early: it stands behind TRB {last} of ring {id:02x}, which isn't submitted yet (submitted: {submitted})"
     )?;
     finding.note(note)?;
     finding.help(
@@ -290,9 +297,61 @@ pub fn link_fault(case: &Case, address: u64, word: u32) -> Result<Finding, Alloc
         if let Some(Place::Link { segment, .. }) = ring.shape.place_at(address) {
             let link = trb_at(case, address, word);
             note_link(case, &mut finding, ring, segment, link)?;
+            note_left_out(case, &mut finding, ring, segment, address, word)?;
         }
     }
     Ok(finding)
+}
+
+/// Notes that what is written in the Link TRB's place is the TRB that is submitted next, as where COUNT of the ring's line leaves the
+/// Link TRB out.
+fn note_left_out(
+    case: &Case,
+    finding: &mut Finding,
+    ring: &Ring,
+    segment: u32,
+    address: u64,
+    word: u32,
+) -> Result<(), AllocError> {
+    let Some(position) = next_written_here(case, ring, address, word) else {
+        return Ok(());
+    };
+    let (Some(td), Some(part)) = (
+        submission(case, ring.id, position),
+        ring.shape.segments().get(segment as usize),
+    ) else {
+        return Ok(());
+    };
+    let (id, base, count) = (ring.id, part.base, part.count);
+    finding.notes = Vec::new(case.alloc);
+    let note = format!(in case.alloc;
+        "this is TRB {position} of ring {id:02x}, as it was submitted, in the place of the Link TRB: COUNT of {base:016x}:{count:04x} counts the segment's Link TRB too, which is its last TRB"
+    )?;
+    finding.note(note)?;
+    finding.mark(case.alloc, Some(td.row), "the TRB is submitted here")?;
+    let longer = count.saturating_add(1);
+    let help = format!(in case.alloc;
+        "where the driver has its Link TRB behind this place, write {base:016x}:{longer:04x} in the line of ring {id:02x}; else put the Link TRB here, and TRB {position} where it leads"
+    )?;
+    finding.help(case.alloc, help.as_str())
+}
+
+/// The position behind a Link TRB's place, where a write hands over there just what is submitted for it.
+fn next_written_here(case: &Case, ring: &Ring, address: u64, word: u32) -> Option<u64> {
+    let (_, known) = ring_known(case, ring.id)?;
+    let Some(RingGiving::Crossing(position)) = known
+        .look(&ring.shape, Addr::new(address)?, word)
+        .giving
+    else {
+        return None;
+    };
+    let wanted = declared_now(case, ring.id, known, position)?;
+    let found = trb_at(case, address, word);
+    if found.w == wanted.with_cycle(found.cycle()).w {
+        Some(position)
+    } else {
+        None
+    }
 }
 
 /// Notes which fields of a Link TRB are wrong.
@@ -320,7 +379,8 @@ fn note_link(
         )?;
         finding.note(note)?;
     }
-    let better = link.w[3] & 0xffff03fd | 0x1800 | u32::from(last) << 1;
+    // a Link TRB that interrupts isn't judged, and the bits that a Link TRB doesn't have are 0: Cycle and Chain bit stay
+    let better = link.w[3] & 0x11 | 0x1800 | u32::from(last) << 1;
     finding.help = Some(format!(in case.alloc; "write {better:08x}")?);
     note_target(case, finding, ring, segment, link.pointer() & !15, better)
 }

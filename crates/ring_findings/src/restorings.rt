@@ -2,6 +2,7 @@
 use ring_knowledge::RingRecord;
 use row_history::{
     Case, Finding, FreeTrb, NO_OP, RingPast, last_write, line_of, past_of, ring_known, trb_at,
+    trb_named,
 };
 use std::alloc::AllocError;
 use traces::Ring;
@@ -91,10 +92,10 @@ fn note_left(
     ring: &Ring,
     position: u64,
 ) -> Result<(), AllocError> {
-    let (id, address) = (ring.id, ring.shape.address(position));
-    let place = position % u64::from(ring.shape.places());
+    let address = ring.shape.address(position);
+    let named = trb_named(case, ring, position)?;
     let note = format!(in case.alloc;
-        "TRB {place} of ring {id:02x}, at {address:016x}, was handed over before, and must be a No Op now (xHCI 6.4.1.4.1)"
+        "{named}, was handed over before, and must be a No Op now (xHCI 6.4.1.4.1)"
     )?;
     finding.note(note)?;
     let wanted = no_op_at(ring, position);
@@ -153,9 +154,8 @@ pub fn flips_withdrawn(
         return Ok(None);
     };
     let (id, position) = (ring.id, free.position);
-    let place = position % u64::from(ring.shape.places());
     let here = format!(in case.alloc;
-        "word 3 of TRB {place} of ring {id:02x}, which was withdrawn"
+        "word 3 of TRB {position} of ring {id:02x}, which was withdrawn"
     )?;
     let mut finding = Finding::new(
         case.alloc,

@@ -2,9 +2,9 @@
 use crate::rings::Named;
 use commands::{Command, EndpointState};
 use row_history::{
-    Case, Endpoint, Finding, Submitted, Unfinished, command_name, endpoint_state_name,
+    Case, Endpoint, Finding, Ordinal, Submitted, Unfinished, command_name, endpoint_state_name,
     endpoint_with, going, last_bell, last_halt, note_dropped, past_of, ring_known, ring_with,
-    submission, unfinished_on, unfinished_touching,
+    submission, trb_named, unfinished_on, unfinished_touching,
 };
 use std::alloc::AllocError;
 use traces::{Row, TraceRow};
@@ -199,17 +199,16 @@ fn withdrawn_here(
         NoWithdraw::Touched(Endpoint { slot, endpoint }, _) => {
             format!(in case.alloc; "slot {slot}, DCI {endpoint} has ring {id:02x}")
         }
-        _ => trb_named(case, id, position),
+        _ => withdrawn_trb(case, id, position),
     }
 }
 
-/// The TRB at a position, by its place in the ring.
-fn trb_named(case: &Case, id: u8, position: u64) -> Result<String, AllocError> {
-    let Some((ring, _)) = ring_known(case, id) else {
-        return format!(in case.alloc; "ring {id:02x}");
-    };
-    let place = position % u64::from(ring.shape.places());
-    format!(in case.alloc; "TRB {place} of ring {id:02x}")
+/// The TRB at a position, and where it lies.
+fn withdrawn_trb(case: &Case, id: u8, position: u64) -> Result<String, AllocError> {
+    match ring_known(case, id) {
+        Some((ring, _)) => trb_named(case, ring, position),
+        None => format!(in case.alloc; "ring {id:02x}"),
+    }
 }
 
 fn withdraw_help(cause: NoWithdraw) -> &'static str {
@@ -339,9 +338,9 @@ fn note_inside(
     let Submitted { first, count, .. } = td;
     let label = format!(in case.alloc; "a TD of {count} TRBs")?;
     finding.mark(case.alloc, Some(td.row), label.as_str())?;
-    let number = position.saturating_sub(first).saturating_add(1);
+    let number = Ordinal(position.saturating_sub(first).saturating_add(1));
     let note = format!(in case.alloc;
-        "this is TRB {number} of {count} of a TD, which is withdrawn as a whole"
+        "this is the {number} of the TD's {count} TRBs, and a TD is withdrawn as a whole"
     )?;
     finding.note(note)?;
     let help = format!(in case.alloc; "name its first position, {first:016x}")?;

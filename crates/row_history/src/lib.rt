@@ -19,7 +19,10 @@ pub use areas::{Beside, clash, is_in_area, note_area, note_unchanged, write_to_a
 pub use event_places::given_back;
 pub use finding::{Case, Finding, Mark, line_of, note_dropped, ring_at, ring_known};
 pub use known::{Behind, Binding, Dropping, Known, Stopping, Taking, known_after};
-pub use positions::{NO_OP, declared_now, is_handed_over, past_of, position_given, submission};
+pub use positions::{
+    NO_OP, begun_with_0, declared_now, is_handed_over, past_of, position_at, position_given,
+    submission, trb_named,
+};
 pub use ring_past::{FreeTrb, RingPast, Submitted};
 pub use rings::{Endpoint, endpoint_with, shown_first_lap};
 pub use rows::{
@@ -32,6 +35,6 @@ pub use unfinished::{
     unfinished_beside, unfinished_on, unfinished_touching,
 };
 pub use words::{
-    NOT_JUDGED, code_name, command_name, endpoint_state_name, general_head, register_name,
+    NOT_JUDGED, Ordinal, code_name, command_name, endpoint_state_name, general_head, register_name,
     ring_of_kind, ring_with, slot_state_name, type_name, why_refused,
 };

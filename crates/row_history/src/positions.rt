@@ -1,8 +1,9 @@
-//! Positions of a ring: which row submitted a TRB, what is declared there now, and whether the controller has it.
+//! Positions of a ring: which row submitted a TRB, what is declared there now, whether the controller has it, and how a TRB is named.
 use crate::finding::Case;
 use crate::ring_past::{RingPast, Submitted};
 use guest_memory::Addr;
 use ring_knowledge::{RingGiving, RingRecord};
+use std::alloc::AllocError;
 use traces::Ring;
 use trb::Block;
 
@@ -60,5 +61,33 @@ pub fn is_handed_over(ring: &Ring, known: &RingRecord, position: u64) -> bool {
     match Addr::new(address) {
         Some(at) => known.look(&ring.shape, at, 0).is_lent,
         None => false,
+    }
+}
+
+/// The least position from the floor on at a place.
+pub fn position_at(ring: &Ring, known: &RingRecord, place: u32) -> u64 {
+    let (place, places) = (u64::from(place), u64::from(ring.shape.places()));
+    let floor = known.floor_number();
+    let reached = floor % places;
+    let ahead = if place < reached {
+        (places - reached).saturating_add(place)
+    } else {
+        place - reached
+    };
+    floor.saturating_add(ahead)
+}
+
+/// The TRB of a position, and where it lies: a TRB has its position's number, a place its address.
+pub fn trb_named(case: &Case, ring: &Ring, position: u64) -> Result<String, AllocError> {
+    let (id, address) = (ring.id, ring.shape.address(position));
+    format!(in case.alloc; "TRB {position} of ring {id:02x}, at {address:016x}")
+}
+
+/// What a controller does that begins a ring with Cycle bit 0.
+pub fn begun_with_0(case: &Case, ring: &Ring) -> &'static str {
+    if case.known.word(ring.shape.address(0) | 12) % 2 == 0 {
+        "the ring's first TRB has Cycle bit 0 in memory, as has all that was never written: a controller that begins so takes it at the first doorbell, submitted or not"
+    } else {
+        "the ring's first TRB has Cycle bit 1 in memory: a controller that begins so waits there"
     }
 }

@@ -1,11 +1,30 @@
 //! The rules, and the types of TRBs, in the standard's words.
 use commands::{Command, EndpointState, SlotState};
 use ownership_rules::Refusal;
+use std::fmt;
 use traces::{Register, Ring};
 use trb::{BlockKind, RingKind};
 
 /// That a row breaks a rule of the profile alone.
 pub const NOT_JUDGED: &str = "not judged: xHCI allows this, the profile doesn't";
+
+/// The number of a TRB among those of a row or a TD, from 1 on.
+#[derive(Clone, Copy)]
+pub struct Ordinal(pub u64);
+
+impl fmt::Display for Ordinal {
+    fn fmt<W: fmt::Write>(&self, f: &mut fmt::Formatter<W>) -> fmt::Result {
+        let number = self.0;
+        let ending = match (number % 100, number % 10) {
+            (11..=13, _) => "th",
+            (_, 1) => "st",
+            (_, 2) => "nd",
+            (_, 3) => "rd",
+            _ => "th",
+        };
+        write!(f, "{number}{ending}")
+    }
+}
 
 /// What is wrong with a row that breaks this rule.
 pub fn general_head(refusal: Refusal) -> &'static str {
@@ -59,7 +78,7 @@ pub fn why_refused(refusal: Refusal) -> &'static str {
         Refusal::Busy =>
             "wait for its Command Completion Event; xHCI allows to queue both, the profile doesn't",
         Refusal::ImpossibleEvent =>
-            "an impossible event says that a row is missing or changed, or that the driver read a stale event: look at the hook for events first",
+            "an impossible event says that a row is missing or changed, that the driver read a stale event, or that the controller breaks the standard: look at the hook for events first",
         Refusal::BadErdp => "ERDP goes up to the event that is read next",
         Refusal::NotInProfile => "not judged: xHCI allows this, the profile doesn't",
         Refusal::AfterStop => "a trace is one run, from the set-up to the stop",
