@@ -1,3 +1,4 @@
 pub mod Standing
 pub mod Shown
 pub mod Rings
+pub mod Waiting

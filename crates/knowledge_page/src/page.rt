@@ -4,11 +4,13 @@ use crate::devices::{write_commands, write_ranges, write_slots};
 use crate::leased::{pieces_of, ranges_of, runs_of};
 use crate::rings::write_rings;
 use crate::shown::{Place, Shown};
+use crate::waiting::Waiting;
+use crate::waiting_words::waiting_lines;
 use std::alloc::{AllocError, Global};
 
 /// What stands at a place of a trace, as a page of text: whether the controller runs and its registers, each ring, the slots, the
-/// unfinished commands, and the ranges of bytes under lease.
-pub fn page_of(alloc: Global, shown: &Shown) -> Result<String, AllocError> {
+/// unfinished commands, the ranges of bytes under lease, and what waits, if anything.
+pub fn page_of(alloc: Global, shown: &Shown, waiting: &[Waiting]) -> Result<String, AllocError> {
     let standing = &shown.standing;
     let header = &standing.header;
     let kept = &standing.kept;
@@ -23,6 +25,10 @@ pub fn page_of(alloc: Global, shown: &Shown) -> Result<String, AllocError> {
     write_slots(&mut page, &kept.devices)?;
     write_commands(&mut page, header, kept, pieces.as_slice())?;
     write_ranges(&mut page, header, kept, ranges.as_slice())?;
+    if !waiting.is_empty() {
+        page.push_str("waiting\n")?;
+        page.push_str(&waiting_lines(alloc, "  ", waiting)?)?;
+    }
     Ok(page)
 }
 

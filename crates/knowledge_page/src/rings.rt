@@ -58,7 +58,7 @@ pub fn ring_facts(known: &RingRecord) -> RingFacts
 }
 
 /// The endpoint that a ring serves.
-fn served_by(devices: &DeviceRecord, ring: u8) -> Option<Served>
+pub(crate) fn served_by(devices: &DeviceRecord, ring: u8) -> Option<Served>
     ensures { IfSome result (λ e. (k : Known) → FollowsDevices k devices.now → k.ring_of e.slot e.endpoint ≡ Some ring) }
 {
     if !devices.has_endpoint(ring) {

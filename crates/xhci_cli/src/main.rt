@@ -20,6 +20,7 @@ mod stream_answers;
 mod streams;
 mod verify_run;
 mod version_note;
+mod waiting_note;
 
 use answers::{Asked, Status, run_decode, run_explain, tell_failure};
 use arguments::wrong_arguments;

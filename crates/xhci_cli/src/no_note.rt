@@ -10,7 +10,7 @@ use ring_knowledge::Lease;
 use std::alloc::{AllocError, Global};
 use trace_reader::{Counted, StreamFault};
 
-/// What a person is told of an answer to the text of a trace, or to leases beside it. Where the answer is no: the row that breaks a rule,
+/// What a person is told of an answer to the text of a trace, or to leases beside it. Where that is no: the row that breaks a rule,
 /// or else the first lease that isn't the trace's; nothing where it would be yes.
 pub fn note_on_verdict(
     alloc: Global,

@@ -28,12 +28,15 @@ pub fn note_as_read<R: Read + Seek + Drop>(
         return Ok(String::new(alloc));
     }
     match answer {
-        Answer::Accepted { .. } | Answer::Verified { holds: true } | Answer::Memory => {
-            Ok(String::new(alloc))
-        }
+        Answer::Verified { holds: true } | Answer::Memory => Ok(String::new(alloc)),
         Answer::Device => match input.into_error() {
             Some(error) => note_on_failure(alloc, asked, error),
             None => Ok(String::new(alloc)),
+        },
+        // want of memory changes no `accepted`
+        Answer::Accepted { .. } => match note_on_lines(alloc, asked, leases, input, answer) {
+            Ok(note) => Ok(note),
+            Err(_) => Ok(String::new(alloc)),
         },
         _ => note_on_lines(alloc, asked, leases, input, answer),
     }
@@ -56,7 +59,10 @@ fn note_on_lines<R: Read + Seek + Drop>(
     }
     match explained_text(alloc, input, answer, line)? {
         Some(text) => note_on_verdict(alloc, asked, leases, &text, answer),
-        None => too_long(alloc, asked, answer),
+        None => match answer {
+            Answer::Accepted { .. } => Ok(String::new(alloc)),
+            _ => too_long(alloc, asked, answer),
+        },
     }
 }
 
@@ -79,7 +85,9 @@ fn explained_text<R: Read + Seek + Drop>(
     match input.into_text(alloc, lines)? {
         Text::Kept(text) => Ok(Some(text)),
         Text::ReadAgain(text) => {
-            let same = has_answer(alloc, &text, answer)?;
+            // what is told of an accepted trace is told where it is that trace
+            let same = matches!(answer, Answer::Accepted { .. })
+                || has_answer(alloc, &text, answer)?;
             Ok(same.then_some(text))
         }
         Text::Gone => Ok(None),

@@ -8,8 +8,8 @@ ghost use Rattle.xhci_cli.specs.ShowAnswers.{IsPageAnswer, IsShowAnswer};
 
 use crate::reading::bytes_of;
 use answers::{Answer, Asked, Status, note_on_trace, tell, tell_failure};
-use knowledge_page::{ShowFault, page_of, shown_before};
-use std::alloc::Global;
+use knowledge_page::{ShowFault, Shown, left_waiting, page_of, shown_before};
+use std::alloc::{AllocError, Global};
 use std::io::{self, Read, Write};
 use trace_reader::{TextRows, read_rows};
 
@@ -55,7 +55,7 @@ fn page_answer(alloc: Global, row: Option<u32>, trace: &TextRows) -> Answer
     ensures { IsPageAnswer row (trace_kept trace.now) result }
 {
     match shown_before(alloc, trace, row) {
-        Ok(shown) => match page_of(alloc, &shown) {
+        Ok(shown) => match page(alloc, trace, &shown) {
             Ok(page) => Answer::Shown {
                 page: page.into_bytes(),
             },
@@ -64,4 +64,10 @@ fn page_answer(alloc: Global, row: Option<u32>, trace: &TextRows) -> Answer
         Err(ShowFault::NoRow { first, last }) => Answer::NoRow { first, last },
         Err(ShowFault::Memory) => Answer::Memory,
     }
+}
+
+/// The page on what is shown of a trace.
+fn page(alloc: Global, trace: &TextRows, shown: &Shown) -> Result<String, AllocError> {
+    let waiting = left_waiting(alloc, trace, shown)?;
+    page_of(alloc, shown, &waiting)
 }

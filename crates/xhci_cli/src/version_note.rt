@@ -4,6 +4,7 @@ ghost use Rattle.trace_reader.specs.Streaming.TextRows.{trace_kept};
 ghost use Rattle.answers.specs.Telling.{IsNote};
 ghost use Rattle.xhci_cli.specs.VersionNotes.{breaks_no_rule_of_three, in_version_three};
 
+use crate::waiting_note::waiting_note;
 use answers::{Answer, Asked, note_on_trace};
 use guest_memory::PageMemory;
 use ownership_checker::{CheckFault, check_kept};
@@ -11,7 +12,8 @@ use std::alloc::{AllocError, Global};
 use trace_reader::{ReadFault, TextRows, read_rows};
 use traces::{Header, Version};
 
-/// What a person is told of a verdict, beside its line; of a refused row also whether version 3 refuses it.
+/// What a person is told of a verdict, beside its line; of a refused row also whether version 3 refuses it, and of an accepted trace
+/// what waits at its end.
 pub(crate) fn note_on_check(
     alloc: Global,
     asked: &Asked,
@@ -29,6 +31,9 @@ pub(crate) fn note_on_check(
             if breaks_older_rules_alone(alloc, text, *row)? {
                 note.push_str(&version_words(alloc, *row)?)?;
             }
+        }
+        Answer::Accepted { leases } => {
+            note.push_str(&waiting_note(alloc, asked.input, text, *leases)?)?;
         }
         _ => {}
     }
