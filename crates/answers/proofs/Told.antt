@@ -1,5 +1,5 @@
 -- That an answer that is told is right of the input
-use Rattle.answers.proofs.Words.{◌≡◌, ◌∙◌, ℕ, List, [], ◌++◌, Bool, Option, Some, None, ◌⊎◌, inl, inr, refl, IfSome, ErrorKind, OutOfMemory, answer_of_kind, IsTold, Answer, Memory, Device, Status}
+use Rattle.answers.proofs.Words.{◌≡◌, ◌∙◌, ℕ, List, [], ◌++◌, Bool, Option, Some, None, ◌⊎◌, inl, inr, refl, IfSome, ErrorKind, OutOfMemory, answer_of_kind, IsNoteOnFailure, IsPlainNote, IsTold, Answer, Memory, Device, Status}
 
 -- the answer that was told, or want of memory in its place
 pub told_right : (IsRight : Answer → Type 0) (explains : Bool) (a : Answer) (result : Status) (out out' err err' : Option (List ℕ)) → IsRight a → IsRight Memory →
@@ -16,3 +16,12 @@ read_is (Some xs) start text e h = h ∙ rw e refl
 pub failure : (IsRight : Answer → Type 0) → IsRight Memory → IsRight Device → (kind : ErrorKind) → IsRight (answer_of_kind kind)
 failure IsRight memory device OutOfMemory = memory
 failure IsRight memory device _ = device
+
+-- what is told of a failure stands behind the answer to it, and behind that a device failed
+pub plain_answer : (name : List ℕ) (kind : ErrorKind) (note : List ℕ) → IsNoteOnFailure name kind note → IsPlainNote (answer_of_kind kind) note
+plain_answer name OutOfMemory note h = inl h
+plain_answer name _ note h = inr (refl, name, h)
+
+pub plain_device : (name : List ℕ) (kind : ErrorKind) (note : List ℕ) → IsNoteOnFailure name kind note → IsPlainNote Device note
+plain_device name OutOfMemory note h = inl h
+plain_device name _ note h = inr (refl, name, h)

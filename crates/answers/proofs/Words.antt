@@ -2,7 +2,7 @@
 pub use Rattle.answers.specs.Answers.{IsBlockAnswer, IsPageAnswer, answer_of_kind, device_line}
 pub use Rattle.answers.specs.Inputs.{opened}
 pub use Rattle.answers.specs.Replays.{end_text, takes_text, words_text}
-pub use Rattle.answers.specs.Telling.{Begins, IsNote, IsTold, cut, named_err, output_failed, whole}
+pub use Rattle.answers.specs.Telling.{Begins, IsNote, IsNoteOnFailure, IsPlainNote, IsReason, IsTold, cut, named_err, output_failed, whole}
 pub use Rattle.answers.specs.declared.answer.Answer.{Answer}
 pub use Rattle.answers.specs.declared.answer.Answer.TheVariants.{Device, Memory}
 pub use Rattle.answers.specs.declared.answer.Status.{Status}

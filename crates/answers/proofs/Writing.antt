@@ -1,5 +1,5 @@
 -- What the bytes of a stream are behind one write after another
-use Rattle.answers.proofs.Words.{◌≡◌, ◌∙◌, ℕ, ◌+◌, ◌-◌, ◌≤◌, List, [], ◌++◌, take, drop, length, Bool, true, false, Option, Some, None, Result, Ok, Err, ap, sym, subst, arith, append_assoc, length-drop, drop-take, take-append-drop, take-take, take_all, take-length, common_steps, Appends, Keeps, IfOk, IsOk, device_line, Begins, IsNote}
+use Rattle.answers.proofs.Words.{◌≡◌, ◌∙◌, ℕ, ◌+◌, ◌-◌, ◌≤◌, List, [], ◌++◌, take, drop, length, Bool, true, false, Option, Some, None, Result, Ok, Err, ap, sym, subst, arith, append_assoc, length-drop, drop-take, take-append-drop, take-take, take_all, take-length, common_steps, Appends, Keeps, IfOk, IsOk, device_line, Begins}
 
 pub appends_nothing : (known : Option (List ℕ)) → Appends known known []
 appends_nothing None = tt
@@ -36,10 +36,10 @@ pub begun : (a b : Option (List ℕ)) (bytes : List ℕ) → Appends a b bytes �
 begun a b bytes h = (length bytes, subst (λ (l : List ℕ). Appends a b l) (sym (take-length bytes)) h)
 
 -- what is told of standard output, with the explanation that could be had
-pub device_noted : {N F : Type 0} (bytes : N → List ℕ) (explains : Bool) (note : Result N F) (errs : List ℕ) (a b : Option (List ℕ)) → IsOk note → IfOk note (λ n. IsNote explains (bytes n)) →
-    IfOk note (λ n. errs ≡ device_line ++ bytes n) → Begins a b errs → (x : List ℕ) × IsNote explains x × Begins a b (device_line ++ x)
-device_noted bytes explains (Ok n) errs a b ok plain is h = (bytes n, plain, subst (λ (l : List ℕ). Begins a b l) is h)
-device_noted bytes explains (Err e) errs a b ok plain is h = absurd (never ok)
+pub device_noted : {N F : Type 0} (bytes : N → List ℕ) (IsRight : List ℕ → Type 0) (note : Result N F) (errs : List ℕ) (a b : Option (List ℕ)) → IsOk note → IfOk note (λ n. IsRight (bytes n)) →
+    IfOk note (λ n. errs ≡ device_line ++ bytes n) → Begins a b errs → (x : List ℕ) × IsRight x × Begins a b (device_line ++ x)
+device_noted bytes IsRight (Ok n) errs a b ok plain is h = (bytes n, plain, subst (λ (l : List ℕ). Begins a b l) is h)
+device_noted bytes IsRight (Err e) errs a b ok plain is h = absurd (never ok)
   where
     never : false ≡ true → ⊥
     never e = cc
@@ -56,10 +56,10 @@ pub nothing_begun : (known : Option (List ℕ)) (text : List ℕ) → Begins kno
 nothing_begun known text = (0, appends_nothing known)
 
 -- what is told with the explanation that could be had
-pub told_note : {N F : Type 0} (bytes : N → List ℕ) (explains : Bool) (note : Result N F) (text errs : List ℕ) → IsOk note → IfOk note (λ n. IsNote explains (bytes n)) →
-    IfOk note (λ n. errs ≡ text ++ bytes n) → (x : List ℕ) × IsNote explains x × (errs ≡ text ++ x)
-told_note bytes explains (Ok n) text errs ok plain is = (bytes n, plain, is)
-told_note bytes explains (Err e) text errs ok plain is = absurd (never ok)
+pub told_note : {N F : Type 0} (bytes : N → List ℕ) (IsRight : List ℕ → Type 0) (note : Result N F) (text errs : List ℕ) → IsOk note → IfOk note (λ n. IsRight (bytes n)) →
+    IfOk note (λ n. errs ≡ text ++ bytes n) → (x : List ℕ) × IsRight x × (errs ≡ text ++ x)
+told_note bytes IsRight (Ok n) text errs ok plain is = (bytes n, plain, is)
+told_note bytes IsRight (Err e) text errs ok plain is = absurd (never ok)
   where
     never : false ≡ true → ⊥
     never e = cc

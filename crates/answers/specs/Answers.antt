@@ -4,6 +4,9 @@ use Rattle.std.specs.declared.io.ErrorKind.{ErrorKind}
 use Rattle.std.specs.declared.io.ErrorKind.TheVariants.{OutOfMemory as NoMemory}
 use Rattle.ownership_rules.specs.Refusal as rules
 use Rattle.ownership_rules.specs.declared.refusal.Refusal.{Refusal}
+use Rattle.rule_pages.specs.Subjects as subjects
+use Rattle.rule_pages.specs.declared.subject.Subject.{Subject}
+use Rattle.rule_pages.specs.declared.subject.Subject.TheVariants.{Harm}
 use Rattle.trace_reader.specs.Faults.{fault_number, fault_name}
 use Rattle.trace_reader.specs.Values.{block_of}
 use Rattle.trace_reader.specs.declared.fault.ReadFault.{ReadFault}
@@ -32,7 +35,7 @@ status_of (Decoded block) = Clean
 status_of (Replayed seen ending) = end_status ending
 status_of (Verified holds) = if holds then Clean else Unclean
 status_of (Scheduled schedule) = Clean
-status_of (Explained rule page) = Clean
+status_of (Explained subject page) = Clean
 status_of (Shown page) = Clean
 status_of (Refused row refusal) = Unclean
 status_of (HarmShown row refusal harm) = Unclean
@@ -64,9 +67,14 @@ memory_line = codes "xhcitrace: 30 Memory\n"
 abbrev pub device_line : List ℕ
 device_line = codes "xhcitrace: 31 Device\n"
 
--- the page on a rule: its number and name stand before it
-abbrev pub page_text : Refusal → List ℕ → List ℕ
-page_text rule page = decimal (rules.number_of rule) ++ codes " " ++ rules.name_of rule ++ codes ": " ++ page
+-- a page behind a number and a name
+abbrev pub numbered_page : ℕ → List ℕ → List ℕ → List ℕ
+numbered_page number name page = decimal number ++ codes " " ++ name ++ codes ": " ++ page
+
+-- a page: its number and name stand before it; on a harm the word and the number, as they are printed
+abbrev pub page_text : Subject → List ℕ → List ℕ
+page_text (Harm harm) page = subjects.name_of (Harm harm) ++ codes ": " ++ page
+page_text subject page = numbered_page (subjects.number_of subject) (subjects.name_of subject) page
 
 -- which rows may be asked for
 abbrev pub range_text : ℕ → ℕ → List ℕ
@@ -91,7 +99,7 @@ text_of (Decoded block) = decoded_text block ++ 10 ∷ []
 text_of (Replayed seen ending) = replay_text seen.items ending
 text_of (Verified holds) = if holds then codes "yes\n" else codes "no\n"
 text_of (Scheduled schedule) = schedule.items
-text_of (Explained rule page) = page_text rule page.now
+text_of (Explained subject page) = page_text subject page.now
 text_of (Shown page) = page.items
 text_of (Refused row refusal) = refused_text row refusal
 text_of (HarmShown row refusal harm) = refused_text row refusal ++ harm_text harm
@@ -137,11 +145,11 @@ abbrev pub answer_of_kind : ErrorKind → Answer
 answer_of_kind NoMemory = Memory
 answer_of_kind _ = Device
 
--- an answer to the question for a rule is right: the page on that rule; or memory failed
-abbrev pub IsPageAnswer : Refusal → Answer → Type 0
-IsPageAnswer rule (Explained explained page) = explained ≡ rule
-IsPageAnswer rule Memory = Unit {0}
-IsPageAnswer rule _ = ⊥
+-- an answer to the question for a page is right: the page on that; or memory failed
+abbrev pub IsPageAnswer : Subject → Answer → Type 0
+IsPageAnswer subject (Explained explained page) = explained ≡ subject
+IsPageAnswer subject Memory = Unit {0}
+IsPageAnswer subject _ = ⊥
 
 -- an answer to four words is right: the block that they spell, or that one of them is no word; or that memory or the device failed
 abbrev pub IsBlockAnswer : List ℕ → List ℕ → List ℕ → List ℕ → Answer → Type 0

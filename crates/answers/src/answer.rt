@@ -1,6 +1,6 @@
 //! What is answered, its text, and the exit status that goes with it.
 ghost use Rattle.std.specs.Prelude.{◌≡◌, ◌++◌, ◌∷◌, [], IfOk, IsOk, OnOk, codes, decimal, max, string_bytes};
-ghost use Rattle.answers.specs.Answers.{exit_number, harm_text, page_text, range_text, refused_text, status_of, text_of};
+ghost use Rattle.answers.specs.Answers.{exit_number, harm_text, numbered_page, page_text, range_text, refused_text, status_of, text_of};
 
 use crate::decode::line_of;
 use crate::replay_lines::{ReplayEnd, replay_text};
@@ -8,6 +8,7 @@ use certificate::CertFault;
 use controller_model::Seen;
 use ownership_rules::Refusal;
 use plan_writer::{PlanFault, PlanRefusal};
+use rule_pages::Subject;
 use std::alloc::{AllocError, Global};
 use std::io;
 use trace_reader::{LineFault, ReadFault, StreamFault};
@@ -42,9 +43,9 @@ pub enum Answer {
     Scheduled {
         schedule: Vec<u8>,
     },
-    /// The page on a rule.
+    /// A page on a rule, on what is wrong with a file, or on a harm.
     Explained {
-        rule: Refusal,
+        subject: Subject,
         page: &'static str,
     },
     /// What is known, and who owns what, before a row of a trace, as a page of text.
@@ -160,13 +161,23 @@ fn named(alloc: Global, number: u8, name: &str) -> Result<String, AllocError>
     format!(in alloc; "xhcitrace: {number} {name}")
 }
 
-/// The page on a rule, its number and name before it.
-fn headed_page(alloc: Global, rule: Refusal, page: &str) -> Result<Vec<u8>, AllocError>
-    ensures { IfOk result (λ text. text.items ≡ page_text rule page.now) }
+/// A page, its number and name before it; on a harm the word and the number, as they are printed.
+fn headed_page(alloc: Global, subject: Subject, page: &str) -> Result<Vec<u8>, AllocError>
+    ensures { IfOk result (λ text. text.items ≡ page_text subject page.now) }
 {
-    let number = rule.number();
-    let text = format!(in alloc; "{number} {rule}: {page}")?;
+    let name = subject.name();
+    let text = match subject {
+        Subject::Harm(_) => format!(in alloc; "{name}: {page}")?,
+        _ => numbered_page(alloc, subject.number(), name, page)?,
+    };
     Ok(text.into_bytes())
+}
+
+/// A page, a number and a name before it.
+fn numbered_page(alloc: Global, number: u8, name: &str, page: &str) -> Result<String, AllocError>
+    ensures { IfOk result (λ text. string_bytes text ≡ numbered_page number name.now page.now) }
+{
+    format!(in alloc; "{number} {name}: {page}")
 }
 
 /// Which rows may be asked for.
@@ -265,7 +276,7 @@ impl Answer {
                 Vec::from_slice(alloc, word)
             }
             Answer::Scheduled { schedule } => Ok(schedule),
-            Answer::Explained { rule, page } => headed_page(alloc, rule, page),
+            Answer::Explained { subject, page } => headed_page(alloc, subject, page),
             Answer::Shown { page } => Ok(page),
             Answer::Refused { row, refusal } => refused_line(alloc, row, refusal),
             Answer::HarmShown { row, refusal, harm } => {

@@ -36,7 +36,7 @@ pub fn run_decode<O: Write, E: Write>(
     ensures err { explains ≡ false → goes_out result ≡ true → err.new ≡ err.old }
 {
     let answer = block_answer(words);
-    let note = note_on_words(alloc, explains, words);
+    let note = note_on_words(alloc, explains, words, &answer);
     tell(alloc, explains, answer, note, out, err)
 }
 

@@ -2,11 +2,12 @@
 ghost use Rattle.std.specs.Io.KnownBytes.{Appends};
 ghost use Rattle.std.specs.IoError.{error_kind};
 ghost use Rattle.std.specs.Prelude.{◌≡◌, ◌++◌, ◌⊎◌, [], ℕ, List, false, true, OnOk, IfOk, IsOk, codes, string_bytes};
+ghost use Rattle.std.specs.declared.io.ErrorKind.TheVariants.{BrokenPipe};
 ghost use Rattle.answers.specs.Answers.{answer_of_kind, device_line, err_text, goes_out, memory_line, out_text, status_of};
-ghost use Rattle.answers.specs.Telling.{Begins, IsNote, IsTold, IsToldOf, IsWritten, named_err, named_out};
+ghost use Rattle.answers.specs.Telling.{Begins, IsNote, IsPlainNote, IsTold, IsToldOf, IsWritten, named_err, named_out};
 
 use crate::answer::{Answer, DEVICE_LINE, MEMORY_LINE, Status};
-use crate::explain::{Asked, note_on_failure};
+use crate::explain::{Asked, failure_note, note_on_failure};
 use std::alloc::{AllocError, Global};
 use std::io::{self, ErrorKind, Write};
 
@@ -82,28 +83,25 @@ fn lines_of(
     }
 }
 
-/// Why standard output failed, where explanations are asked for.
-fn output_note(alloc: Global, explains: bool, error: io::Error) -> Result<String, AllocError>
-    ensures { IfOk result (λ note. IsNote explains (string_bytes note)) }
+/// Why standard output failed.
+fn output_note(alloc: Global, error: io::Error) -> Result<String, AllocError>
+    ensures { IfOk result (λ note. IsPlainNote Answer.Device (string_bytes note)) }
 {
-    if explains {
-        format!(in alloc; "xhcitrace: standard output: {error}\n")
-    } else {
-        Ok(String::new(alloc))
-    }
+    let note = failure_note(alloc, "standard output", error)?;
+    Ok(note)
 }
 
-/// Tells that standard output failed; where that fails too, the status alone tells of it.
-fn tell_output_failure<E: Write>(
-    alloc: Global,
-    explains: bool,
-    error: io::Error,
-    err: &mut E,
-) -> Status
+/// Tells that standard output failed, and why; where that fails too, the status alone tells of it. A pipe that nobody reads any more is
+/// no failure that somebody has to be told of: there the status alone tells of it.
+fn tell_output_failure<E: Write>(alloc: Global, error: io::Error, err: &mut E) -> Status
     ensures status { result ≡ Status.Unanswered }
-    ensures told { (note : List ℕ) × IsNote explains note × Begins (E.contents err.old) (E.contents err.new) (device_line ++ note) }
+    ensures told { (note : List ℕ) × IsPlainNote Answer.Device note × Begins (E.contents err.old) (E.contents err.new) (device_line ++ note) }
+    ensures quiet { error_kind error ≡ BrokenPipe → err.new ≡ err.old }
 {
-    let note = output_note(alloc, explains, error);
+    if error.kind() == ErrorKind::BrokenPipe {
+        return Status::Unanswered;
+    }
+    let note = output_note(alloc, error);
     let written = match lines_of(alloc, Answer::Device, note) {
         Ok(lines) => write_whole(&lines.err, err),
         Err(_) => write_whole(DEVICE_LINE.as_bytes(), err),
@@ -115,18 +113,17 @@ fn tell_output_failure<E: Write>(
 /// Writes the texts for the two streams, and says how the program ends.
 fn write_lines<O: Write, E: Write>(
     alloc: Global,
-    explains: bool,
     status: Status,
     lines: &Lines,
     out: &mut O,
     err: &mut E,
 ) -> Status
-    ensures written { IsWritten explains status lines.now.out.items lines.now.err.items result (O.contents out.old) (O.contents out.new) (E.contents err.old) (E.contents err.new) }
+    ensures written { IsWritten status lines.now.out.items lines.now.err.items result (O.contents out.old) (O.contents out.new) (E.contents err.old) (E.contents err.new) }
     ensures out { lines.now.out.items ≡ [] → out.new ≡ out.old }
     ensures err { lines.now.err.items ≡ [] → (result ≡ Status.Unanswered) ⊎ (err.new ≡ err.old) }
 {
     if let Err(error) = write_whole(&lines.out, out) {
-        return tell_output_failure(alloc, explains, error, err);
+        return tell_output_failure(alloc, error, err);
     }
     match write_whole(&lines.err, err) {
         Ok(()) => status,
@@ -153,7 +150,7 @@ pub fn tell<O: Write, E: Write>(
     out: &mut O,
     err: &mut E,
 ) -> Status
-    requires { IfOk note (λ n. IsNote explains (string_bytes n)) }
+    requires { IfOk note (λ n. IsNote explains answer (string_bytes n)) }
     ensures told { IsTold explains answer result (O.contents out.old) (O.contents out.new) (E.contents err.old) (E.contents err.new)
         ⊎ IsTold explains Answer.Memory result (O.contents out.old) (O.contents out.new) (E.contents err.old) (E.contents err.new) }
     ensures out { goes_out (status_of answer) ≡ false → out.new ≡ out.old }
@@ -161,12 +158,12 @@ pub fn tell<O: Write, E: Write>(
 {
     let status = answer.status();
     match lines_of(alloc, answer, note) {
-        Ok(lines) => write_lines(alloc, explains, status, &lines, out, err),
+        Ok(lines) => write_lines(alloc, status, &lines, out, err),
         Err(_) => tell_memory(err),
     }
 }
 
-/// Tells that an input can't be opened or read, and says how the program ends.
+/// Tells which input can't be opened or read, and why, and says how the program ends.
 pub fn tell_failure<O: Write, E: Write>(
     alloc: Global,
     asked: &Asked,
@@ -232,7 +229,7 @@ pub fn tell_named<O: Write, E: Write>(
     out: &mut O,
     err: &mut E,
 ) -> io::Result<Status>
-    requires { IfOk note (λ n. IsNote asked.now.explains (string_bytes n)) }
+    requires { IfOk note (λ n. IsNote asked.now.explains answer (string_bytes n)) }
     ensures { IsToldOf asked.now.input.now asked.now.explains answer result (O.contents out.old) (O.contents out.new) (E.contents err.old) (E.contents err.new) }
 {
     let status = answer.status();

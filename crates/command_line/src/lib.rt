@@ -8,8 +8,7 @@ ghost use Rattle.std.specs.Prelude.{◌≡◌, ◌≢◌, ◌⊎◌, ℕ, List, 
 use answers::BlockWords;
 use clap::error::ErrorKind;
 use clap::{Arg, ArgAction, ArgMatches, Command, Error};
-use ownership_rules::Refusal;
-use rule_pages::rule_called;
+use rule_pages::{Subject, subject_called};
 use std::alloc::{AllocError, Global};
 
 const STATUSES: &str = "\
@@ -22,7 +21,10 @@ Exit status:
      certificate isn't the trace's
   2  a line is no line of a trace, a plan or a schedule (xhcitrace: line L: C Name), a file is no certificate, a word is no
      number, a row can't be shown, or the arguments are wrong
-  3  memory is wanted (xhcitrace: 30 Memory), or a file can't be opened, read or written (xhcitrace: 31 Device)";
+  3  memory is wanted (xhcitrace: 30 Memory), or a file can't be opened, read or written (xhcitrace: 31 Device, and behind it a
+     line that names the file)
+
+`xhcitrace explain` has a page on each number that is printed.";
 
 const CHECK: &str = "\
 Prints `accepted: N leases`, status 0, or the first row that breaks a rule of ownership as `row R: C Name`, status 1; on
@@ -94,12 +96,14 @@ Example:
   xhcitrace decode 00030000 00000000 01000000 01018001";
 
 const EXPLAIN: &str = "\
-Prints what the rule is for, what a controller does to a driver that breaks it, what to write instead, and a trace that breaks
-it, status 0; else status 3. The rules have the numbers 10 to 25 and 32 to 35.
+Prints a page, status 0; else status 3. Of a rule (10 to 25 and 32 to 35) it tells what that is for, what a controller does to a
+driver that breaks it, what to write instead, and a trace that breaks it; of what is wrong with a text (1 to 5), a certificate
+(6 to 8), a plan (26), memory (30) or a file (31), and of a harm (harm-1 to harm-6), what is meant and what to do.
 
 Examples:
   xhcitrace explain 13
-  xhcitrace explain WriteToOwned";
+  xhcitrace explain WriteToOwned
+  xhcitrace explain harm-2";
 
 /// What the program can be asked for.
 pub fn command<'a>(alloc: Global) -> Result<Command<'a>, AllocError> {
@@ -115,7 +119,7 @@ pub fn command<'a>(alloc: Global) -> Result<Command<'a>, AllocError> {
         .subcommand(show(alloc)?)?
         .subcommand(write(alloc)?)?
         .subcommand(decode(alloc)?)?
-        .subcommand(tell_rule(alloc)?)
+        .subcommand(tell_page(alloc)?)
 }
 
 fn check<'a>(alloc: Global) -> Result<Command<'a>, AllocError> {
@@ -205,20 +209,23 @@ fn decode<'a>(alloc: Global) -> Result<Command<'a>, AllocError> {
         .arg(explain(alloc))
 }
 
-fn tell_rule<'a>(alloc: Global) -> Result<Command<'a>, AllocError> {
+fn tell_page<'a>(alloc: Global) -> Result<Command<'a>, AllocError> {
     Command::new(alloc, "explain")
-        .about("Explains a rule, with a trace that breaks it")
+        .about("Explains a rule, or another number that is printed")
         .after_help(EXPLAIN)
         .arg(needed(
             alloc,
-            "RULE",
-            "Its number or its name, in upper or lower case",
+            "NUMBER",
+            "The number, or the name behind it in upper or lower case; a harm's is harm-1 to harm-6",
         ))
 }
 
 /// What is told of arguments that aren't text.
 pub fn not_text(alloc: Global) -> Result<Error, AllocError> {
-    command(alloc)?.error(ErrorKind::InvalidValue, "an argument isn't UTF-8")
+    command(alloc)?.error(
+        ErrorKind::InvalidValue,
+        "an argument isn't UTF-8: a file with such a name is read on standard input, as in xhcitrace check - <FILE",
+    )
 }
 
 /// What is told where the certificate of several traces is asked for.
@@ -237,11 +244,11 @@ pub fn one_shown(alloc: Global) -> Result<Error, AllocError> {
     )
 }
 
-/// What is told where a word is asked for that is no rule.
-pub fn no_rule(alloc: Global) -> Result<Error, AllocError> {
+/// What is told where a word is asked for on which there is no page.
+pub fn no_page(alloc: Global) -> Result<Error, AllocError> {
     command(alloc)?.error(
         ErrorKind::InvalidValue,
-        "there is no such rule: a rule has a number from 10 to 25 or from 32 to 35, or a name as WriteToOwned",
+        "there is no such page: there are those on 1 to 8, 10 to 26 and 30 to 35, by name too, as WriteToOwned, and on harm-1 to harm-6",
     )
 }
 
@@ -341,11 +348,11 @@ pub fn block_words<'a>(decode: &ArgMatches<'a>) -> Option<BlockWords<'a>>
     })
 }
 
-/// The rule that is to be explained, where the word is one.
-pub fn rule(explain: &ArgMatches) -> Option<Refusal>
-    ensures { IfSome result (λ rule. (word : List ℕ) × (Some word ≡ first_value (found_of explain.now) (codes "RULE")) × IsCalled rule word) }
+/// What is to be explained, where there is a page on the word.
+pub fn subject(explain: &ArgMatches) -> Option<Subject>
+    ensures { IfSome result (λ subject. (word : List ℕ) × (Some word ≡ first_value (found_of explain.now) (codes "NUMBER")) × IsCalled subject word) }
 {
-    rule_called(explain.get_str("RULE")?)
+    subject_called(explain.get_str("NUMBER")?)
 }
 
 /// The file that is named so, where there is one and it isn't standard input.

@@ -9,6 +9,9 @@ use crate::source::{line_at, quote};
 use std::alloc::{AllocError, Global};
 use trace_reader::LineFault;
 
+/// What some editors write before a text.
+const BYTE_ORDER_MARK: &[u8] = b"\xef\xbb\xbf";
+
 /// Why a line is bad.
 #[derive(Drop)]
 pub(crate) struct Why {
@@ -146,6 +149,11 @@ fn condition(
         );
     }
     match fault {
+        LineFault::Header if bytes.starts_with(BYTE_ORDER_MARK) => Why::plain(
+            alloc,
+            "a byte order mark stands before the first word",
+            "save the file as UTF-8 without a byte order mark",
+        ),
         LineFault::Header => header_fault(alloc, text, bytes, line, kind),
         LineFault::Row => row_fault(alloc, text, bytes, line, kind),
         LineFault::Number => number_fault(alloc, bytes),

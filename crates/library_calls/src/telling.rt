@@ -67,7 +67,7 @@ impl Write for Interrupted {
     }
 }
 
-const DEVICE: &str = "xhcitrace: 31 Device\n";
+const DEVICE: &str = "xhcitrace: 31 Device\nxhcitrace: standard output: no storage space\n";
 
 const WORDS: BlockWords<'static> = BlockWords {
     first: "00030000",
@@ -125,6 +125,28 @@ fn tells_of_a_writer_that_fails(rt: HostRuntime) {
     assert_eq!(rt; status, Status::Unanswered);
     assert_eq!(rt; out.writes, 0);
     assert_eq!(rt; err.writes, 1);
+}
+
+/// A pipe that nobody reads any more.
+#[derive(Drop)]
+struct Unread;
+
+impl Write for Unread {
+    fn write(&mut self, _buf: &[u8]) -> io::Result<usize> {
+        Err(io::ErrorKind::BrokenPipe.into())
+    }
+
+    fn flush(&mut self) -> io::Result<()> {
+        Ok(())
+    }
+}
+
+#[test]
+fn is_quiet_where_nobody_reads(rt: HostRuntime) {
+    let mut err = writer_of(&rt, 1000, true);
+    let status = run_decode(rt.alloc(), true, &WORDS, &mut Unread, &mut err);
+    assert_eq!(rt; status, Status::Unanswered);
+    assert_eq!(rt; err.writes, 0);
 }
 
 /// No lease: eight bytes that name the format.

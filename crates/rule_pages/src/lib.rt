@@ -1,9 +1,15 @@
-//! A page on each rule for the author of a driver: what it is for, what a controller does to a driver that breaks it, what to write
-//! instead, and a trace that breaks it.
+//! A page for the author of a driver on each number that the program prints. On a rule: what it is for, what a controller does to a driver
+//! that breaks it, what to write instead, and a trace that breaks it. On what is wrong with a file, and on the harms: what is meant, and
+//! what to do.
 #![tactic(auto)]
 
+mod choice;
+mod faults;
+mod harms;
 mod naming;
-mod pages;
+mod rules;
+mod subject;
 
-pub use naming::rule_called;
-pub use pages::page;
+pub use choice::page;
+pub use naming::subject_called;
+pub use subject::Subject;

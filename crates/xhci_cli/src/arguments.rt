@@ -1,8 +1,8 @@
 //! Arguments that are right one by one, and not together.
 use clap::{ArgMatches, Error};
 use command_line::{
-    is_read_twice, no_rule, one_certificate, one_shown, over_the_trace, path, paths, read_twice,
-    rule,
+    is_read_twice, no_page, one_certificate, one_shown, over_the_trace, path, paths, read_twice,
+    subject,
 };
 use std::fs::{self, Metadata};
 use std::io::{self, ErrorKind};
@@ -18,7 +18,7 @@ pub fn wrong_arguments(rt: &HostRuntime, matches: &ArgMatches) -> io::Result<Opt
         return Ok(Some(read_twice(alloc)?));
     }
     match matches.subcommand_matches("explain") {
-        Some(explain) if rule(explain).is_none() => Ok(Some(no_rule(alloc)?)),
+        Some(explain) if subject(explain).is_none() => Ok(Some(no_page(alloc)?)),
         _ => Ok(None),
     }
 }

@@ -58,7 +58,7 @@ fn judged<R: Read + Seek + Drop, C: Write>(
     certificate: &mut Option<C>,
 ) -> Judged
     ensures right { IsCheckAnswer (is_some shows) (is_some shows) C.contents certificate.old certificate.new (R.remaining input) result.answer }
-    ensures noted { IfOk result.note (λ note. IsNote asked.now.explains (string_bytes note)) }
+    ensures noted { IfOk result.note (λ note. IsNote asked.now.explains result.answer (string_bytes note)) }
 {
     match shows {
         Some(search) => judged_with_harm(alloc, asked, search, input, certificate),
@@ -74,7 +74,7 @@ fn judged_as_read<R: Read + Seek + Drop, C: Write>(
     certificate: &mut Option<C>,
 ) -> Judged
     ensures right { IsCheckAnswer false false C.contents certificate.old certificate.new (R.remaining input) result.answer }
-    ensures noted { IfOk result.note (λ note. IsNote asked.now.explains (string_bytes note)) }
+    ensures noted { IfOk result.note (λ note. IsNote asked.now.explains result.answer (string_bytes note)) }
 {
     let mut source = Recorded::new(alloc, input, asked.explains);
     match answer_as_read(alloc, &mut source, certificate) {

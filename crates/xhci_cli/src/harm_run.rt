@@ -29,7 +29,7 @@ pub fn judged_with_harm<R: Read + Drop, C: Write>(
     certificate: &mut Option<C>,
 ) -> Judged
     ensures right { IsCheckAnswer true true C.contents certificate.old certificate.new (R.remaining input) result.answer }
-    ensures noted { IfOk result.note (λ note. IsNote asked.now.explains (string_bytes note)) }
+    ensures noted { IfOk result.note (λ note. IsNote asked.now.explains result.answer (string_bytes note)) }
 {
     let text = match bytes_of(alloc, Ok(input)) {
         Ok(text) => text,

@@ -18,7 +18,7 @@ pub struct Judged {
 /// That an input can't be read.
 pub fn unread(alloc: Global, asked: &Asked, error: io::Error) -> Judged
     ensures answer { result.answer ≡ answer_of_kind (error_kind error) }
-    ensures noted { IfOk result.note (λ note. IsNote asked.now.explains (string_bytes note)) }
+    ensures noted { IfOk result.note (λ note. IsNote asked.now.explains result.answer (string_bytes note)) }
 {
     Judged {
         answer: Answer::from(error),
@@ -29,7 +29,7 @@ pub fn unread(alloc: Global, asked: &Asked, error: io::Error) -> Judged
 /// That a certificate can't be written.
 pub fn unkept(alloc: Global, asked: &Asked, error: io::Error) -> Judged
     ensures answer { result.answer ≡ answer_of_kind (error_kind error) }
-    ensures noted { IfOk result.note (λ note. IsNote asked.now.explains (string_bytes note)) }
+    ensures noted { IfOk result.note (λ note. IsNote asked.now.explains result.answer (string_bytes note)) }
 {
     let kept = Asked {
         input: "the certificate",

@@ -26,13 +26,13 @@ use answers::{Asked, Status, run_decode, run_explain, tell_failure};
 use arguments::wrong_arguments;
 use check_run::run_check;
 use clap::ArgMatches;
-use command_line::{block_words, path, paths, rule};
+use command_line::{block_words, path, paths, subject};
 use file_on_write::FileOnWrite;
 use inputs::Input;
-use ownership_rules::Refusal;
 use plan_run::run_write;
 use replay_run::run_replay;
 use replayer::Search;
+use rule_pages::Subject;
 use schedule_run::run_schedule;
 use several_run::run_check_named;
 use show_run::run_show;
@@ -45,28 +45,40 @@ use verify_run::run_verify;
 
 fn main(rt: HostRuntime) -> ExitCode {
     if let Err(error) = hold_streams(&rt) {
-        return failed(&rt, NULL, error);
+        return ended(failed(&rt, NULL, error));
     }
     match obey(&rt) {
         Ok(code) => code,
-        Err(error) => failed(&rt, "the command line", error),
+        Err(error) => ended(failed(&rt, "the command line", error)),
     }
 }
 
-/// Tells why the program couldn't begin.
-fn failed(rt: &HostRuntime, input: &str, error: io::Error) -> ExitCode {
+/// How the process ends.
+fn ended(status: Status) -> ExitCode {
+    ExitCode::from(status.number())
+}
+
+/// Tells what failed before an input was read, and why.
+fn failed(rt: &HostRuntime, input: &str, error: io::Error) -> Status {
     let asked = Asked {
         input,
         explains: rt.stderr().is_terminal(),
     };
-    let status = tell_failure(
+    tell_failure(
         rt.alloc(),
         &asked,
         error,
         &mut rt.stdout(),
         &mut rt.stderr(),
-    );
-    ExitCode::from(status.number())
+    )
+}
+
+/// Tells that standard output failed, and why; where nobody reads it any more the status alone tells of it.
+fn unwritten(rt: &HostRuntime, error: io::Error) -> Status {
+    if error.kind() == ErrorKind::BrokenPipe {
+        return Status::Unanswered;
+    }
+    failed(rt, "standard output", error)
 }
 
 /// Does what the command line says.
@@ -83,7 +95,7 @@ fn obey(rt: &HostRuntime) -> io::Result<ExitCode> {
     match command_line::command(alloc)?.try_get_matches_from(words.as_slice()) {
         Ok(matches) => match wrong_arguments(rt, &matches)? {
             Some(error) => usage(rt, error),
-            None => Ok(ExitCode::from(status_of(rt, &matches).number())),
+            None => Ok(ended(status_of(rt, &matches))),
         },
         Err(error) => usage(rt, error),
     }
@@ -94,8 +106,10 @@ fn usage(rt: &HostRuntime, error: clap::Error) -> io::Result<ExitCode> {
     if error.kind() == clap::error::ErrorKind::OutOfMemory {
         return Err(AllocError.into());
     }
-    error.print(rt)?;
-    Ok(ExitCode::from(error.exit_code() as u8))
+    match error.print(rt) {
+        Ok(()) => Ok(ExitCode::from(error.exit_code() as u8)),
+        Err(failure) => Ok(ended(unwritten(rt, failure))),
+    }
 }
 
 /// Runs the command that is asked for, by default `check` on standard input.
@@ -113,8 +127,8 @@ fn status_of(rt: &HostRuntime, matches: &ArgMatches) -> Status {
         }
     }
     if let Some(explain) = matches.subcommand_matches("explain") {
-        if let Some(rule) = rule(explain) {
-            return page_at(rt, rule);
+        if let Some(subject) = subject(explain) {
+            return page_at(rt, subject);
         }
     }
     if let Some(write) = matches.subcommand_matches("write") {
@@ -176,19 +190,7 @@ fn check_each(rt: &HostRuntime, paths: &[&str], explains: bool) -> Status {
     for path in paths {
         match check_named(rt, path, explains) {
             Ok(status) => worst = worst.worse(status),
-            Err(error) => {
-                let asked = Asked {
-                    input: "standard output",
-                    explains,
-                };
-                return tell_failure(
-                    rt.alloc(),
-                    &asked,
-                    error,
-                    &mut rt.stdout(),
-                    &mut rt.stderr(),
-                );
-            }
+            Err(error) => return unwritten(rt, error),
         }
     }
     worst
@@ -233,13 +235,13 @@ fn check_at(
     )
 }
 
-/// Writes the page on a rule.
-fn page_at(rt: &HostRuntime, rule: Refusal) -> Status {
+/// Writes the page on a rule, or on another number that is printed.
+fn page_at(rt: &HostRuntime, subject: Subject) -> Status {
     let explains = rt.stderr().is_terminal();
     run_explain(
         rt.alloc(),
         explains,
-        rule,
+        subject,
         &mut rt.stdout(),
         &mut rt.stderr(),
     )

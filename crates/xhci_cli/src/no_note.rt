@@ -19,7 +19,7 @@ pub fn note_on_verdict(
     text: &[u8],
     answer: &Answer,
 ) -> Result<String, AllocError>
-    ensures { IfOk result (λ note. IsNote asked.now.explains (string_bytes note)) }
+    ensures { IfOk result (λ note. IsNote asked.now.explains answer.now (string_bytes note)) }
 {
     match answer {
         Answer::Verified { holds: false } => {}
@@ -31,10 +31,11 @@ pub fn note_on_verdict(
     let mut source = Counted::new(text);
     match check_stream(alloc, true, &mut source, PageMemory::new(alloc)) {
         Ok(own) if own.leases.as_slice() == leases => Ok(String::new(alloc)),
-        Ok(own) => note_on_leases(alloc, asked, leases, &own.leases),
+        Ok(own) => note_on_leases(alloc, asked, leases, &own.leases, answer),
         Err(StreamCheckFault::Refused { row, refusal }) => {
             let refused = Answer::Refused { row, refusal };
-            note_on_check(alloc, asked, text, &refused)
+            let note = note_on_check(alloc, asked, text, &refused)?;
+            Ok(note)
         }
         Err(StreamCheckFault::Unread(StreamFault::Memory)) => Err(AllocError),
         Err(StreamCheckFault::Unread(_)) => Ok(String::new(alloc)),

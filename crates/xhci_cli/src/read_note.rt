@@ -22,17 +22,15 @@ pub fn note_as_read<R: Read + Seek + Drop>(
     input: Recorded<R>,
     answer: &Answer,
 ) -> Result<String, AllocError>
-    ensures { IfOk result (λ note. IsNote asked.now.explains (string_bytes note)) }
+    ensures { IfOk result (λ note. IsNote asked.now.explains answer.now (string_bytes note)) }
 {
-    if !asked.explains {
-        return Ok(String::new(alloc));
-    }
     match answer {
-        Answer::Verified { holds: true } | Answer::Memory => Ok(String::new(alloc)),
         Answer::Device => match input.into_error() {
             Some(error) => note_on_failure(alloc, asked, error),
             None => Ok(String::new(alloc)),
         },
+        Answer::Verified { holds: true } | Answer::Memory => Ok(String::new(alloc)),
+        _ if !asked.explains => Ok(String::new(alloc)),
         // want of memory changes no `accepted`
         Answer::Accepted { .. } => match note_on_lines(alloc, asked, leases, input, answer) {
             Ok(note) => Ok(note),
@@ -51,7 +49,7 @@ fn note_on_lines<R: Read + Seek + Drop>(
     answer: &Answer,
 ) -> Result<String, AllocError>
     requires { asked.now.explains ≡ true }
-    ensures { IfOk result (λ note. IsNote asked.now.explains (string_bytes note)) }
+    ensures { IfOk result (λ note. IsNote asked.now.explains answer.now (string_bytes note)) }
 {
     let line = last_line(answer);
     if line > MOST_LINES + 1 {

@@ -33,7 +33,7 @@ pub fn run_check_named<R: Read + Seek + Drop, O: Write, E: Write>(
 /// Judges the trace that an input holds, as it is read.
 fn judged_alone<R: Read + Seek + Drop>(alloc: Global, asked: &Asked, input: io::Result<R>) -> Judged
     ensures right { IsTraceAnswer false IsVerdictAlone (opened R.remaining input) result.answer }
-    ensures noted { IfOk result.note (λ note. IsNote asked.now.explains (string_bytes note)) }
+    ensures noted { IfOk result.note (λ note. IsNote asked.now.explains result.answer (string_bytes note)) }
 {
     match input {
         Ok(input) => {

@@ -20,7 +20,7 @@ pub(crate) fn note_on_check(
     text: &[u8],
     answer: &Answer,
 ) -> Result<String, AllocError>
-    ensures { IfOk result (λ note. IsNote asked.now.explains (string_bytes note)) }
+    ensures { IfOk result (λ note. IsNote asked.now.explains answer.now (string_bytes note)) }
 {
     let mut note = note_on_trace(alloc, asked, text, answer)?;
     if !asked.explains {

@@ -1,7 +1,9 @@
 //! Second lines on standard error: in plain words what is wrong, for a person.
 ghost use Rattle.std.specs.Prelude.{IfOk, string_bytes};
 ghost use Rattle.traces.specs.Header.{IsHeader};
-ghost use Rattle.answers.specs.Telling.{IsNote};
+ghost use Rattle.std.specs.IoError.{error_kind};
+ghost use Rattle.answers.specs.Answers.{answer_of_kind};
+ghost use Rattle.answers.specs.Telling.{IsNote, IsNoteOnFailure, IsPlainNote, IsReason};
 
 mod certificates;
 mod harms;
@@ -40,7 +42,7 @@ pub fn note_on_trace(
     text: &[u8],
     answer: &Answer,
 ) -> Result<String, AllocError>
-    ensures { IfOk result (λ note. IsNote asked.now.explains (string_bytes note)) }
+    ensures { IfOk result (λ note. IsNote asked.now.explains answer.now (string_bytes note)) }
 {
     if !asked.explains {
         return Ok(String::new(alloc));
@@ -68,7 +70,7 @@ pub fn note_on_plan(
     text: &[u8],
     answer: &Answer,
 ) -> Result<String, AllocError>
-    ensures { IfOk result (λ note. IsNote asked.now.explains (string_bytes note)) }
+    ensures { IfOk result (λ note. IsNote asked.now.explains answer.now (string_bytes note)) }
 {
     if !asked.explains {
         return Ok(String::new(alloc));
@@ -106,7 +108,7 @@ pub fn note_on_schedule(
     answer: &Answer,
 ) -> Result<String, AllocError>
     requires { IsHeader header.now }
-    ensures { IfOk result (λ note. IsNote asked.now.explains (string_bytes note)) }
+    ensures { IfOk result (λ note. IsNote asked.now.explains answer.now (string_bytes note)) }
 {
     if !asked.explains {
         return Ok(String::new(alloc));
@@ -140,7 +142,7 @@ pub fn note_on_certificate(
     bytes: &[u8],
     answer: &Answer,
 ) -> Result<String, AllocError>
-    ensures { IfOk result (λ note. IsNote asked.now.explains (string_bytes note)) }
+    ensures { IfOk result (λ note. IsNote asked.now.explains answer.now (string_bytes note)) }
 {
     if !asked.explains {
         return Ok(String::new(alloc));
@@ -151,14 +153,15 @@ pub fn note_on_certificate(
     }
 }
 
-/// What a person is told of a certificate that isn't the list of its trace's leases: the first that differs.
+/// What a person is told of the answer to a certificate that isn't the list of its trace's leases: the first that differs.
 pub fn note_on_leases(
     alloc: Global,
     asked: &Asked,
     given: &[Lease],
     own: &[Lease],
+    answer: &Answer,
 ) -> Result<String, AllocError>
-    ensures { IfOk result (λ note. IsNote asked.now.explains (string_bytes note)) }
+    ensures { IfOk result (λ note. IsNote asked.now.explains answer.now (string_bytes note)) }
 {
     if !asked.explains {
         return Ok(String::new(alloc));
@@ -166,15 +169,16 @@ pub fn note_on_leases(
     other_lease(alloc, given, own)
 }
 
-/// What a person is told of words that make no block.
+/// What a person is told of an answer to words, where these make no block.
 pub fn note_on_words(
     alloc: Global,
     explains: bool,
     words: &BlockWords,
+    answer: &Answer,
 ) -> Result<String, AllocError>
-    ensures { IfOk result (λ note. IsNote explains (string_bytes note)) }
+    ensures { IfOk result (λ note. IsNote explains answer.now (string_bytes note)) }
 {
-    if !explains {
+    if !explains || *answer != Answer::BadWord {
         return Ok(String::new(alloc));
     }
     for word in [words.first, words.second, words.third, words.fourth] {
@@ -185,13 +189,34 @@ pub fn note_on_words(
     Ok(String::new(alloc))
 }
 
-/// Why an input can't be opened or read, as the system says it; want of memory is told without.
+/// Which input or stream failed, and why, as the system says it; want of memory is told without.
 pub fn note_on_failure(alloc: Global, asked: &Asked, error: io::Error) -> Result<String, AllocError>
-    ensures { IfOk result (λ note. IsNote asked.now.explains (string_bytes note)) }
+    ensures named { IfOk result (λ note. IsNoteOnFailure asked.now.input.now (error_kind error) (string_bytes note)) }
+    ensures answered { IfOk result (λ note. IsNote asked.now.explains (answer_of_kind (error_kind error)) (string_bytes note)) }
+    ensures device { IfOk result (λ note. IsNote asked.now.explains Answer.Device (string_bytes note)) }
 {
-    if !asked.explains || error.kind() == io::ErrorKind::OutOfMemory {
-        return Ok(String::new(alloc));
+    let note = failure_note(alloc, asked.input, error)?;
+    Ok(note)
+}
+
+/// The same of an input or a stream of this name.
+pub(crate) fn failure_note(
+    alloc: Global,
+    name: &str,
+    error: io::Error,
+) -> Result<String, AllocError>
+    ensures { IfOk result (λ note. IsNoteOnFailure name.now (error_kind error) (string_bytes note)) }
+{
+    match error.kind() {
+        io::ErrorKind::OutOfMemory => Ok(String::new(alloc)),
+        _ => reason_line(alloc, name, error),
     }
-    let input = asked.input;
-    format!(in alloc; "xhcitrace: {input}: {error}\n")
+}
+
+/// What failed, and why.
+fn reason_line(alloc: Global, name: &str, error: io::Error) -> Result<String, AllocError>
+    ensures { IfOk result (λ note. IsReason name.now (string_bytes note)) }
+{
+    let reason = format!(in alloc; "{error}")?;
+    format!(in alloc; "xhcitrace: {name}: {reason}\n")
 }

@@ -1,4 +1,4 @@
-//! The texts of the pages.
+//! The texts of the pages on the rules.
 use ownership_rules::Refusal;
 
 const WRITE_TO_OWNED: &str = "\
@@ -711,7 +711,7 @@ A trace that breaks it
 
 /// The page on a rule, which its number and name stand before: a head line, what it is for, what a controller does to a driver that
 /// breaks it, what to write instead, and a trace whose last row breaks it, each line behind four spaces.
-pub fn page(rule: Refusal) -> &'static str {
+pub fn page_on_rule(rule: Refusal) -> &'static str {
     match rule {
         Refusal::WriteToOwned => WRITE_TO_OWNED,
         Refusal::NotAsSubmitted => NOT_AS_SUBMITTED,
