@@ -86,6 +86,7 @@ pub(crate) fn add_ring(
 }
 
 /// What of a ring isn't handed over though it is needed next.
+#[tactic(auto, unfolding(segments::specs::Ceiling::is_stop_spot))]
 pub fn missing_of(shape: &RingShape, known: &RingRecord) -> Option<Missing>
     ensures { (v : RingView) → FollowsRing shape.now v known.now → result ≡ missing shape.now v }
 {
