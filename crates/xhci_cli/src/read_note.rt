@@ -11,7 +11,10 @@ use ownership_checker::{Certificate, check_stream};
 use ring_knowledge::Lease;
 use std::alloc::{AllocError, Global};
 use std::io::{Read, Seek};
-use trace_reader::{Counted, MOST_LINES};
+use trace_reader::Counted;
+
+/// So many lines of a text are read once more for an explanation at most: with their rows they take some 1.5 GB.
+const MOST_EXPLAINED: u32 = 1 << 24;
 
 /// What a person is told of an answer to the trace that an input held; the leases are those of a certificate, where one is verified. A text
 /// that was too long to be kept is read once more.
@@ -49,21 +52,27 @@ fn note_on_lines<R: Read + Seek + Drop>(
     ensures { IfOk result (λ note. IsNote asked.now.explains answer.now (string_bytes note)) }
 {
     let line = last_line(answer);
-    if line > MOST_LINES + 1 {
+    if line > MOST_EXPLAINED + 1 {
         return too_far(alloc, asked, answer, line);
     }
     match explained_text(alloc, input, answer, line)? {
+        Some(text) if has_more_lines(&text) => too_far(alloc, asked, answer, MOST_EXPLAINED + 1),
         Some(text) => note_on_verdict(alloc, asked, leases, &text, answer),
         None => too_long(alloc, asked, answer),
     }
 }
 
-/// The line of which an answer speaks; else one more than are kept.
+/// Whether a text has more lines than it is explained from: then it is cut off.
+fn has_more_lines(text: &[u8]) -> bool {
+    text.iter().filter(|byte| **byte == b'\n').count() > MOST_EXPLAINED as usize
+}
+
+/// The line of which an answer speaks; else one more than a text is explained from.
 fn last_line(answer: &Answer) -> u32 {
     match answer {
         Answer::Refused { row, .. } | Answer::HarmShown { row, .. } => *row,
         Answer::BadLine { line, .. } => *line,
-        _ => MOST_LINES + 1,
+        _ => MOST_EXPLAINED + 1,
     }
 }
 
@@ -122,7 +131,7 @@ fn too_long(alloc: Global, asked: &Asked, answer: &Answer) -> Result<String, All
 fn too_far(alloc: Global, asked: &Asked, answer: &Answer, line: u32) -> Result<String, AllocError> {
     let input = asked.input;
     let mut note = format!(in alloc;
-        "xhcitrace: {input}: line {line} is behind the first {MOST_LINES}, and those alone are kept for an explanation"
+        "xhcitrace: {input}: line {line} is behind the first {MOST_EXPLAINED}, and those alone are kept for an explanation; tools/picture draws the rows before it"
     )?;
     if let Answer::Refused { refusal, .. } = answer {
         let number = refusal.number();
