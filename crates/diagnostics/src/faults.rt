@@ -446,7 +446,7 @@ fn too_many_lines(alloc: Global, text: &[u8], line: u32) -> Result<Why, AllocErr
         return Ok(Why {
             head: String::from_str(alloc, "a trace of version 1 or 2 has at most 1048576 lines")?,
             earlier: None,
-            note: Some("`check` and `verify` take up to 4294967294 lines of version 3"),
+            note: Some("`check`, `verify` and `show` take up to 4294967294 lines of version 3"),
             help: "begin the trace with `xtrace 3`, or take the first lines: head -n 1048576",
         });
     }
@@ -463,7 +463,9 @@ fn too_many_lines(alloc: Global, text: &[u8], line: u32) -> Result<Why, AllocErr
             "this command keeps all rows, and takes at most 1048576 lines",
         )?,
         earlier: None,
-        note: Some("`check` and `verify` keep none, and take up to 4294967294 lines of version 3"),
+        note: Some(
+            "`check`, `verify`, `show` and tools/picture take up to 4294967294 lines of version 3",
+        ),
         help: "take the first ones: head -n 1048576",
     })
 }

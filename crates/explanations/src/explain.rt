@@ -10,6 +10,7 @@ use commands::Command;
 use controller_findings::impossible_event;
 use diagnostics::{Diagnostic, Matter, quote};
 use guest_memory::Addr;
+use long_rows::LongRows;
 use move_findings::bad_move;
 use ownership_rules::Refusal;
 use ring_findings::{
@@ -18,12 +19,7 @@ use ring_findings::{
 };
 use row_history::{Case, Finding, command_at, general_head, known_after, line_of, why_refused};
 use std::alloc::{AllocError, Global};
-use trace_reader::TextRows;
 use traces::{Row, TraceRow};
-
-/// What is told of a row behind more lines than are kept.
-const NOT_LOOKED_FOR: &str =
-    "what led to it is looked for in the first 1048576 lines alone, and the row stands behind them";
 
 /// What is told of a refused row of a text, of which the lines up to that row are read again.
 pub fn explain_refused(
@@ -50,7 +46,7 @@ fn lines_to(text: &[u8], line: u32) -> &[u8] {
     &text[..end.min(text.len())]
 }
 
-/// What is told of a refused row behind more rows than are kept.
+/// What is told of a refused row of a text that isn't read as a trace any more.
 fn explain_alone(
     alloc: Global,
     path: &str,
@@ -75,9 +71,7 @@ fn diagnostic_alone(
     ensures row { IfOk result (λ diagnostic. diagnostic.refused.line ≡ row) }
 {
     let mut notes = Vec::new(alloc);
-    for note in [why_refused(refusal), NOT_LOOKED_FOR] {
-        notes.push(String::from_str(alloc, note)?)?;
-    }
+    notes.push(String::from_str(alloc, why_refused(refusal))?)?;
     Ok(Diagnostic {
         matter: Matter::Rule(refusal),
         head: String::from_str(alloc, general_head(refusal))?,
@@ -93,7 +87,7 @@ fn explain_row(
     alloc: Global,
     path: &str,
     text: &[u8],
-    trace: &TextRows,
+    trace: &LongRows,
     row: u32,
     refusal: Refusal,
 ) -> Result<String, AllocError>
@@ -107,7 +101,7 @@ fn explain_row(
 pub fn diagnostic_of(
     alloc: Global,
     text: &[u8],
-    trace: &TextRows,
+    trace: &LongRows,
     row: u32,
     refusal: Refusal,
 ) -> Result<Diagnostic, AllocError>

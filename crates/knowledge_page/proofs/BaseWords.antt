@@ -3,6 +3,7 @@ pub use Rattle.knowledge_page.specs.Shown.{IfNoRow, IsLast, IsNoRow, IsRange, ve
 pub use Rattle.knowledge_page.specs.declared.shown.ShowFault.{ShowFault}
 pub use Rattle.knowledge_page.specs.declared.shown.ShowFault.TheVariants.{Memory, NoRow}
 pub use Rattle.leases.specs.RingLeases.RingLents.{ring_lents}
+pub use Rattle.long_rows.specs.Kept.{long_kept}
 pub use Rattle.ownership_checker.specs.RingPasses.Rules.{ring_verdict, row_broken}
 unfoldable pub use Rattle.ownership_checker.specs.RingPasses.Rules.{ring_verdict_from}
 unfoldable pub use Rattle.ownership_rules.specs.Rules.{first_or}
@@ -15,7 +16,6 @@ pub use Rattle.std.proofs.lemmas.Option.{same_Some}
 pub use Rattle.std.proofs.lemmas.Result.{err_from_is_err_and}
 pub use Rattle.std.specs.Prelude.{reverse, take}
 pub use Rattle.trace_reader.specs.Reading.{TraceText}
-pub use Rattle.trace_reader.specs.Streaming.TextRows.{trace_kept}
 pub use Rattle.traces.specs.Header.{IsHeader}
 pub use Rattle.traces.specs.declared.header.Header.{Header}
 pub use Rattle.traces.specs.declared.trace_row.TraceRow.{TraceRow}

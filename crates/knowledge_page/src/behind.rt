@@ -1,7 +1,7 @@
 //! A pass over rows none of which breaks a rule: what is known behind them, and what is lent.
 ghost use Rattle.std.specs.Prelude.{◌≡◌, ◌+◌, ◌≤◌, All, Some, length, IfOk, IfErr};
 ghost use Rattle.traces.specs.Header.{IsHeader};
-ghost use Rattle.traces.specs.Limits.{most_lines};
+ghost use Rattle.traces.specs.Limits.{most_streamed_lines};
 ghost use Rattle.traces.specs.TraceRows.{IsTraceRow};
 ghost use Rattle.ownership_checker.specs.RingPasses.Rules.{ring_verdict};
 ghost use Rattle.ownership_checker.specs.Verdicts.{IfRefusedAt};
@@ -24,7 +24,7 @@ pub(crate) fn standing_behind(
 ) -> Result<Standing, CheckFault>
     requires headed { IsHeader header.now }
     requires fitting { All IsTraceRow rows.now }
-    requires within { first + length rows.now ≤ most_lines + 1 }
+    requires within { first + length rows.now ≤ most_streamed_lines + 1 }
     ensures standing { IfOk result (IsStanding header.now first rows.now) }
     ensures refused { IfErr result (λ e. IfRefusedAt e (λ row c. ring_verdict header.now first rows.now ≡ Some (row, c))) }
 {

@@ -9,9 +9,9 @@ use crate::standing::Standing;
 use crate::waiting_rings::{Lent, add_ring, taker_of};
 use commands::{Command, EndpointState};
 use event_ring::EventPlace;
+use long_rows::LongRows;
 use row_history::{last_read, last_register, line_of};
 use std::alloc::{AllocError, Global};
-use trace_reader::TextRows;
 use traces::{Register, TraceRow};
 use trb::RingKind;
 
@@ -109,7 +109,7 @@ pub(crate) struct Past<'a> {
 /// running.
 pub fn left_waiting(
     alloc: Global,
-    trace: &TextRows,
+    trace: &LongRows,
     shown: &Shown,
 ) -> Result<Vec<Waiting>, AllocError> {
     let mut found = Vec::new(alloc);

@@ -30,6 +30,7 @@ pub use Rattle.trace_reader.specs.Reading.{TraceText, trace_of}
 pub use Rattle.trace_reader.specs.Schedules.{schedule_of}
 pub use Rattle.trace_reader.specs.Streaming.Streams.{IfBadLine, OfStream}
 pub use Rattle.trace_reader.specs.Streaming.TextRows.{trace_kept}
+pub use Rattle.long_rows.specs.Kept.{long_kept}
 pub use Rattle.trace_reader.specs.declared.fault.LineFault.{LineFault}
 pub use Rattle.trace_reader.specs.declared.fault.ReadFault.{ReadFault}
 pub use Rattle.trace_reader.specs.declared.fault.ReadFault.TheVariants.{Memory as OutOfMemory}

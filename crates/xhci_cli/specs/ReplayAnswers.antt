@@ -1,5 +1,5 @@
 -- What is right to answer to the texts of a trace and of a schedule
-use Rattle.std.specs.Prelude.{◌≡◌, ℕ, List, Option, Some, None, Ok, Err}
+use Rattle.std.specs.Prelude.{true, ◌≡◌, ℕ, List, Option, Some, None, Ok, Err}
 use Rattle.traces.specs.declared.schedule.Schedule.{Schedule}
 use Rattle.trace_reader.specs.Reading.{TraceText}
 use Rattle.trace_reader.specs.Schedules.{schedule_of}
@@ -45,4 +45,4 @@ IsReplayBeside trace steps _ = ⊥
 
 -- what is right to answer to the texts of a trace and of a schedule
 abbrev pub IsReplayAnswer : Option (List ℕ) → Option (List ℕ) → Answer → Type 0
-IsReplayAnswer rows steps answer = IsTraceAnswer (λ trace answer. IsReplayBeside trace steps answer) rows answer
+IsReplayAnswer rows steps answer = IsTraceAnswer true (λ trace answer. IsReplayBeside trace steps answer) rows answer

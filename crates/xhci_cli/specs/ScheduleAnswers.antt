@@ -1,5 +1,5 @@
 -- What is right to answer to the text of a trace whose lazy schedule is asked for
-use Rattle.std.specs.Prelude.{◌≡◌, ℕ, List, reverse, Option, Some, Ok}
+use Rattle.std.specs.Prelude.{true, ◌≡◌, ℕ, List, reverse, Option, Some, Ok}
 use Rattle.trace_reader.specs.Reading.{TraceText}
 use Rattle.trace_reader.specs.Schedules.{schedule_of}
 use Rattle.trace_reader.specs.ScheduleSpelling.{printed_schedule}
@@ -33,4 +33,4 @@ IsScheduled trace _ = ⊥
 
 -- what is right to answer to the text of a trace
 abbrev pub IsScheduleAnswer : Option (List ℕ) → Answer → Type 0
-IsScheduleAnswer rows answer = IsTraceAnswer IsScheduled rows answer
+IsScheduleAnswer rows answer = IsTraceAnswer true IsScheduled rows answer

@@ -1,5 +1,5 @@
 -- What is right to answer to the text of a trace of which is asked who owns what before a row
-use Rattle.std.specs.Prelude.{ℕ, List, Option}
+use Rattle.std.specs.Prelude.{false, ℕ, List, Option}
 use Rattle.trace_reader.specs.Reading.{TraceText}
 use Rattle.knowledge_page.specs.declared.shown.Shown.{Shown}
 use Rattle.knowledge_page.specs.Shown.{IsNoRow, IsShown}
@@ -17,4 +17,4 @@ IsPageAnswer row trace _ = ⊥
 
 -- what is right to answer to the text of a trace
 abbrev pub IsShowAnswer : Option ℕ → Option (List ℕ) → Answer → Type 0
-IsShowAnswer row rows answer = IsTraceAnswer (IsPageAnswer row) rows answer
+IsShowAnswer row rows answer = IsTraceAnswer false (IsPageAnswer row) rows answer

@@ -29,7 +29,7 @@ pub fn note_on_verdict(
         return Ok(String::new(alloc));
     }
     let mut source = Counted::new(text);
-    match check_stream(alloc, true, &mut source, PageMemory::new(alloc)) {
+    match check_stream(alloc, false, &mut source, PageMemory::new(alloc)) {
         Ok(own) if own.leases.as_slice() == leases => Ok(String::new(alloc)),
         Ok(own) => note_on_leases(alloc, asked, leases, &own.leases, answer),
         Err(StreamCheckFault::Refused { row, refusal }) => {

@@ -13,6 +13,9 @@ use std::alloc::{AllocError, Global};
 use std::io::{Read, Seek};
 use trace_reader::{Counted, MOST_LINES};
 
+/// So many lines of a text are read once more for an explanation at most: with their rows they take some 1.5 GB.
+const MOST_EXPLAINED: u32 = 1 << 24;
+
 /// What a person is told of an answer to the trace that an input held; the leases are those of a certificate, where one is verified. A text
 /// that was too long to be kept is read once more.
 pub fn note_as_read<R: Read + Seek + Drop>(
@@ -51,25 +54,42 @@ fn note_on_lines<R: Read + Seek + Drop>(
     requires { asked.now.explains ≡ true }
     ensures { IfOk result (λ note. IsNote asked.now.explains answer.now (string_bytes note)) }
 {
-    let line = last_line(answer);
-    if line > MOST_LINES + 1 {
+    let most = most_lines(answer);
+    let line = last_line(answer).unwrap_or(most + 1);
+    if line > most + 1 {
         return too_far(alloc, asked, answer, line);
     }
     match explained_text(alloc, input, answer, line)? {
-        Some(text) => note_on_verdict(alloc, asked, leases, &text, answer),
-        None => match answer {
-            Answer::Accepted { .. } => Ok(String::new(alloc)),
-            _ => too_long(alloc, asked, answer),
-        },
+        Some(text) if !has_more_lines(&text, most) => {
+            note_on_verdict(alloc, asked, leases, &text, answer)
+        }
+        _ if matches!(answer, Answer::Accepted { .. }) => Ok(String::new(alloc)),
+        Some(_) => too_far(alloc, asked, answer, most + 1),
+        None => too_long(alloc, asked, answer),
     }
 }
 
-/// The line of which an answer speaks; else one more than are kept.
-fn last_line(answer: &Answer) -> u32 {
+/// From how many lines an answer is explained. What an accepted trace leaves waiting is no reason to keep the rows of a long one.
+fn most_lines(answer: &Answer) -> u32
+    ensures { result < 2 ^ 25 }
+{
     match answer {
-        Answer::Refused { row, .. } | Answer::HarmShown { row, .. } => *row,
-        Answer::BadLine { line, .. } => *line,
-        _ => MOST_LINES + 1,
+        Answer::Accepted { .. } => MOST_LINES,
+        _ => MOST_EXPLAINED,
+    }
+}
+
+/// Whether a text has more than so many lines: then it is cut off.
+fn has_more_lines(text: &[u8], most: u32) -> bool {
+    text.iter().filter(|byte| **byte == b'\n').count() > most as usize
+}
+
+/// The line of which an answer speaks, where it speaks of one.
+fn last_line(answer: &Answer) -> Option<u32> {
+    match answer {
+        Answer::Refused { row, .. } | Answer::HarmShown { row, .. } => Some(*row),
+        Answer::BadLine { line, .. } => Some(*line),
+        _ => None,
     }
 }
 
@@ -130,7 +150,7 @@ fn too_long(alloc: Global, asked: &Asked, answer: &Answer) -> Result<String, All
 fn too_far(alloc: Global, asked: &Asked, answer: &Answer, line: u32) -> Result<String, AllocError> {
     let input = asked.input;
     let mut note = format!(in alloc;
-        "xhcitrace: {input}: line {line} is behind the first {MOST_LINES}, and those alone are kept for an explanation"
+        "xhcitrace: {input}: line {line} is behind the first {MOST_EXPLAINED}, and those alone are kept for an explanation; tools/picture draws the rows before it"
     )?;
     if let Answer::Refused { refusal, .. } = answer {
         let number = refusal.number();

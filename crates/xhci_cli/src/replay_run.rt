@@ -34,7 +34,7 @@ where
     S: Read + Drop,
     F: FnOnce() -> io::Result<S> + Drop,
     requires { F.pre open_schedule }
-    ensures told { (answer : Answer) × (IsUnread (opened R.remaining trace) answer
+    ensures told { (answer : Answer) × (IsUnread true (opened R.remaining trace) answer
         ⊎ ((schedule : _) × F.post open_schedule schedule × IsReplayAnswer (opened R.remaining trace) (opened S.remaining schedule) answer))
         × IsTold asked.now.explains answer result (O.contents out.old) (O.contents out.new) (E.contents err.old) (E.contents err.new) }
     ensures out { result ≡ Status.Unreadable → out.new ≡ out.old }

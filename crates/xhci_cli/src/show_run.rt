@@ -1,7 +1,7 @@
 //! Shows who owns what before a row of a trace.
 ghost use Rattle.std.specs.Prelude.{Some, ◌≡◌, false, true, IsErr};
 ghost use Rattle.answers.specs.Answers.{goes_out};
-ghost use Rattle.trace_reader.specs.Streaming.TextRows.{trace_kept};
+ghost use Rattle.long_rows.specs.Kept.{long_kept};
 ghost use Rattle.answers.specs.Inputs.{opened};
 ghost use Rattle.answers.specs.Telling.{IsTold};
 ghost use Rattle.xhci_cli.specs.ShowAnswers.{IsPageAnswer, IsShowAnswer};
@@ -9,9 +9,9 @@ ghost use Rattle.xhci_cli.specs.ShowAnswers.{IsPageAnswer, IsShowAnswer};
 use crate::reading::bytes_of;
 use answers::{Answer, Asked, Status, note_on_trace, tell, tell_failure};
 use knowledge_page::{ShowFault, Shown, left_waiting, page_of, shown_before};
+use long_rows::{LongRows, read_long_rows};
 use std::alloc::{AllocError, Global};
 use std::io::{self, Read, Write};
-use trace_reader::{TextRows, read_rows};
 
 /// Writes to `out` what is known, and who owns what, before a row of the trace that `input` holds: before the first that breaks a rule,
 /// or behind all, where none is named. What hinders the page goes to `err`.
@@ -44,15 +44,15 @@ pub fn run_show<R: Read + Drop, O: Write, E: Write>(
 fn show_answer(alloc: Global, row: Option<u32>, text: &[u8]) -> Answer
     ensures { IsShowAnswer row (Some text.now) result }
 {
-    match read_rows(alloc, text) {
+    match read_long_rows(alloc, text) {
         Ok(trace) => page_answer(alloc, row, &trace),
         Err(fault) => Answer::from(fault),
     }
 }
 
 /// The answer to a trace.
-fn page_answer(alloc: Global, row: Option<u32>, trace: &TextRows) -> Answer
-    ensures { IsPageAnswer row (trace_kept trace.now) result }
+fn page_answer(alloc: Global, row: Option<u32>, trace: &LongRows) -> Answer
+    ensures { IsPageAnswer row (long_kept trace.now) result }
 {
     match shown_before(alloc, trace, row) {
         Ok(shown) => match page(alloc, trace, &shown) {
@@ -67,7 +67,7 @@ fn page_answer(alloc: Global, row: Option<u32>, trace: &TextRows) -> Answer
 }
 
 /// The page on what is shown of a trace.
-fn page(alloc: Global, trace: &TextRows, shown: &Shown) -> Result<String, AllocError> {
+fn page(alloc: Global, trace: &LongRows, shown: &Shown) -> Result<String, AllocError> {
     let waiting = left_waiting(alloc, trace, shown)?;
     page_of(alloc, shown, &waiting)
 }

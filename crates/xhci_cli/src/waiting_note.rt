@@ -1,7 +1,8 @@
 //! What the trace of an accepted input leaves waiting.
 use knowledge_page::{Place, ShowFault, left_waiting, shown_before, waiting_lines};
+use long_rows::read_long_rows;
 use std::alloc::{AllocError, Global};
-use trace_reader::{ReadFault, read_rows};
+use trace_reader::ReadFault;
 
 /// What is told of the text of an accepted trace with so many leases, which is called so: what it leaves waiting, if anything. No trace
 /// is told of that has another answer, or whose rows are too many to be kept.
@@ -11,7 +12,7 @@ pub(crate) fn waiting_note(
     text: &[u8],
     leases: u64,
 ) -> Result<String, AllocError> {
-    let trace = match read_rows(alloc, text) {
+    let trace = match read_long_rows(alloc, text) {
         Ok(trace) => trace,
         Err(ReadFault::Line { .. }) => return Ok(String::new(alloc)),
         Err(ReadFault::Memory) => return Err(AllocError),

@@ -1,12 +1,12 @@
-use Rattle.knowledge_page.proofs.BaseWords.{◌≡◌, Some, ap, arith, length, trace_kept, ring_verdict, IsRange}
+use Rattle.knowledge_page.proofs.BaseWords.{◌≡◌, Some, ap, arith, length, long_kept, ring_verdict, IsRange}
 use Rattle.knowledge_page.proofs.Verdicts.{range_of_all, range_to}
 use Rattle.knowledge_page.proofs.shown.no_row.Goals.{in-Ok, in-Err-Refused, in-Err-Memory}
 use Rattle.knowledge_page.proofs.shown.no_row.Goals as goal
 
 pub returns : goal.returns
 returns c =
-    let trace = trace_kept c.args.trace.now in
-    let placed = c.args.trace.now.placed in
+    let trace = long_kept c.args.trace.now in
+    let placed = c.args.trace.now.behind in
     let same = c.as_slice-rows.ensures.value in
     let many : length c.as_slice-rows.result.now ≡ length trace.rows = ap (λ xs. length xs) same in
     elim c.match-standing_behind.branch [

@@ -1,4 +1,4 @@
-use Rattle.knowledge_page.proofs.BaseWords.{◌≡◌, ◌-◌, Some, ap, inl, inr, arith, length, trace_kept, ring_verdict}
+use Rattle.knowledge_page.proofs.BaseWords.{◌≡◌, ◌-◌, Some, ap, inl, inr, arith, length, long_kept, ring_verdict}
 use Rattle.knowledge_page.proofs.Verdicts.{behind_broken, not_there}
 use Rattle.knowledge_page.proofs.shown.standing_before.Goals.{then-row-trace-via-then-row-trace, then-row-trace-via-else-row-trace+then-row-trace-2}
 use Rattle.knowledge_page.proofs.shown.standing_before.Goals as goal
@@ -7,16 +7,16 @@ pub returns-then-row-trace-clause-none : goal.returns-then-row-trace-clause-none
 returns-then-row-trace-clause-none c =
     let many : length c.as_slice-rows.result.now ≡ length c.args.trace.now.rows.items = ap (λ xs. length xs) c.as_slice-rows.ensures.value in
     elim c.then-row-trace.branch [
-      | then-row-trace-via-then-row-trace w ↦ not_there (trace_kept c.args.trace.now) c.no_row.result c.args.row (inl w.if-row-trace.true) c.no_row.ensures
+      | then-row-trace-via-then-row-trace w ↦ not_there (long_kept c.args.trace.now) c.no_row.result c.args.row (inl w.if-row-trace.true) c.no_row.ensures
       | then-row-trace-via-else-row-trace+then-row-trace-2 w ↦
           let before = w.if-row-trace.false in
           let behind = w.if-row-trace-2.true in
-          not_there (trace_kept c.args.trace.now) c.no_row.result c.args.row (inr (omega (arith, before, behind, many))) c.no_row.ensures
+          not_there (long_kept c.args.trace.now) c.no_row.result c.args.row (inr (omega (arith, before, behind, many))) c.no_row.ensures
     ]
 
 pub returns-in-Err-Refused-clause-none : goal.returns-in-Err-Refused-clause-none
 returns-in-Err-Refused-clause-none c =
-    let trace = trace_kept c.args.trace.now in
+    let trace = long_kept c.args.trace.now in
     let before = c.if-row-trace.false in
     let within = c.if-row-trace-2.false in
     let same = c.as_slice-rows.ensures.value in

@@ -1,11 +1,11 @@
-use Rattle.xhci_cli.proofs.Laws.{Answer, failure, inl, inr, opened, subst, sym, told_right, trace_kept, text_held, IsUnread}
+use Rattle.xhci_cli.proofs.Laws.{true, Answer, failure, inl, inr, opened, subst, sym, told_right, trace_kept, text_held, IsUnread}
 use Rattle.xhci_cli.proofs.KeptHeld.{unread_right}
 use Rattle.xhci_cli.proofs.replay_run.run_replay.Goals as goal
 
 pub returns-in-Err-clause-told : goal.returns-in-Err-clause-told
 returns-in-Err-clause-told g c =
     let rows = opened g.R.Read.remaining c.args.trace in
-    let t = told_right (λ a. IsUnread rows a) _ _ _ _ _ _ _ (failure (λ a. IsUnread rows a) tt tt _) tt c.tell_failure.ensures.told in (t.0, inl t.1, t.2)
+    let t = told_right (λ a. IsUnread true rows a) _ _ _ _ _ _ _ (failure (λ a. IsUnread true rows a) tt tt _) tt c.tell_failure.ensures.told in (t.0, inl t.1, t.2)
 
 pub returns-in-Ok-read_rows-clause-told : goal.returns-in-Ok-read_rows-clause-told
 returns-in-Ok-read_rows-clause-told g c =
@@ -17,7 +17,7 @@ returns-in-Ok-read_rows-clause-told g c =
         c.open_schedule.ensures,
         inr (
           trace_kept c.in-Ok-read_rows.trace,
-          text_held rows _ (trace_kept c.in-Ok-read_rows.trace) c.in-Ok.ensures.bytes
+          text_held true rows _ (trace_kept c.in-Ok-read_rows.trace) c.in-Ok.ensures.bytes
               (rw c.deref.ensures.value at c.in-Ok-read_rows.ensures.read),
           t.1,
         ),
@@ -28,7 +28,7 @@ returns-in-Ok-read_rows-clause-told g c =
 pub returns-in-Err-read_rows-clause-told : goal.returns-in-Err-read_rows-clause-told
 returns-in-Err-read_rows-clause-told g c =
     let rows = opened g.R.Read.remaining c.args.trace in
-    let unread = unread_right rows _ c.in-Err-read_rows.fault c.in-Ok.ensures.bytes
+    let unread = unread_right true rows _ c.in-Err-read_rows.fault c.in-Ok.ensures.bytes
     (rw c.deref.ensures.value at c.in-Err-read_rows.ensures.refused) in
-    let right : IsUnread rows c.from-answer.result = subst (λ (a : Answer). IsUnread rows a) (sym c.from-answer.ensures) unread in
-    let t = told_right (λ a. IsUnread rows a) _ _ _ _ _ _ _ right tt c.tell.ensures.told in (t.0, inl t.1, t.2)
+    let right : IsUnread true rows c.from-answer.result = subst (λ (a : Answer). IsUnread true rows a) (sym c.from-answer.ensures) unread in
+    let t = told_right (λ a. IsUnread true rows a) _ _ _ _ _ _ _ right tt c.tell.ensures.told in (t.0, inl t.1, t.2)
