@@ -12,6 +12,6 @@ pub use Rattle.std.proofs.Math.Seq.{take-length}
 pub use Rattle.std.proofs.lemmas.Grind.{common_steps}
 pub use Rattle.std.proofs.lemmas.List.{drop-take, take-append-drop, take-take, take_all}
 pub use Rattle.std.specs.Io.KnownBytes.{Appends, Keeps}
-pub use Rattle.std.specs.Prelude.{IfOk, IfSome, IsOk}
+pub use Rattle.std.specs.Prelude.{IfOk, IfSome, IsOk, codes}
 pub use Rattle.std.specs.declared.io.ErrorKind.{ErrorKind}
 pub use Rattle.std.specs.declared.io.ErrorKind.TheVariants.{OutOfMemory}

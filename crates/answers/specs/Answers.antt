@@ -69,7 +69,7 @@ device_line = codes "xhcitrace: 31 Device\n"
 
 -- a page behind a number and a name
 abbrev pub numbered_page : ℕ → List ℕ → List ℕ → List ℕ
-numbered_page number name page = decimal number ++ codes " " ++ name ++ codes ": " ++ page
+numbered_page number name page = decimal number ++ (codes " " ++ (name ++ (codes ": " ++ page)))
 
 -- a page: its number and name stand before it; on a harm the word and the number, as they are printed
 abbrev pub page_text : Subject → List ℕ → List ℕ

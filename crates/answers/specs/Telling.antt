@@ -15,7 +15,7 @@ Begins before after text = (n : ℕ) × Appends before after (take n text)
 
 -- a line that names what failed, and says why
 abbrev pub IsReason : List ℕ → List ℕ → Type 0
-IsReason name note = (reason : List ℕ) × (note ≡ codes "xhcitrace: " ++ name ++ codes ": " ++ reason ++ codes "\n")
+IsReason name note = (reason : List ℕ) × (note ≡ codes "xhcitrace: " ++ (name ++ (codes ": " ++ (reason ++ codes "\n"))))
 
 -- what is told of an input or a stream of this name that failed so; want of memory is told without
 abbrev pub IsNoteOnFailure : List ℕ → ErrorKind → List ℕ → Type 0

@@ -218,5 +218,6 @@ fn reason_line(alloc: Global, name: &str, error: io::Error) -> Result<String, Al
     ensures { IfOk result (λ note. IsReason name.now (string_bytes note)) }
 {
     let reason = format!(in alloc; "{error}")?;
-    format!(in alloc; "xhcitrace: {name}: {reason}\n")
+    let note = format!(in alloc; "xhcitrace: {name}: {reason}\n")?;
+    Ok(note)
 }

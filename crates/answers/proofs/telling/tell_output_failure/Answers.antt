@@ -1,8 +1,8 @@
 use Rattle.answers.proofs.Laws.{[], refl, inl, string_bytes, Device, IsPlainNote, device_noted, nothing_begun}
 use Rattle.answers.proofs.telling.tell_output_failure.Goals as goal
 
-pub returns-then-clause-told : goal.returns-then-clause-told
-returns-then-clause-told g c = ([], inl refl, nothing_begun _ _)
+pub returns-then-eq-clause-told : goal.returns-then-eq-clause-told
+returns-then-eq-clause-told g c = ([], inl refl, nothing_begun _ _)
 
 pub returns-in-Ok-clause-told : goal.returns-in-Ok-clause-told
 returns-in-Ok-clause-told g c =
