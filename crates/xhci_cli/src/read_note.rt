@@ -55,8 +55,9 @@ fn note_on_lines<R: Read + Seek + Drop>(
     ensures { IfOk result (λ note. IsNote asked.now.explains answer.now (string_bytes note)) }
 {
     let most = most_lines(answer);
-    let line = last_line(answer).unwrap_or(most + 1);
-    if line > most + 1 {
+    let behind = most.saturating_add(1);
+    let line = last_line(answer).unwrap_or(behind);
+    if line > behind {
         return too_far(alloc, asked, answer, line);
     }
     match explained_text(alloc, input, answer, line)? {
@@ -64,15 +65,13 @@ fn note_on_lines<R: Read + Seek + Drop>(
             note_on_verdict(alloc, asked, leases, &text, answer)
         }
         _ if matches!(answer, Answer::Accepted { .. }) => Ok(String::new(alloc)),
-        Some(_) => too_far(alloc, asked, answer, most + 1),
+        Some(_) => too_far(alloc, asked, answer, behind),
         None => too_long(alloc, asked, answer),
     }
 }
 
 /// From how many lines an answer is explained. What an accepted trace leaves waiting is no reason to keep the rows of a long one.
-fn most_lines(answer: &Answer) -> u32
-    ensures { result < 2 ^ 25 }
-{
+fn most_lines(answer: &Answer) -> u32 {
     match answer {
         Answer::Accepted { .. } => MOST_LINES,
         _ => MOST_EXPLAINED,
