@@ -28,12 +28,40 @@ pub fn note_as_read<R: Read + Seek + Drop>(
     ensures { IfOk result (λ note. IsNote asked.now.explains answer.now (string_bytes note)) }
 {
     match answer {
-        Answer::Device => match input.into_error() {
-            Some(error) => note_on_failure(alloc, asked, error),
-            None => Ok(String::new(alloc)),
-        },
+        Answer::Device => note_on_device(alloc, asked, input),
+        _ => note_on_read(alloc, asked, leases, input, answer),
+    }
+}
+
+/// Which input failed, and why.
+fn note_on_device<R: Read + Seek + Drop>(
+    alloc: Global,
+    asked: &Asked,
+    input: Recorded<R>,
+) -> Result<String, AllocError>
+    ensures { IfOk result (λ note. IsNote asked.now.explains Answer.Device (string_bytes note)) }
+{
+    match input.into_error() {
+        Some(error) => note_on_failure(alloc, asked, error),
+        None => Ok(String::new(alloc)),
+    }
+}
+
+/// What is told of an answer to a text that was read to its end.
+fn note_on_read<R: Read + Seek + Drop>(
+    alloc: Global,
+    asked: &Asked,
+    leases: &[Lease],
+    input: Recorded<R>,
+    answer: &Answer,
+) -> Result<String, AllocError>
+    ensures { IfOk result (λ note. IsNote asked.now.explains answer.now (string_bytes note)) }
+{
+    if !asked.explains {
+        return Ok(String::new(alloc));
+    }
+    match answer {
         Answer::Verified { holds: true } | Answer::Memory => Ok(String::new(alloc)),
-        _ if !asked.explains => Ok(String::new(alloc)),
         // want of memory changes no `accepted`
         Answer::Accepted { .. } => match note_on_lines(alloc, asked, leases, input, answer) {
             Ok(note) => Ok(note),
