@@ -18,16 +18,16 @@ pub use Rattle.controller_model.specs.Completions.{IsPart, completed}
 pub use Rattle.controller_model.specs.Declarations.{Declares, as_declared, blocks_of, entries, lone_no_op, withdrawn, withdrawn_from}
 unfoldable pub use Rattle.controller_model.specs.DriverRows.{activated, bell_row, declared, endpoint_bell, event_read, next_row, register_row, row_done, run_or_stop, started_with, valued, with_dequeue}
 unfoldable pub use Rattle.controller_model.specs.Finishes.{ended, ended_with, finished, finished_as, passes_end, succeeded}
-pub use Rattle.controller_model.specs.Following.{Follows, FollowsEndpoints, FollowsHolder, FollowsRegisters, FollowsRing, FollowsRings, FollowsSlots, GoesOn, HasRoom, IsChange, IsEndpoint, IsStep, IsWell, KeepsRun, RingHeld, addressed, bound, freed, is_endpoint, is_holder, is_it, is_other, may_get, named_by, noted, noted_held, places_from, pointed, released, ring_held, taken_held, told, turned_off, under_way_of}
+pub use Rattle.controller_model.specs.Following.{Follows, FollowsEndpoints, FollowsHolder, FollowsRegisters, FollowsRing, FollowsRings, FollowsSlots, GoesOn, HasRoom, IsChange, IsEndpoint, IsStep, IsWell, KeepsRun, Lists, RingHeld, addressed, bound, freed, is_endpoint, is_holder, is_it, is_other, may_get, named_by, noted, noted_held, places_from, pointed, released, ring_held, taken_held, told, turned_off, under_way_of}
 pub use Rattle.controller_model.specs.Held.{Held, changed_at, held, held_block, held_by, held_stored, written_at}
 pub use Rattle.controller_model.specs.Histories.{Keeps, ShowsHarms}
 unfoldable pub use Rattle.controller_model.specs.Looks.{command_begun, crossed, looked, looked_at, may_scribble, seen_by_look, taken, taken_on}
 unfoldable pub use Rattle.controller_model.specs.OnLiterals.{model_on_literals}
 unfoldable pub use Rattle.controller_model.specs.Posts.{can_post, is_last, other_posted, posted, report_code, report_error, report_stop, report_success, reported, reported_on, stopped_with, with_reported, with_stopped}
 pub use Rattle.controller_model.specs.RingHarms.{ChangesOnly, FollowsScene, HasRingHarms, IsFollowed}
-pub use Rattle.controller_model.specs.RingRows.{header_after, row_made}
-unfoldable pub use Rattle.controller_model.specs.RingRows.{emptied, with_ring, without_descriptor, without_ring}
-pub use Rattle.controller_model.specs.Scenes.{Scene, row_next, scene_reached, step_made}
+pub use Rattle.controller_model.specs.RingRows.{is_in_way}
+unfoldable pub use Rattle.controller_model.specs.RingRows.{emptied, listed, may_come, with_ring, without_descriptor, without_ring}
+pub use Rattle.controller_model.specs.Scenes.{Scene, row_made, row_next, scene_reached, step_made, with_coming, with_left, with_world}
 unfoldable pub use Rattle.controller_model.specs.Scenes.{scene_ending_from, scene_replayed, scene_seen_by, scene_seen_from}
 unfoldable pub use Rattle.controller_model.specs.Showing.{look_shows, replayed, seen_by, seen_from, shows}
 pub use Rattle.controller_model.specs.Steps.{Harmful, NoHarm, NotPossible, judged}

@@ -30,11 +30,13 @@ module _ (h : Header) where
   unfoldable pub ended : World → Block → World
   ended w b = record (posts.posted h w b) { under_way = None }
 
+-- of the rings that were declared some live: those alone are named by pointers
+module _ (h live : Header) where
   -- with code 1 the effect; after a Stopped event no other code; other codes have no effect
   unfoldable pub ended_with : World → Block → UnderWay → Option World
   ended_with w b u =
-      if code b == 1 then option_map (λ v. ended v b) (succeeded w (slot b) (command_of u.block))
-      else if u.has_stopped then None else Some (ended w b)
+      if code b == 1 then option_map (λ v. ended h v b) (succeeded live w (slot b) (command_of u.block))
+      else if u.has_stopped then None else Some (ended h w b)
 
   unfoldable pub finished_as : World → Block → Option UnderWay → Option World
   finished_as w b None = None

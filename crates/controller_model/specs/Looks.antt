@@ -47,12 +47,14 @@ module _ (h : Header) where
   unfoldable pub seen_by_look : World → ℕ → World
   seen_by_look w r = record w { looked_outside = w.looked_outside || not (is_inside (shape_of h r) (w.pointer_of r)) }
 
+-- of the rings that were declared some live: a look at another one is outside
+module _ (h live : Header) where
   unfoldable pub looked_at : World → ℕ → Block → Option World
   looked_at w r b =
-      if not (cycle b == w.cycle_state r) then Some (seen_by_look w r)
-      else if is_link (kind b) then Some (crossed (seen_by_look w r) r b)
+      if not (cycle b == w.cycle_state r) then Some (seen_by_look live w r)
+      else if is_link (kind b) then Some (crossed h (seen_by_look live w r) r b)
       else if r == command_id h && is_some w.under_way then None
-      else Some (taken (seen_by_look w r) r b)
+      else Some (taken h (seen_by_look live w r) r b)
 
   unfoldable pub looked : World → ℕ → Option World
   looked w r = if w.is_active r then looked_at w r (block_at w.memory (w.pointer_of r)) else None

@@ -1,35 +1,57 @@
--- Runs beside rows between which rings come and go: the rings that are there change from row to row, and what a step does, what it shows and
--- whether there is harm goes by those that are there then
+-- Runs beside rows between which rings come and go. That a ring goes ends its life, and nothing else: from then on a look at it is outside and
+-- no pointer names it; what an endpoint has, what is active and what was taken stays, and harm is asked of it as of any other: xHCI 4.9
 use Rattle.std.specs.Prelude.{ℕ, ◌+◌, if◌then◌else◌, List, [], ◌∷◌, ◌++◌, Option, Some, None, is_some, option_and_then, option_map, option_to_list}
 use Rattle.traces.specs.declared.header.Header.{Header}
 use Rattle.traces.specs.declared.step.Step.{Step}
 use Rattle.traces.specs.declared.step.Step.TheVariants.{NextRow}
+use Rattle.traces.specs.declared.ring.Ring.{Ring}
 use Rattle.traces.specs.declared.trace_row.TraceRow.{TraceRow}
+use Rattle.traces.specs.declared.trace_row.TraceRow.TheVariants.{Plain, Comes, Goes, Withdraws}
 use Rattle.world_state.specs.World.{World, opening}
 use Rattle.world_state.specs.Harms.{harm_of}
 use Rattle.controller_model.specs.declared.seen.Seen.{Seen}
-use Rattle.controller_model.specs.RingRows.{header_after, row_made}
+use Rattle.controller_model.specs.DriverRows.{row_done}
+use Rattle.controller_model.specs.RingRows.{emptied, listed, may_come, without_descriptor, without_ring}
 use Rattle.controller_model.specs.Showing.{Replay, shows}
 use Rattle.controller_model.specs.Steps.{Ending, NoHarm, NotPossible, judged, counted, made}
 
--- the rings that are there, the rows still to come, and the world
+-- the rings that were declared, those of them that live, the rows still to come, and the world
 pub record Scene : Type 0 where
   pub header : Header
+  pub live : Header
   pub rows : List TraceRow
   pub world : World
 
+abbrev pub with_world : Scene → World → Scene
+with_world x w = record x { world = w }
+
+-- a ring comes: nothing is declared on it, and nothing has happened
+abbrev pub with_coming : Scene → Ring → Scene
+with_coming x r = record x { header = listed x.header r; live = listed x.live r; world = emptied x.world r.id }
+
+-- what a row does; None where it isn't possible. Where one that lives is in its way, a ring that comes has no effect
+abbrev pub row_made : Scene → TraceRow → Option Scene
+row_made x (Plain row) = option_map (with_world x) (row_done x.header x.world row)
+row_made x (Comes ring) = Some (if may_come x.live ring then with_coming x ring else x)
+row_made x (Goes id) = Some (record x { live = without_ring x.live id })
+row_made x (Withdraws r p) = Some (with_world x (without_descriptor x.world r p))
+
+-- a row was made, and these are left
+abbrev pub with_left : List TraceRow → Scene → Scene
+with_left rest x = record x { rows = rest; world = counted x.header x.world }
+
 abbrev pub row_next : Scene → List TraceRow → Option Scene
 row_next x [] = None
-row_next x (row ∷ rest) = option_map (λ w. record { header = header_after x.header row; rows = rest; world = counted x.header w }) (row_made x.header x.world row)
+row_next x (row ∷ rest) = option_map (with_left rest) (row_made x row)
 
 -- the scene behind a step; None where the step isn't possible
 abbrev pub step_made : Scene → Step → Option Scene
 step_made x NextRow = row_next x x.rows
-step_made x s = option_map (λ w. record { header = x.header; rows = x.rows; world = counted x.header w }) (made x.header x.world s)
+step_made x s = option_map (λ w. with_world x (counted x.header w)) (made x.header x.live x.world s)
 
 -- before the first row of a trace with this header
 abbrev pub scene_before : Header → List TraceRow → Scene
-scene_before h rows = record { header = h; rows = rows; world = opening [] }
+scene_before h rows = record { header = h; live = h; rows = rows; world = opening [] }
 
 module _ (h : Header) where
   -- the scene that steps lead to beside these rows, the newest step first

@@ -38,14 +38,14 @@ module _ (h : Header) where
   shows w (Scribble a x) = seen.Scribbled
 
   unfoldable pub seen_by : World → Step → Option Seen
-  seen_by w s = option_map (λ v. shows w s) (stepped h w s)
+  seen_by w s = option_map (λ v. shows w s) (stepped h h w s)
 
   -- what the steps show up to the first that isn't possible, or with the first after which there is harm
   unfoldable pub seen_from : Option World → List Step → List Seen
   seen_from None steps = []
   seen_from (Some w) [] = []
   seen_from (Some w) (s ∷ steps) =
-      if is_some (harm_of h w) then [] else option_to_list (seen_by w s) ++ seen_from (stepped h w s) steps
+      if is_some (harm_of h w) then [] else option_to_list (seen_by w s) ++ seen_from (stepped h h w s) steps
 
   unfoldable pub replayed : List Row → List Step → Replay
   replayed rows steps = record { seen = seen_from (Some (opening rows)) steps; ending = ending_of h rows steps }

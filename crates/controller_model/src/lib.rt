@@ -14,6 +14,7 @@ mod finishes;
 mod history;
 mod inputs;
 mod kept;
+mod life;
 mod looks;
 mod memory;
 mod next_row;

@@ -118,7 +118,7 @@ fn can_address<M: WordMemory>(
 ) -> bool
     requires aligned { context % 16 ≡ 0 }
     requires end { context + input_context_bytes header.now.context_size ≤ 2 ^ 64 }
-    ensures { (rows : List Row) (words : ℕ → ℕ) (w : World) → Follows header.now rows words kept.now w →
+    ensures { (h : HeaderValue) (rows : List Row) (words : ℕ → ℕ) (w : World) → Follows h rows words kept.now w →
         result ≡ may_get w slot 1 (ring_having header.now (context_pointer header.now.context_size (M.words memory.now) context 1)) }
 {
     let pointer = context_of(memory, header.context_size, context, 1).pointer;
@@ -130,7 +130,7 @@ fn can_address<M: WordMemory>(
 fn can_apply<M: WordMemory>(header: &Header, memory: &M, kept: &Kept, command: &Command) -> bool
     requires well { IsWell command.now }
     requires end { HasRoom header.now.context_size command.now }
-    ensures { (rows : List Row) (words : ℕ → ℕ) (n : ℕ) (w : World) → Follows header.now rows words kept.now w →
+    ensures { (h : HeaderValue) (rows : List Row) (words : ℕ → ℕ) (n : ℕ) (w : World) → Follows h rows words kept.now w →
         result ≡ is_some (changed_by_all header.now command.now w (changes header.now.context_size (M.words memory.now) n command.now)) }
 {
     match *command {
@@ -163,7 +163,7 @@ pub(crate) fn succeeds<M: WordMemory>(
     slot: u8,
 ) -> bool
     requires { IsWell command.now }
-    ensures value { (rows : List Row) (w : World) → Follows header.now rows (M.words memory.now) kept.now w →
+    ensures value { (h : HeaderValue) (rows : List Row) (w : World) → Follows h rows (M.words memory.now) kept.now w →
         result ≡ is_some (succeeded header.now w slot (Some command.now)) }
     ensures room { result ≡ true → HasRoom header.now.context_size command.now }
 {

@@ -103,5 +103,5 @@ module _ (h : Header) (is : IsHeader h) (k : Known) (unread : List Block) (w v :
 
 -- the run goes on behind the completion of a command that fails
 pub finish_failure_runs : (h : Header) → IsHeader h → (now : Known) (w v : World) (b : Block) → IsBlock b → w.stopped ≡ false → (run : Runs h now w) →
-    DriverKeeps h (all_read h now run.unread) → (code b == 1) ≡ false → finishes.finished h w b ≡ Some v → Runs h now (counted h v)
+    DriverKeeps h (all_read h now run.unread) → (code b == 1) ≡ false → finishes.finished h h w b ≡ Some v → Runs h now (counted h v)
 finish_failure_runs h is now w v b block running run d fails at = runs_more h now w v b block run (failure_keeps h is (all_read h now run.unread) run.unread w v b block running d run.agrees (finish_is h w v b at) fails)

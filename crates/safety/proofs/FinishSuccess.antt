@@ -42,7 +42,7 @@ pub record IsSuccess (h : Header) (w v : World) (b : Block) (e : Command) : Type
   pub effect_is : bindings.effect h w (slot b) e ≡ Some made
   pub ends : let_go (posted h made b) ≡ v
 
-success_is : (h : Header) (w v : World) (b : Block) (u : UnderWay) (e : Command) → command_of u.block ≡ Some e → (code b == 1) ≡ true → finishes.ended_with h w b u ≡ Some v → IsSuccess h w v b e
+success_is : (h : Header) (w v : World) (b : Block) (u : UnderWay) (e : Command) → command_of u.block ≡ Some e → (code b == 1) ≡ true → finishes.ended_with h h w b u ≡ Some v → IsSuccess h w v b e
 unfolding finishes.ended_with finishes.ended finishes.succeeded
 success_is h w v b u e is one at =
     search (rules, mapped, succeeded, slot, option_map, cond-true, code, cond_is, named_context, not, can_succeed, register_or_zero, none-some, or_parts, not-false)

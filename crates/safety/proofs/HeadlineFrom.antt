@@ -90,12 +90,12 @@ module _ (h : Header) where
   running_is w u o at = search (rules, none-some, cond-true, cond-false)
 
   -- a step of the controller is made before a stop alone
-  pub runs_on : (w u : World) (s : Step) → steps.made h w s ≡ Some u → (s ≡ NextRow → ⊥) → w.stopped ≡ false
+  pub runs_on : (w u : World) (s : Step) → steps.made h h w s ≡ Some u → (s ≡ NextRow → ⊥) → w.stopped ≡ false
   unfolding steps.made
   runs_on w u s at other = grind (arith, running_is)
 
   -- and the run goes on
-  pub step_goes : IsHeader h → (k : Known) → DriverKeeps h k → (w u : World) (s : Step) → IsStep s → steps.made h w s ≡ Some u → (s ≡ NextRow → ⊥) → Runs h k w → Runs h k (steps.counted h u)
+  pub step_goes : IsHeader h → (k : Known) → DriverKeeps h k → (w u : World) (s : Step) → IsStep s → steps.made h h w s ≡ Some u → (s ≡ NextRow → ⊥) → Runs h k w → Runs h k (steps.counted h u)
   unfolding steps.made
   step_goes is k keeps w u NextRow is_step at other run = absurd (other refl)
   step_goes is k keeps w u (Look r) is_step at other run = look_runs h is k w u r run (run_keeps h is k w keeps run) (running_is w u _ at).1
@@ -104,7 +104,7 @@ module _ (h : Header) where
   step_goes is k keeps w u (Other b) is_step at other run = other_runs h is k w u b is_step (running_is w u _ at).0 run (run_keeps h is k w keeps run) (running_is w u _ at).1
   step_goes is k keeps w u (Scribble a x) is_step at other run = scribble_runs h is k w u a x run (run_keeps h is k w keeps run) (running_is w u _ at).1
 
-  made_left : (w u : World) (s : Step) → steps.made h w s ≡ Some u → (s ≡ NextRow → ⊥) → u.rows ≡ w.rows
+  made_left : (w u : World) (s : Step) → steps.made h h w s ≡ Some u → (s ≡ NextRow → ⊥) → u.rows ≡ w.rows
   unfolding steps.made
   made_left w u NextRow at other = absurd (other refl)
   made_left w u (Look r) at other = (looked_left h w r).left u (running_is w u _ at).1
@@ -163,11 +163,11 @@ module _ (h : Header) where
         )
 
     -- a controller's step: the same rows stay
-    stays : (past : List Row) (w u : World) (s : Step) → IsStep s → CameTo past w → steps.made h w s ≡ Some u → (s ≡ NextRow → ⊥) → CameTo past (steps.counted h u)
+    stays : (past : List Row) (w u : World) (s : Step) → IsStep s → CameTo past w → steps.made h h w s ≡ Some u → (s ≡ NextRow → ⊥) → CameTo past (steps.counted h u)
     unfolding steps.counted
     stays past w u s is_step c at other = search (rules, made_left, reverse, step_goes, known, now_keeps, false≢true, runs_on)
 
-    step_made : (past : List Row) (w u : World) (s : Step) → IsStep s → CameTo past w → steps.made h w s ≡ Some u → (later : List Row) × CameTo later (steps.counted h u)
+    step_made : (past : List Row) (w u : World) (s : Step) → IsStep s → CameTo past w → steps.made h h w s ≡ Some u → (later : List Row) × CameTo later (steps.counted h u)
     unfolding steps.made
     step_made past w u NextRow is_step c at = let n = next past w u w.rows refl c at in (n.0 ∷ past, n.1)
     step_made past w u s is_step c at = (past, stays past w u s is_step c at (λ e. cc))
@@ -179,9 +179,9 @@ module _ (h : Header) where
     unfolding steps.reached steps.stepped opening known
     came rows are clean [] w all at = ([], subst (λ v. CameTo [] v) (same_Some (opening rows) w at) (search (rules, reverse, append-nil, opens)))
     came rows are clean (s ∷ older) w all at =
-        let before = some_then (λ v. steps.stepped h v s) (steps.reached h rows older) w at in
+        let before = some_then (λ v. steps.stepped h h v s) (steps.reached h rows older) w at in
         let came_before = came rows are clean older before.0 (All-tail IsStep s older all) before.1 in
-        let step = mapped (steps.counted h) (steps.made h before.0 s) w before.2 in
+        let step = mapped (steps.counted h) (steps.made h h before.0 s) w before.2 in
         let after = step_made came_before.0 before.0 step.0 s (All-head IsStep s older all) came_before.1 step.1 in
         (after.0, subst (λ v. CameTo after.0 v) step.2 after.1)
 

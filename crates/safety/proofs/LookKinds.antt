@@ -41,7 +41,7 @@ LookEnds h w v r = Waits h w v r ⊎ Crosses h w v r ⊎ TakesBlock h w v r
 none_is : {A : Type 0} (x : A) → None ≡ Some x → ⊥
 none_is x e = cc
 
-pub looked_is : (h : Header) (w v : World) (r : ℕ) → looked h w r ≡ Some v → (w.is_active r ≡ true) × LookEnds h w v r
+pub looked_is : (h : Header) (w v : World) (r : ℕ) → looked h h w r ≡ Some v → (w.is_active r ≡ true) × LookEnds h w v r
 unfolding looked looked_at
 looked_is h w v r at =
     elim (cond_is (w.is_active r) _ _ (Some v) at) [

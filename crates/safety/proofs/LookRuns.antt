@@ -203,7 +203,7 @@ module _ (h : Header) (is : IsHeader h) (k : Known) (unread : List Block) (w : W
   command_looks v active (inr (inr block)) = search (rules, command_waits, command_crosses, cross_done, ring, c, begun_is, command_takes, take_done, no_one)
 
 module _ (h : Header) (is : IsHeader h) (k : Known) (unread : List Block) (w : World) (d : DriverKeeps h k) (g : Agrees h k unread w) where
-  command_agrees : (v : World) → looked h w (command_id h) ≡ Some v → Agrees h k unread (counted h v)
+  command_agrees : (v : World) → looked h h w (command_id h) ≡ Some v → Agrees h k unread (counted h v)
   command_agrees v at =
       let l = looked_is h w v (command_id h) at in
       elim (cases_Bool k.started) [
@@ -211,7 +211,7 @@ module _ (h : Header) (is : IsHeader h) (k : Known) (unread : List Block) (w : W
         | inr off ↦ absurd (false≢true (sym (g.matches.before off).inactive ∙ l.0))
       ]
 
-  transfer_agrees : (v : World) (r : ℕ) → r ≢ command_id h → looked h w r ≡ Some v → Agrees h k unread (counted h v)
+  transfer_agrees : (v : World) (r : ℕ) → r ≢ command_id h → looked h h w r ≡ Some v → Agrees h k unread (counted h v)
   transfer_agrees v r other at =
       let l = looked_is h w v r at in
       elim (g.matches.rings r other) [
@@ -219,14 +219,14 @@ module _ (h : Header) (is : IsHeader h) (k : Known) (unread : List Block) (w : W
         | inr free ↦ absurd (false≢true (sym free.rests.inactive ∙ l.0))
       ]
 
-  look_agrees : (v : World) (r : ℕ) → looked h w r ≡ Some v → Agrees h k unread (counted h v)
+  look_agrees : (v : World) (r : ℕ) → looked h h w r ≡ Some v → Agrees h k unread (counted h v)
   look_agrees v r at =
       elim (cases_eq r (command_id h)) [
-        | inl command ↦ command_agrees v (ap (λ q. looked h w q) (sym command) ∙ at)
+        | inl command ↦ command_agrees v (ap (λ q. looked h h w q) (sym command) ∙ at)
         | inr other ↦ transfer_agrees v r other at
       ]
 
 pub look_runs : (h : Header) → IsHeader h → (now : Known) (w v : World) (r : ℕ) → (run : Runs h now w) → DriverKeeps h (all_read h now run.unread) →
-    looked h w r ≡ Some v → Runs h now (counted h v)
+    looked h h w r ≡ Some v → Runs h now (counted h v)
 look_runs h is now w v r run d at =
     record { unread = run.unread; possible = run.possible; blocks = run.blocks; on = run.on; agrees = look_agrees h is (all_read h now run.unread) run.unread w d run.agrees v r at }

@@ -11,5 +11,8 @@ pub mod RingRuns
 pub mod QuietKeeps
 pub mod Withdrawn
 pub mod Restored
+pub mod LiveRuns
+pub mod LiveHeadline
+pub mod GoneAside
 pub mod RingsHeadline
 pub mod Examples

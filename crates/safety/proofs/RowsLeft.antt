@@ -47,9 +47,9 @@ only_if : (w : World) (b : Bool) (o : Option World) → RowsLeft w o → RowsLef
 only_if w b o left = either w b o None left (nowhere w)
 
 module _ (h : Header) where
-  pub looked_left : (w : World) (r : ℕ) → RowsLeft w (looked h w r)
+  pub looked_left : (w : World) (r : ℕ) → RowsLeft w (looked h h w r)
   unfolding looked looked_at seen_by_look crossed taken taken_on command_begun
-  looked_left w r = only_if w (w.is_active r) (looked_at h w r (block_at w.memory (w.pointer_of r))) (search (rules, either, nowhere, to, one_of, command_id, command_begun, taken_on, kept))
+  looked_left w r = only_if w (w.is_active r) (looked_at h h w r (block_at w.memory (w.pointer_of r))) (search (rules, either, nowhere, to, one_of, command_id, command_begun, taken_on, kept))
 
   pub other_left : (w : World) (b : Block) → RowsLeft w (other_posted h w b)
   unfolding other_posted posted stored stored_block
@@ -86,10 +86,10 @@ module _ (h : Header) where
       either w (finishes.passes_end h (named_context c) || not (can_succeed w.slot_state w.endpoint_state (register_or_zero w.register Config) n c)) None
       (bindings.changed_by_all h c w (changes h.context_size w.memory n c)) (nowhere w) (all_left c (changes h.context_size w.memory n c) w)
 
-  pub finished_left : (w : World) (b : Block) → RowsLeft w (finishes.finished h w b)
+  pub finished_left : (w : World) (b : Block) → RowsLeft w (finishes.finished h h w b)
   unfolding finishes.finished finishes.finished_as finishes.ended_with finishes.ended posted stored stored_block
   finished_left w b =
-      only_if w (can_post h w b && is_command_completion (kind b) && not (code b == 0)) (finishes.finished_as h w b w.under_way) (grind (arith, nowhere, only_if, either, after, succeeded_left, to))
+      only_if w (can_post h w b && is_command_completion (kind b) && not (code b == 0)) (finishes.finished_as h h w b w.under_way) (grind (arith, nowhere, only_if, either, after, succeeded_left, to))
 
   pub scribbled_left : (w : World) (a x : ℕ) → RowsLeft w (scribbled h w a x)
   unfolding scribbled stored

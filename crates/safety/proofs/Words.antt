@@ -61,6 +61,7 @@ pub use Rattle.ring_knowledge.specs.Rings.{Crossing, Given, Position, RingSpot}
 unfoldable pub use Rattle.ring_knowledge.specs.Rings.{command_at, event_at, given_by, given_of, next_command, on_ring, spot_on, unfinished, unfinished_positions}
 unfoldable pub use Rattle.ring_knowledge.specs.Transfers.{broken_off, passed, passed as transfers_passed, stopped_at, transfer_read, transferred, transferred_at}
 unfoldable pub use Rattle.ring_knowledge.specs.Writes.{command_given, device_named, entry_of, no_device, taken_device, with_device, with_word, written}
+pub use Rattle.safety.proofs.RingChanges.LiveRuns.{LiveScene, live_next, live_reached, live_row, live_step, live_with}
 pub use Rattle.safety.specs.Beneath.{HeldMore, IsHeldMore, IsIdleEndpoint, MayRing, MoreLaw, Square, SquareLaw, is_idle, is_open_if}
 pub use Rattle.safety.specs.EndpointsKeep.{EndpointsKeep, IsTransferRing as IsTransferTest, is_transfer_ring}
 pub use Rattle.safety.specs.Headline.{Headline, IsHarmless}
@@ -70,7 +71,7 @@ pub use Rattle.safety.specs.KeptHistories.{IsDriverRow, MayRead, MayReadAll, Sti
 pub use Rattle.safety.specs.KeptStep.{CommandsKeep, DevicesKeep, KeptByRestoring, KeptByRows}
 pub use Rattle.safety.specs.LazyRuns.LateEvents.{IsTimely, is_late_row, is_report_of_success}
 unfoldable pub use Rattle.safety.specs.LazyRuns.LateEvents.{is_held_ring, is_late}
-pub use Rattle.safety.specs.LazyRuns.Law.{AllAreRead, AreAtFloors, ContainsAll, FewSteps, GoesSoFar, LazyLaw, scene_with}
+pub use Rattle.safety.specs.LazyRuns.Law.{AllAreRead, AreAtFloors, ContainsAll, FewSteps, GoesSoFar, LazyLaw}
 pub use Rattle.safety.specs.LazyRuns.Lazy.{further as lazy_further}
 unfoldable pub use Rattle.safety.specs.LazyRuns.Lazy.{behind_taken, brought, brought as lazy_brought, command_taken, further, goals, goals as lazy_goals, lazy_run, lazy_steps, looks_to, open_goals, pointers_after, pointers_at, pointers_for, post_of, report_goals, spots_before, steps_before, steps_for, stop_goal, stopped_goals, taken_up_to}
 unfoldable pub use Rattle.safety.specs.LazyRuns.Needs.{begins_anew, ends_need, is_placed_by, is_placed_by_all, need, number_behind, number_needed, number_reported, ring_placed}

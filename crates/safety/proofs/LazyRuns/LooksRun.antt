@@ -12,14 +12,14 @@ module _ (h : Header) (is : IsHeader h) (k : Known) (w : World) (d : DriverKeeps
   shows_cycle same = ap not (eq-eqb (cycle (seen w r)) (w.cycle_state r) same)
 
   pub block_taken : (q : ℕ) → RingMatches (shape_of h r) (k.ring r) (state_of w r) (Data q) → (k.ring r).given q ≡ true → (r == command_id h && is_some w.under_way) ≡ false →
-      looked h w r ≡ Some (looks_taken h (seen_by_look h w r) r (seen w r))
+      looked h h w r ≡ Some (looks_taken h (seen_by_look h w r) r (seen w r))
   unfolding looked looked_at
   block_taken q m given free =
       let t = takeable (shape_of h r) (ring_shape h is r ring).is k.memory (k.ring r) (d.rings r ring) q (stands_at h is k w d s r (Data q) ring m) given ((d.rings r ring).open_restored (m.opened on) q) in
       simp (on, shows_cycle (ap (λ b. cycle b) (block_found h is k w d s r (Data q) ring m) ∙ t.cycle_is ∙ sym m.cycle), block_no_link h is k w d s r ring q m t, free)
 
   pub link_followed : (q : ℕ) → RingMatches (shape_of h r) (k.ring r) (state_of w r) (Link q) → (k.ring r).crossed q ≡ true →
-      looked h w r ≡ Some (crossed h (seen_by_look h w r) r (seen w r))
+      looked h h w r ≡ Some (crossed h (seen_by_look h w r) r (seen w r))
   unfolding looked looked_at
   link_followed q m given =
       let c = crossable (shape_of h r) (ring_shape h is r ring).is k.memory (k.ring r) (d.rings r ring) q (stands_at h is k w d s r (Link q) ring m) given in
@@ -46,7 +46,7 @@ module _ (h : Header) where
 
   pub record LookDone (w : World) (r : ℕ) (s : Spot) : Type 0 where
     pub world : World
-    pub made : looked h w r ≡ Some world
+    pub made : looked h h w r ≡ Some world
     pub stands : StandsAt h (counted h world) r (next (shape_of h r) s)
     pub leaves : LooksLeave h w (counted h world) r
 
@@ -69,7 +69,7 @@ module _ (h : Header) where
         let here : done.number ≡ q = ap number (sym done.was) in
         let v : World = looks_taken h (seen_by_look h w r) r b in
         let o : OnlyRing w v r (behind_block h w r b) = only_taken_any w r b in
-        let made : looked h w r ≡ Some v = block_taken h is k w d g.stands r m.ring may.active q m.matches given (search (rules, arith, cases_eq, command_id, and_left, is_some, ne_eqb, cases_Bool, commands_stand, and_right)) in
+        let made : looked h h w r ≡ Some v = block_taken h is k w d g.stands r m.ring may.active q m.matches given (search (rules, arith, cases_eq, command_id, and_left, is_some, ne_eqb, cases_Bool, commands_stand, and_right)) in
         record {
           world = v;
           made = made;
@@ -91,7 +91,7 @@ module _ (h : Header) where
         let here : done.number ≡ q = ap number (sym done.was) in
         let v : World = crossed h (seen_by_look h w r) r b in
         let o : OnlyRing w v r (behind_link h w r b) = only_crossed h w r b in
-        let made : looked h w r ≡ Some v = link_followed h is k w d g.stands r m.ring may.active q m.matches given in
+        let made : looked h h w r ≡ Some v = link_followed h is k w d g.stands r m.ring may.active q m.matches given in
         record {
           world = v;
           made = made;
@@ -164,7 +164,7 @@ module _ (h : Header) where
               let g : Agrees h k [] w = agrees_now h past.known w runs read in
               let one : LookDone h w r s = one_look h is k w d g r s t before at (may before) in
               let v : World = counted h one.world in
-              let then_run : Leads h past (Look r ∷ made) to_come v = step_reached h past to_come made w one.world (Look r) (looked h w r) (λ e. cc) refl run (g.stands.stopped ∙ runs.on) one.made in
+              let then_run : Leads h past (Look r ∷ made) to_come v = step_reached h past to_come made w one.world (Look r) (looked h h w r) (λ e. cc) refl run (g.stands.stopped ∙ runs.on) one.made in
               let then_runs : Runs h past.known v = look_runs h is past.known w one.world r runs (run_keeps h is k w d runs) one.made in
               let later : rank s < rank (next (shape_of h r) s) = next_later (shape_of h r) s in
               let rest : Looked h past to_come (Look r ∷ made) v r t (looks_on r t (next (shape_of h r) s) n) =

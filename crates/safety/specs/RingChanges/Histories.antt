@@ -15,8 +15,8 @@ use Rattle.segments.specs.RingView as changes
 use Rattle.ring_knowledge.specs.Rings.{on_ring}
 use Rattle.safety.specs.RingChanges.Withdrawals.{is_bad_withdraw, is_left, restored, ring_restored, some_flips}
 use Rattle.safety.specs.RingChanges.Changes.{IsComing, forgotten, is_bad_free, is_bad_ring}
-pub use Rattle.controller_model.specs.RingRows.{header_after, row_made}
-pub use Rattle.controller_model.specs.Scenes.{Scene, row_next, scene_reached, step_made}
+pub use Rattle.controller_model.specs.RingRows.{header_after}
+pub use Rattle.controller_model.specs.Scenes.{Scene, row_made, row_next, scene_reached, step_made}
 
 -- what the type of a row keeps
 abbrev pub FitsFields : TraceRow → Type 0
@@ -54,7 +54,7 @@ module _ (h : Header) where
   AreKept [] = Unit {0}
   AreKept (row ∷ past) = AreKept past × IsKept (header_now past) (known_now past) row
 
-  -- behind each step of each run beside rows that break no rule the world is safe
+  -- behind each step of each run beside rows that break no rule the world is safe: no ring shows harm, live or gone
   abbrev pub RingsHeadline : Type 0
   RingsHeadline =
       (rows : List TraceRow) → IsHeader h → All FitsFields rows → AreKept (reverse rows) →

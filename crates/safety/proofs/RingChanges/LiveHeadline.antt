@@ -1,5 +1,5 @@
--- The headline where rings come and go: behind each step of each run beside rows that break no rule the world is safe
-use Rattle.safety.proofs.UpperLaws.{[], ◌≡◌, ◌∷◌, ◌++◌, ◌∙◌, false, List, Some, All, reverse, refl, sym, ap, subst, inl, inr, append_assoc, append-nil, rules, opening, TraceRow, AreKept, IsKept, FitsFields, RingsHeadline, Scene, header_after, header_now, known_after, known_now, row_made, row_next, scene_reached, step_made, restored, ring_restored, false≢true, reverse-append, All-cons, All-head, All-tail, none-some, same_Some, Header, Step, NextRow, IsHeader, IsStep, World, IsSafe, Known, DriverKeeps, Runs, more_law, nothing_kept, gone_ring_header, gone_ring_kept, mapped, some_then, opens, safe, clean_tests, Comes, Goes, Plain}
+-- Behind each step of each run, as the rings that live see it, beside rows that break no rule the world is safe for them
+use Rattle.safety.proofs.UpperLaws.{[], ◌≡◌, ◌∷◌, ◌++◌, ◌∙◌, false, List, Some, All, reverse, refl, sym, ap, subst, inl, inr, append_assoc, append-nil, rules, opening, TraceRow, AreKept, IsKept, FitsFields, RingsHeadline, LiveScene, header_after, header_now, known_after, known_now, live_row, live_next, live_reached, live_step, restored, ring_restored, false≢true, reverse-append, All-cons, All-head, All-tail, none-some, same_Some, Header, Step, NextRow, IsHeader, IsStep, World, IsSafe, Known, DriverKeeps, Runs, more_law, nothing_kept, gone_ring_header, gone_ring_kept, mapped, some_then, opens, safe, clean_tests, Comes, Goes, Plain}
 use Rattle.std.proofs.Common.{option_map}
 use Rattle.safety.specs.Invariant.{Holds}
 use Rattle.safety.proofs.DriverHistories.{kept_driver, run_keeps}
@@ -19,7 +19,7 @@ module _ (h : Header) (is : IsHeader h) (k : Known) (keeps : DriverKeeps h k) wh
   law : RowLaw h
   law = row_runs h is (kept_driver h) (still_rings h) (square_law h) (more_law h)
 
-  row_goes : (row : TraceRow) (w v : World) → FitsFields row → Runs h k w → IsKept h k row → row_made h w row ≡ Some v → Holds (header_after h row) (known_after h k row) (steps.counted h v)
+  row_goes : (row : TraceRow) (w v : World) → FitsFields row → Runs h k w → IsKept h k row → live_row h w row ≡ Some v → Holds (header_after h row) (known_after h k row) (steps.counted h v)
   row_goes (Plain row) w v is_row run kept at = search (rules, row_holds, law, row_keeps, restored_row_runs, row_comes, same_Some)
   row_goes _ w v is_row run kept at = search (rules, row_holds, law, row_keeps, restored_row_runs, row_comes, same_Some, withdraw_runs, comes_runs, goes_runs)
 
@@ -72,23 +72,23 @@ module _ (h : Header) (is : IsHeader h) where
       }
 
   -- a run has come to a scene, with `past` the rows that were made, the newest first
-  record CameTo (past : List TraceRow) (x : Scene) : Type 0 where
-    made : All FitsFields past
-    left : All FitsFields x.rows
-    kept : AreKept h (reverse x.rows ++ past)
-    header : x.header ≡ header_now h past
-    holds : Holds (header_now h past) (known_now h past) x.world
+  pub record CameTo (past : List TraceRow) (x : LiveScene) : Type 0 where
+    pub made : All FitsFields past
+    pub left : All FitsFields x.rows
+    pub kept : AreKept h (reverse x.rows ++ past)
+    pub header : x.header ≡ header_now h past
+    pub holds : Holds (header_now h past) (known_now h past) x.world
 
-  here : (past : List TraceRow) (x : Scene) → CameTo past x → Runs (header_now h past) (known_now h past) x.world → Keeps past
+  pub here : (past : List TraceRow) (x : LiveScene) → CameTo past x → Runs (header_now h past) (known_now h past) x.world → Keeps past
   here past x c run = now_keeps past c.made (later_kept h (reverse x.rows) past c.kept) run.on
 
   -- ---- a row
 
-  next : (past : List TraceRow) (x y : Scene) (rows : List TraceRow) → x.rows ≡ rows → CameTo past x → row_next (record { header = header_now h past; rows = x.rows; world = x.world }) rows ≡ Some y →
+  next : (past : List TraceRow) (x y : LiveScene) (rows : List TraceRow) → x.rows ≡ rows → CameTo past x → live_next (record { header = header_now h past; rows = x.rows; world = x.world }) rows ≡ Some y →
       (row : TraceRow) × CameTo (row ∷ past) y
   next past x y [] same c at = absurd (none-some y at)
   next past x y (row ∷ rest) same c at =
-      let there = mapped (λ w. let z : Scene = record { header = header_after (header_now h past) row; rows = rest; world = steps.counted (header_now h past) w } in z) (row_made (header_now h past) x.world row) y at in
+      let there = mapped (λ w. let z : LiveScene = record { header = header_after (header_now h past) row; rows = rest; world = steps.counted (header_now h past) w } in z) (live_row (header_now h past) x.world row) y at in
       let kept : AreKept h (reverse rest ++ (row ∷ past)) = subst (AreKept h) (one_more row rest past) (subst (λ l. AreKept h (reverse l ++ past)) same c.kept) in
       let own : AreKept h (row ∷ past) = later_kept h (reverse rest) (row ∷ past) kept in
       let left : All FitsFields (row ∷ rest) = subst (All FitsFields) same c.left in
@@ -109,35 +109,32 @@ module _ (h : Header) (is : IsHeader h) where
 
   -- ---- a controller's step: the same rows stay
 
-  stays : (past : List TraceRow) (x y : Scene) (s : Step) → IsStep s → (s ≡ NextRow → ⊥) → CameTo past x →
-      option_map (λ w. let z : Scene = record { header = header_now h past; rows = x.rows; world = steps.counted (header_now h past) w } in z) (steps.made (header_now h past) x.world s) ≡ Some y → CameTo past y
+  stays : (past : List TraceRow) (x y : LiveScene) (s : Step) → IsStep s → (s ≡ NextRow → ⊥) → CameTo past x →
+      option_map (λ w. let z : LiveScene = record { header = header_now h past; rows = x.rows; world = steps.counted (header_now h past) w } in z) (steps.made (header_now h past) (header_now h past) x.world s) ≡ Some y → CameTo past y
   stays past x y s is_step other c at = search (rules, mapped, header_now, x.world, here, step_goes, known_now, false≢true, runs_on)
 
-  step : (past : List TraceRow) (x y : Scene) (s : Step) → IsStep s → CameTo past x → step_made x s ≡ Some y → (now : List TraceRow) × CameTo now y
-  step past x y s is_step c at = by s is_step (ap (λ z. step_made z s) (sym same) ∙ at)
+  pub step : (past : List TraceRow) (x y : LiveScene) (s : Step) → IsStep s → CameTo past x → live_step x s ≡ Some y → (now : List TraceRow) × CameTo now y
+  step past x y s is_step c at = by s is_step (ap (λ z. live_step z s) (sym same) ∙ at)
     where
-      same : ◌≡◌ {A = Scene} x (record { header = header_now h past; rows = x.rows; world = x.world })
+      same : ◌≡◌ {A = LiveScene} x (record { header = header_now h past; rows = x.rows; world = x.world })
       same = λ j. record { header = c.header j; rows = x.rows; world = x.world }
 
-      by : (s : Step) → IsStep s → step_made (record { header = header_now h past; rows = x.rows; world = x.world }) s ≡ Some y → (now : List TraceRow) × CameTo now y
+      by : (s : Step) → IsStep s → live_step (record { header = header_now h past; rows = x.rows; world = x.world }) s ≡ Some y → (now : List TraceRow) × CameTo now y
       by NextRow is_step at = let n = next past x y x.rows refl c at in (n.0 ∷ past, n.1)
       by s is_step at = (past, stays past x y s is_step (λ e. cc) c at)
 
-  came : (rows : List TraceRow) → All FitsFields rows → AreKept h (reverse rows) → (made : List Step) (x : Scene) → All IsStep made → scene_reached h rows made ≡ Some x →
+  pub came : (rows : List TraceRow) → All FitsFields rows → AreKept h (reverse rows) → (made : List Step) (x : LiveScene) → All IsStep made → live_reached h rows made ≡ Some x →
       (past : List TraceRow) × CameTo past x
   came rows are kept [] x all at = ([], subst (CameTo []) (same_Some (record { header = h; rows = rows; world = opening [] }) x at) (search (rules, reverse, append-nil, opens)))
   came rows are kept (s ∷ older) x all at =
-      let before = some_then (λ z. step_made z s) (scene_reached h rows older) x at in
+      let before = some_then (λ z. live_step z s) (live_reached h rows older) x at in
       let came_before = came rows are kept older before.0 (All-tail IsStep s older all) before.1 in
       step came_before.0 before.0 x s (All-head IsStep s older all) came_before.1 before.2
 
-  safe_there : (past : List TraceRow) (x : Scene) → CameTo past x → IsSafe x.header x.world
+  pub safe_there : (past : List TraceRow) (x : LiveScene) → CameTo past x → IsSafe x.header x.world
   safe_there past x c =
       subst (λ g. IsSafe g x.world) (sym c.header)
       (elim c.holds [
         | inl run ↦ let p = here past x c run in safe (header_now h past) p.headed (known_now h past) x.world run (run_keeps (header_now h past) p.headed (known_now h past) x.world p.keeps run)
         | inr over ↦ over.safe
       ])
-
-pub rings_headline : (h : Header) → RingsHeadline h
-rings_headline h rows is are kept made x all at = let c = came h is rows are kept made x all at in safe_there h is c.0 x c.1
