@@ -1,5 +1,5 @@
 -- Beside rows of which none is a ring's, runs and replays are those beside a trace of the driver's rows alone
-use Rattle.controller_model.proofs.Words.{arith, rules, ◌≡◌, ◌≢◌, ◌+◌, ◌==◌, ◌&&◌, ◌∙◌, ◌∷◌, if◌then◌else◌, ℕ, not, nat_le, nat_lt, Bool, List, [], Option, Some, None, is_some, length, map, option_and_then, option_map, position, ap, refl, same_Some, list_any, range_with_len, Block, kind, code, word, is_set, Command, Change, changes, is_running, EndpointState, Header, Row, Step, NextRow, World, UnderWay, opening, stored, stored_block, event_at, harm_of, harms, waits, has_changed_context, is_changed_since, is_context_changed, counted, made, stepped, while_running, is_scribbled, scribbled, looked, looked_at, seen_by_look, crossed, taken, taken_on, declared_next, command_begun, look_shows, shows, can_post, posted, unreported, is_last, with_reported, report_success, report_error, report_stop, report_code, reported, reported_on, stopped_with, other_posted, succeeded, ended, ended_with, finished, finished_as, changed_by, changed_by_all, effect, is_had_by_another, placed_on, placed, disabled, inactive, in_state, row_done, next_row, declared, register_row, bell_row, event_read, endpoint_bell, activated, valued, run_or_stop, started_with, with_dequeue, may_scribble, has_one_of, is_transfer_event, is_other_event, is_command_completion, Plain, Scene, scene_ending_from, scene_replayed, scene_seen_by, scene_seen_from, step_made, replayed, seen_by, seen_from, NoHarm, ending_from, ending_of, judged}
+use Rattle.controller_model.proofs.Words.{arith, rules, ◌≡◌, ◌≢◌, ◌+◌, ◌==◌, ◌&&◌, ◌∙◌, ◌∷◌, if◌then◌else◌, ℕ, not, nat_le, nat_lt, Bool, List, [], Option, Some, None, is_some, length, map, option_and_then, option_map, position, ap, refl, same_Some, list_any, range_with_len, Block, kind, code, word, is_set, Command, Change, changes, is_running, EndpointState, Header, Row, Step, NextRow, World, UnderWay, opening, stored, stored_block, event_at, harm_of, harms, waits, has_changed_context, is_changed_since, is_context_changed, counted, made, stepped, while_running, is_scribbled, scribbled, looked, looked_at, seen_by_look, crossed, taken, taken_on, declared_next, command_begun, look_shows, shows, can_post, posted, unreported, is_last, with_reported, report_success, report_error, report_stop, report_code, reported, reported_on, stopped_with, other_posted, succeeded, ended, ended_with, finished, finished_as, changed_by, changed_by_all, effect, is_had_by_another, placed_on, placed, disabled, inactive, in_state, row_done, next_row, declared, register_row, bell_row, event_read, endpoint_bell, activated, valued, run_or_stop, started_with, with_dequeue, may_scribble, has_one_of, is_transfer_event, is_other_event, is_command_completion, Plain, Scene, TraceRow, with_left, with_world, scene_ending_from, scene_replayed, scene_seen_by, scene_seen_from, step_made, replayed, seen_by, seen_from, NoHarm, ending_from, ending_of, judged}
 
 -- the world with other rows still to come
 abbrev pub beside : List Row → World → World
@@ -141,13 +141,19 @@ onward : (h : Header) (rows : List Row) (o u : Option World) → option_map (bes
 unfolding counted
 onward h rows o u stays e = grind (arith, option_map, same_Some)
 
+-- a row of the driver leads from a scene to one with another world
+row_twice : (x : Scene) (rest : List TraceRow) (o : Option World) → option_map (with_left rest) (option_map (with_world x) o) ≡ option_map (λ w. with_left rest (with_world x w)) o
+row_twice x rest o = grind arith
+
 plain_step : (h : Header) (w : World) (s : Step) → step_made (plain_scene h w) s ≡ option_map (plain_scene h) (stepped h h w s)
 unfolding stepped made next_row
 plain_step h w NextRow = by w.rows
   where
     by : (rows : List Row) → step_made (record { header = h; live = h; rows = map (λ row. Plain row) rows; world = beside [] w }) NextRow ≡ option_map (plain_scene h) (option_map (counted h) (next_row h w rows))
     by [] = refl
-    by (row ∷ rest) = onward h rest (row_done h (beside rest w) row) (row_done h (beside [] w) row) (row_so rest h (beside rest w) row) (row_so [] h (beside rest w) row)
+    by (row ∷ rest) =
+        row_twice (record { header = h; live = h; rows = map (λ row. Plain row) (row ∷ rest); world = beside [] w }) (map (λ row. Plain row) rest) (row_done h (beside [] w) row)
+        ∙ onward h rest (row_done h (beside rest w) row) (row_done h (beside [] w) row) (row_so rest h (beside rest w) row) (row_so [] h (beside rest w) row)
 plain_step h w s =
     onward h w.rows (made h h w s) (made h h (beside [] w) s) (made_so w.rows h w s (λ e. absurd (cc))) (made_so [] h w s (λ e. absurd (cc)))
 

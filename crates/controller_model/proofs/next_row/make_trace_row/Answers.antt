@@ -7,7 +7,7 @@ returns-in-Plain-clause-step g c = λ rows x f.
     let h = c.args.rings.now.declared in
     let words = g.M.WordMemory.words c.make_row.new.memory in
     let k = c.make_row.new.kept in
-    let row = c.in-Plain.row.now in
+    let row = c.in-Plain.row in
     rw (c.in-Plain.is, ap (λ (z : Header). option_map (with_world x) (row_done z x.world row)) f.header)
     (step_mapped c.make_row.result (row_done h x.world row) (with_world x) RowSeen (Follows h [] words k) (FollowsScene c.args.rings.now rows words k)
     (λ w follows. record { header = f.header; live = f.live; lists = f.lists; left = f.left; follows = follows }) (c.make_row.ensures.step [] x.world f.follows))

@@ -1,4 +1,4 @@
-use Rattle.controller_model.proofs.Words.{◌≡◌, ◌≢◌, ◌∙◌, if◌then◌else◌, ℕ, true, false, ap, sym, subst, Scene, Header, ring_with, emptied, listed, may_come, with_coming, FollowsScene, cond-true, cond-false}
+use Rattle.controller_model.proofs.Words.{◌≡◌, ◌≢◌, ◌∙◌, ℕ, true, false, ap, sym, Header, ring_with, listed, may_come, with_coming, cond-true, cond-false}
 use Rattle.controller_model.proofs.RingRowLemmas.{listed_alike, listed_lists}
 use Rattle.controller_model.proofs.ring_rows.add_ring.Goals as goal
 

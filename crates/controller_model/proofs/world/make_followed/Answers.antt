@@ -3,7 +3,7 @@ use Rattle.controller_model.proofs.world.make_followed.Goals as goal
 
 pub returns-then-not-is_quiet-clause-step : goal.returns-then-not-is_quiet-clause-step
 returns-then-not-is_quiet-clause-step g c = λ x f.
-    let h = c.make_step.new.lists in
+    let h = c.make_step.new.rings in
     let left = c.make_step.new.left in
     let words = g.M.WordMemory.words c.make_step.new.memory in
     let k = c.make_step.new.kept in
@@ -12,7 +12,7 @@ returns-then-not-is_quiet-clause-step g c = λ x f.
 
 pub returns-else-not-is_quiet-clause-step : goal.returns-else-not-is_quiet-clause-step
 returns-else-not-is_quiet-clause-step g c = λ x f.
-    let h = c.make_step.new.lists in
+    let h = c.make_step.new.rings in
     let left = c.make_step.new.left in
     let words = g.M.WordMemory.words c.make_step.new.memory in
     let k = c.make_step.new.kept in
