@@ -62,8 +62,8 @@ fn replay_in<M: WordMemory + Drop>(
     }
 }
 
-/// Replays a schedule beside the rows of a trace: what all its steps show, where there is no harm after any, nor before the first. The
-/// rings that are there change from row to row; each step and its harm are told by those that are there then. Each fault has what the
+/// Replays a schedule beside the rows of a trace: what all its steps show, where there is no harm after any, nor before the first. Rows
+/// declare rings and end the lives of others; harm is asked of each that was declared, whether it lives or went. Each fault has what the
 /// steps done showed. `Memory` is answered only where a growth was refused or a count would pass 2^64.
 pub fn replay(
     alloc: Global,
