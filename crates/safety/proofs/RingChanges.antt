@@ -13,6 +13,5 @@ pub mod Withdrawn
 pub mod Restored
 pub mod LiveRuns
 pub mod LiveHeadline
-pub mod GoneAside
 pub mod RingsHeadline
 pub mod Examples

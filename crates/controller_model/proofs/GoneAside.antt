@@ -1,25 +1,45 @@
 -- A step leaves aside what is left of the rings that went: it does beside them what it does without them
-use Rattle.safety.proofs.Words.{arith, rules, ◌≡◌, ◌≢◌, ◌+◌, ◌-◌, ◌%◌, ◌^◌, ◌==◌, ◌&&◌, ◌||◌, ◌∙◌, ◌∷◌, ◌++◌, if◌then◌else◌, ℕ, Bool, true, false, not, List, [], Option, Some, None, is_some, length, ap, refl, sym, inl, inr, cond-true, cond-false, cases_Bool, cases_eq, eq-eqb, false≢true, fun_ext, put, Block, Header, Row, Sub, Write, Reg, Bell, Read, command_id, event_shape, event_size, shape_of, World, next_take, declared_at}
-use Rattle.std.specs.Prelude.{option_map, position, nat_lt}
+use Rattle.std.proofs.Common.{rules, arith, ◌≡◌, ◌≢◌, ◌+◌, ◌-◌, ◌%◌, ◌^◌, ◌==◌, ◌&&◌, ◌∙◌, ◌∷◌, ◌++◌, if◌then◌else◌, ℕ, Bool, true, false, not, List, [], Option, Some, None, is_some, length, drop, ap, refl, sym, inl, inr, eq-eqb, ne_eqb, nat_lt}
+use Rattle.std.proofs.lemmas.Bool.{cases_Bool, cases_eq, cond-true, cond-false}
+use Rattle.std.proofs.Math.Path.{fun_ext}
+use Rattle.std.specs.Prelude.{option_map, option_and_then, position}
 use Rattle.std.specs.List.{list_any, range_with_len}
+use Rattle.guest_memory.specs.Memory.{put, put_pair}
+use Rattle.trb.specs.declared.block.Block.{Block}
 use Rattle.trb.specs.Bits.{is_set}
-use Rattle.trb.specs.Block.{block_at, code, cycle, kind, word}
+use Rattle.trb.specs.Block.{block_at, code, cycle, endpoint, kind, pointer, same_words, slot, word}
+use Rattle.trb.specs.CompletionCode.{is_halting, is_stopping, is_success, is_trb_error}
 use Rattle.trb.specs.Kind.{is_command_completion, is_link, is_other_event, is_transfer_event}
+use Rattle.segments.specs.ShapeValue.{Shape}
+use Rattle.segments.specs.Places.{address_of, cycle_of, is_in, place_count}
+use Rattle.segments.specs.Descriptors.{declared_at}
+use Rattle.contexts.specs.Contexts.{device_context, device_context_bytes}
+use Rattle.contexts.specs.declared.size.ContextSize.{ContextSize}
 use Rattle.commands.specs.declared.command.Command.{Command}
 use Rattle.commands.specs.declared.state.EndpointState.{EndpointState}
-use Rattle.commands.specs.Changes.{Change}
+use Rattle.commands.specs.declared.state.EndpointState.TheVariants.{Error, Halted, Stopped}
+use Rattle.commands.specs.Command.{command_of}
+use Rattle.commands.specs.States.{is_running}
+use Rattle.commands.specs.Changes.{Change, Places, Stops, changes}
+use Rattle.event_ring.specs.EventRing.{has_room, is_event_place, position_from}
+use Rattle.traces.specs.declared.header.Header.{Header}
+use Rattle.traces.specs.declared.row.Row.{Row}
+use Rattle.traces.specs.declared.row.Row.TheVariants.{Sub, Write, Reg, Bell, Read}
+use Rattle.traces.specs.declared.register.Register.TheVariants.{Crcr, Dcbaap}
 use Rattle.traces.specs.declared.step.Step.{Step}
-use Rattle.traces.specs.declared.step.Step.TheVariants.{NextRow}
+use Rattle.traces.specs.declared.step.Step.TheVariants.{NextRow, Look, Report, Finish, Other, Scribble}
+use Rattle.traces.specs.Header.{command_id, event_shape, event_size, ring_having, shape_of}
+use Rattle.traces.specs.Register.{base_address, register_or_zero, ring_cycle_state}
 use Rattle.world_state.specs.World as world
-use Rattle.world_state.specs.World.{RingEvent, Took, UnderWay}
+use Rattle.world_state.specs.World.{RingEvent, Placed, Took, UnderWay, World}
 use Rattle.world_state.specs.Takes as takes
+use Rattle.world_state.specs.Takes.{next_take}
 use Rattle.controller_model.specs.DriverRows as driver
 use Rattle.controller_model.specs.Looks as looks
 use Rattle.controller_model.specs.Posts as posts
 use Rattle.controller_model.specs.Bindings as bindings
 use Rattle.controller_model.specs.Finishes as finishes
 use Rattle.controller_model.specs.Steps as steps
-use Rattle.safety.proofs.LookKinds.{put_off}
 
 -- what is left of the rings that went, by ID: what was declared on them, and what happened
 pub record Left : Type 0 where
@@ -43,6 +63,9 @@ aside l w = record w {
 
 pub laid_here : {A : Type 0} (g : ℕ → Bool) (old now : ℕ → A) (r : ℕ) → g r ≡ false → laid g old now r ≡ now r
 laid_here g old now r off = cond-false (g r) (old r) (now r) off
+
+put_off : {A : Type 0} (f : ℕ → A) (n : ℕ) (x : A) (m : ℕ) → m ≢ n → put f n x m ≡ f m
+put_off f n x m other = cond-false (m == n) x (f m) (ne_eqb m n other)
 
 put_is : {A : Type 0} (f : ℕ → A) (r n : ℕ) (x : A) → n ≡ r → put f r x n ≡ x
 put_is f r n x same = cond-true (n == r) x (f n) (eq-eqb n r same)
