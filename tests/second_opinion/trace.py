@@ -99,10 +99,6 @@ class Trace(RingList):
         return 33 * self.context_bytes
 
 
-# the rows that `show` doesn't take yet; beside them this folder makes no schedules of its own
-UNKEPT = (Comes, Goes, Withdraws)
-
-
 # ---- lines
 
 def lines_of(text):

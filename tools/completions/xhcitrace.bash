@@ -8,20 +8,30 @@ _xhcitrace() {
     return
   fi
   case $command in
-    check) options='--cert --show --search --explain --help -h' ;;
-    verify | schedule | replay | show | write | decode) options='--explain --help -h' ;;
+    check) options='--cert --show --search --format --unjudged --summary --explain --color --help -h' ;;
+    verify | replay | show) options='--format --explain --color --help -h' ;;
+    schedule | write) options='--explain --color --help -h' ;;
+    decode) options='--explain --help -h' ;;
     explain)
-      mapfile -t COMPREPLY < <(compgen -W '10 11 12 13 14 15 16 17 18 19 20 21 22 23 24 25 32 33 34 35 WriteToOwned NotAsSubmitted NotDeclared NotWhole
+      [ "$before" = --format ] || mapfile -t COMPREPLY < <(compgen -W '10 11 12 13 14 15 16 17 18 19 20 21 22 23 24 25 32 33 34 35 WriteToOwned NotAsSubmitted NotDeclared NotWhole
         LinkFault RingFull BadDescriptor BadRegister BadDoorbell BadCommand Busy ImpossibleEvent BadErdp NotInProfile AfterStop BadMove
         BadWithdraw NotRestored BadFree BadRing 1 2 3 4 5 6 7 8 26 30 31 Header Row Number Limit Shape Magic Length Field NotGiven Memory
-        Device harm-1 harm-2 harm-3 harm-4 harm-5 harm-6 --help -h' -- "$word")
-      return ;;
+        Device harm-1 harm-2 harm-3 harm-4 harm-5 harm-6 --format --help -h' -- "$word")
+      [ "$before" = --format ] || return ;;
     help)
       mapfile -t COMPREPLY < <(compgen -W 'check verify schedule replay show write decode explain help' -- "$word")
       return ;;
     *) return ;;
   esac
-  if [ "$before" != --cert ] && [ "${word#-}" != "$word" ]; then
+  if [ "$before" = --format ]; then
+    [ "$command" != check ] || options='text json sarif'
+    [ "$command" = check ] || options='text json'
+    mapfile -t COMPREPLY < <(compgen -W "$options" -- "$word")
+  elif [ "$before" = --color ]; then
+    mapfile -t COMPREPLY < <(compgen -W 'auto always never' -- "$word")
+  elif [ "$before" = --unjudged ]; then
+    return
+  elif [ "$before" != --cert ] && [ "${word#-}" != "$word" ]; then
     mapfile -t COMPREPLY < <(compgen -W "$options" -- "$word")
   elif [ "$command" != decode ]; then
     compopt -o filenames 2>/dev/null

@@ -1,4 +1,5 @@
 """What the checker's program says of a trace: its verdict, its leases, and what a replay shows. Nothing here judges a row itself."""
+import contextlib
 import os
 import re
 import struct
@@ -9,10 +10,12 @@ from dataclasses import dataclass
 
 sys.path.append(os.path.join(os.path.dirname(os.path.dirname(os.path.abspath(__file__))), 'recorder'))
 import verdict
+from progress import Progress
 
 BLOCK, LINK, RANGE = 0, 1, 2
 WITHOUT_END = 0xffffffff
 MAGIC_BYTES = 8
+PIECE = 1 << 16
 LEASE = struct.Struct('<IIQII')
 
 
@@ -119,9 +122,29 @@ class Program:
         except OSError as fault:
             raise NoProgram(f'{self.path}: {fault.strerror}') from fault
 
-    def answered(self, *words, given=b''):
+    def watched(self, *words, given):
+        """The answer to these arguments, which is short, and how far the input is read, told at a terminal."""
+        progress = Progress(len(given))
+        try:
+            ran = subprocess.Popen([self.path, *words], stdin=subprocess.PIPE, stdout=subprocess.PIPE, stderr=subprocess.PIPE)
+        except OSError as fault:
+            raise NoProgram(f'{self.path}: {fault.strerror}') from fault
+        # a trace that is refused isn't read to its end
+        with contextlib.suppress(BrokenPipeError):
+            for begin in range(0, len(given), PIECE):
+                ran.stdin.write(given[begin:begin + PIECE])
+                ran.stdin.flush()
+                progress.note(given[begin:begin + PIECE])
+        with contextlib.suppress(BrokenPipeError):
+            ran.stdin.close()
+        ran.stdin = None
+        told = ran.communicate()
+        progress.end()
+        return subprocess.CompletedProcess(words, ran.returncode, *told)
+
+    def answered(self, *words, given=b'', is_watched=False):
         """What the program prints where it can read its input."""
-        ran = self.run(*words, given=given)
+        ran = self.watched(*words, given=given) if is_watched else self.run(*words, given=given)
         if ran.returncode not in (0, 1):
             raise BadInput(ran.stderr.decode(errors='replace').strip())
         return ran.stdout.decode(), ran.stderr.decode(errors='replace').strip()
@@ -130,7 +153,7 @@ class Program:
         """The verdict on a trace, and its certificate: that of the rows before the refused one, where a row is refused."""
         with tempfile.TemporaryDirectory() as folder:
             path = os.path.join(folder, 'leases')
-            answer, explained = self.answered('check', '--explain', '--cert', path, '-', given=text)
+            answer, explained = self.answered('check', '--explain', '--cert', path, '-', given=text, is_watched=True)
             found = re.match(r'row (\d+): ', answer)
             if found:
                 self.answered('check', '--cert', path, '-', given=lines_before(text, int(found[1])))

@@ -19,7 +19,7 @@ use Rattle.certificate.specs.declared.fault.CertFault.TheVariants.{Memory as NoL
 use Rattle.plan_writer.specs.PlanRefusals.{refusal_number, refusal_name}
 use Rattle.plan_writer.specs.declared.fault.PlanFault.{PlanFault}
 use Rattle.plan_writer.specs.declared.fault.PlanFault.TheVariants.{Line as BadPlanLine, Refused as RefusedLine, Memory as NoPlanMemory}
-use Rattle.answers.specs.Decoding.{decoded_text}
+use Rattle.block_text.specs.Decoding.{decoded_text}
 use Rattle.answers.specs.Replays.{end_status, replay_text}
 use Rattle.answers.specs.declared.answer.FoundHarm.{FoundHarm}
 use Rattle.answers.specs.declared.answer.Answer.{Answer}
@@ -60,6 +60,12 @@ goes_out Clean = true
 goes_out Unclean = true
 goes_out Unreadable = false
 goes_out Unanswered = false
+
+-- a row breaks a rule
+abbrev pub is_refused : Answer → Bool
+is_refused (Refused row refusal) = true
+is_refused (HarmShown row refusal harm) = true
+is_refused _ = false
 
 abbrev pub memory_line : List ℕ
 memory_line = codes "xhcitrace: 30 Memory\n"

@@ -2,8 +2,8 @@
 ghost use Rattle.std.specs.Prelude.{◌≡◌, ◌++◌, ◌∷◌, [], IfOk, IsOk, OnOk, codes, decimal, max, string_bytes};
 ghost use Rattle.answers.specs.Answers.{exit_number, harm_text, numbered_page, page_text, range_text, refused_text, status_of, text_of};
 
-use crate::decode::line_of;
 use crate::replay_lines::{ReplayEnd, replay_text};
+use block_text::line_of;
 use certificate::CertFault;
 use controller_model::Seen;
 use ownership_rules::Refusal;

@@ -1,6 +1,5 @@
 pub mod Appending
 pub mod Records
 pub mod RoundTrip
-pub mod Verifying
 pub mod Words
 pub mod Laws

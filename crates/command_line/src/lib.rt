@@ -5,11 +5,15 @@ ghost use Rattle.clap.specs.Matches.{first_value, found_of};
 ghost use Rattle.rule_pages.specs.Naming.{IsCalled};
 ghost use Rattle.std.specs.Prelude.{◌≡◌, ◌≢◌, ◌⊎◌, ℕ, List, None, Some, IfNone, IfSome, codes};
 
-use answers::BlockWords;
+use block_text::BlockWords;
+use clap::builder::ValueParser;
 use clap::error::ErrorKind;
 use clap::{Arg, ArgAction, ArgMatches, Command, Error};
 use rule_pages::{Subject, subject_called};
 use std::alloc::{AllocError, Global};
+
+/// The version, and the formats that are read.
+const VERSION: &str = "1.0 (xtrace 1 to 3, xplan 1, xsched 1, XHCICRT1)";
 
 const STATUSES: &str = "\
 Without a command it checks the trace on standard input.
@@ -35,14 +39,21 @@ With --show a schedule stands behind `row R: C Name`: a run of a controller that
 last step, as `replay` tells; or `no harmful schedule found`, which doesn't say that there is none. With --search beside it more
 are tried: ring by ring, runs in which the controller is late on this ring.
 
-Of several traces each is checked, in order, and `FILE: ` stands before each answer; the status is the greatest. There is no
-certificate of several traces, and no --show.
+Of several traces each is checked, in order, and `FILE: ` stands before each answer; the status is that of the worst one. There is
+no certificate of several traces, and no --show.
+
+A row that xHCI allows may be refused by the checker's profile or by the version of the trace's format alone, as --explain tells:
+with --unjudged its status is another one than that of a bug. It is worse than `accepted`, and better than each other answer. With
+--summary a last line is `N traces: A accepted, R refused, U not judged, B unreadable`: these have status 2 or 3.
+
+With --format json the answer to each trace is an object on a line, and with --format sarif there is a log of all (SARIF 2.1.0);
+both have what --explain says in its parts, on standard output, and so are bad lines and files that fail. The status is the same.
 
 Examples:
   xhcitrace check --explain examples/written_to_owned.xtrace
   xhcitrace check --show examples/write_after_the_doorbell.xtrace
   xhcitrace check --cert leases examples/two_descriptors.xtrace
-  xhcitrace check traces/*.xtrace";
+  xhcitrace check --summary --unjudged 0 traces/*.xtrace";
 
 const WRITE: &str = "\
 Prints the trace, status 0, or the first line that can't be followed as `line L: C Name`, status 1; on standard error the
@@ -109,7 +120,7 @@ Examples:
 pub fn command<'a>(alloc: Global) -> Result<Command<'a>, AllocError> {
     Command::new(alloc, "xhcitrace")
         .about("Checks recorded traces of drivers of USB host controllers (xHCI)")
-        .version("1.0")
+        .version(VERSION)
         .after_help(STATUSES)
         .bin_name("xhcitrace")?
         .subcommand(check(alloc)?)?
@@ -130,7 +141,11 @@ fn check<'a>(alloc: Global) -> Result<Command<'a>, AllocError> {
         .arg(certificate(alloc))?
         .arg(shown(alloc))?
         .arg(searched(alloc)?)?
-        .arg(explain(alloc))
+        .arg(report_format(alloc)?)?
+        .arg(unjudged(alloc))?
+        .arg(summary(alloc))?
+        .arg(explain(alloc))?
+        .arg(color(alloc))
 }
 
 fn verify<'a>(alloc: Global) -> Result<Command<'a>, AllocError> {
@@ -143,7 +158,9 @@ fn verify<'a>(alloc: Global) -> Result<Command<'a>, AllocError> {
             "CERT",
             "The file of the certificate, which is read first; -: standard input",
         ))?
-        .arg(explain(alloc))
+        .arg(object_format(alloc)?)?
+        .arg(explain(alloc))?
+        .arg(color(alloc))
 }
 
 fn schedule<'a>(alloc: Global) -> Result<Command<'a>, AllocError> {
@@ -157,7 +174,8 @@ fn schedule<'a>(alloc: Global) -> Result<Command<'a>, AllocError> {
             "TRACE",
             "The file of the trace; -, or none: standard input",
         ))?
-        .arg(explain(alloc))
+        .arg(explain(alloc))?
+        .arg(color(alloc))
 }
 
 fn write<'a>(alloc: Global) -> Result<Command<'a>, AllocError> {
@@ -169,7 +187,8 @@ fn write<'a>(alloc: Global) -> Result<Command<'a>, AllocError> {
             "PLAN",
             "The file of the plan; -, or none: standard input",
         ))?
-        .arg(explain(alloc))
+        .arg(explain(alloc))?
+        .arg(color(alloc))
 }
 
 fn replay<'a>(alloc: Global) -> Result<Command<'a>, AllocError> {
@@ -186,7 +205,9 @@ fn replay<'a>(alloc: Global) -> Result<Command<'a>, AllocError> {
             "SCHEDULE",
             "The file of the schedule; -: standard input",
         ))?
-        .arg(explain(alloc))
+        .arg(object_format(alloc)?)?
+        .arg(explain(alloc))?
+        .arg(color(alloc))
 }
 
 fn show<'a>(alloc: Global) -> Result<Command<'a>, AllocError> {
@@ -195,7 +216,9 @@ fn show<'a>(alloc: Global) -> Result<Command<'a>, AllocError> {
         .after_help(SHOW)
         .arg(needed(alloc, "TRACE", "The file of the trace; -: standard input"))?
         .arg(row(alloc))?
-        .arg(explain(alloc))
+        .arg(object_format(alloc)?)?
+        .arg(explain(alloc))?
+        .arg(color(alloc))
 }
 
 fn decode<'a>(alloc: Global) -> Result<Command<'a>, AllocError> {
@@ -217,7 +240,8 @@ fn tell_page<'a>(alloc: Global) -> Result<Command<'a>, AllocError> {
             alloc,
             "NUMBER",
             "The number, or the name behind it in upper or lower case; a harm's is harm-1 to harm-6",
-        ))
+        ))?
+        .arg(object_format(alloc)?)
 }
 
 /// What is told of arguments that aren't text.
@@ -241,6 +265,22 @@ pub fn one_shown(alloc: Global) -> Result<Error, AllocError> {
     command(alloc)?.error(
         ErrorKind::ArgumentConflict,
         "--show makes a schedule for one trace, and several are named",
+    )
+}
+
+/// What is told where a schedule that does harm is asked for in a form that has no place for it.
+pub fn no_schedule(alloc: Global) -> Result<Error, AllocError> {
+    command(alloc)?.error(
+        ErrorKind::ArgumentConflict,
+        "--show makes a schedule, which --format sarif has no place for; --format json has one",
+    )
+}
+
+/// What is told where a summary is asked for of answers that aren't text.
+pub fn no_summary(alloc: Global) -> Result<Error, AllocError> {
+    command(alloc)?.error(
+        ErrorKind::ArgumentConflict,
+        "--summary sums up answers as text, and JSON and a SARIF log have each answer apart",
     )
 }
 
@@ -292,6 +332,28 @@ fn explain<'a>(alloc: Global) -> Arg<'a> {
         )
 }
 
+/// In which form a command that judges traces answers.
+fn report_format<'a>(alloc: Global) -> Result<Arg<'a>, AllocError> {
+    Ok(
+        Arg::new(alloc, "format")
+            .long("format")
+            .value_name("FORM")
+            .value_parser(["text", "json", "sarif"].as_slice())
+            .help("Answers as text, as a JSON object for each trace, or as a SARIF log of all"),
+    )
+}
+
+/// In which form another command answers.
+fn object_format<'a>(alloc: Global) -> Result<Arg<'a>, AllocError> {
+    Ok(
+        Arg::new(alloc, "format")
+            .long("format")
+            .value_name("FORM")
+            .value_parser(["text", "json"].as_slice())
+            .help("Answers as text, or as a JSON object"),
+    )
+}
+
 fn certificate<'a>(alloc: Global) -> Arg<'a> {
     Arg::new(alloc, "cert").long("cert").value_name("FILE").help(
         "Writes the certificate of an accepted trace to FILE: which memory the controller owned, and when",
@@ -315,6 +377,36 @@ fn searched<'a>(alloc: Global) -> Result<Arg<'a>, AllocError> {
         .action(ArgAction::SetTrue)
         .help("Tries more schedules for --show: in each of them the controller is late on one ring")
         .requires_arg("show")
+}
+
+/// With which status a row ends that isn't judged.
+fn unjudged<'a>(alloc: Global) -> Arg<'a> {
+    Arg::new(alloc, "unjudged")
+        .long("unjudged")
+        .value_name("STATUS")
+        .value_parser(clap::value_parser!(u8))
+        .help(
+            "The status, 0 to 255, of a row that xHCI allows and the profile or the trace's version alone refuses; without it 1",
+        )
+}
+
+/// Whether traces are summed up.
+fn summary<'a>(alloc: Global) -> Arg<'a> {
+    Arg::new(alloc, "summary")
+        .long("summary")
+        .action(ArgAction::SetTrue)
+        .help("Prints last how many traces had which answer")
+}
+
+/// Whether explanations are coloured.
+fn color<'a>(alloc: Global) -> Arg<'a> {
+    Arg::new(alloc, "color")
+        .long("color")
+        .value_name("WHEN")
+        .value_parser(ValueParser::Names(&["auto", "always", "never"]))
+        .help(
+            "Whether what --explain tells is coloured; auto, or none: on a terminal, unless NO_COLOR is set",
+        )
 }
 
 /// The row before which a trace is shown.
@@ -353,6 +445,26 @@ pub fn subject(explain: &ArgMatches) -> Option<Subject>
     ensures { IfSome result (λ subject. (word : List ℕ) × (Some word ≡ first_value (found_of explain.now) (codes "NUMBER")) × IsCalled subject word) }
 {
     subject_called(explain.get_str("NUMBER")?)
+}
+
+/// In which form a command answers.
+#[derive(Clone, Copy, Debug, PartialEq, Eq)]
+pub enum Format {
+    /// Lines of text.
+    Text,
+    /// A JSON object on a line for each input.
+    Json,
+    /// A SARIF log of all inputs.
+    Sarif,
+}
+
+/// The form that a command's answer is asked for in, by default text.
+pub fn format_of(matches: &ArgMatches) -> Format {
+    match matches.get_str("format") {
+        Some("json") => Format::Json,
+        Some("sarif") => Format::Sarif,
+        _ => Format::Text,
+    }
 }
 
 /// The file that is named so, where there is one and it isn't standard input.

@@ -1,14 +1,14 @@
 //! What is found of a replay that ends in harm: the TRB that the controller took last, and which of its words were not submitted.
-ghost use Rattle.traces.specs.Header.{IsHeader};
+ghost use Rattle.std.specs.Prelude.{◌≤◌, length};
 
 use controller_model::Seen;
 use ring_knowledge::RingRecord;
 use row_history::{
-    Case, declared_now, known_after, last_write, line_of, ring_known, submission, word_at,
+    Case, declared_now, going, known_after, last_write, line_of, ring_known, submission, word_at,
 };
 use segments::Place;
 use std::alloc::{AllocError, Global};
-use traces::{Header, Ring, TraceRow};
+use traces::{Ring, Trace, TraceRow};
 use trb::Block;
 use world_state::Harm;
 
@@ -20,32 +20,56 @@ struct Taken {
     words: Block,
 }
 
-/// Notes on the TRB that the controller took last, where the harm lies in what it took, beside the rows of a trace from the line `first` on.
+/// Notes on the TRB that the controller took last, where the harm lies in what it took, beside a trace.
+/// Of a ring that went is told what was known when it did.
 pub fn notes_on_harm(
     alloc: Global,
-    header: &Header,
-    first: u32,
-    rows: &[TraceRow],
+    trace: &Trace,
     harm: Harm,
     seen: &[Seen],
-) -> Result<Vec<String>, AllocError>
-    requires { IsHeader header.now }
-{
+) -> Result<Vec<String>, AllocError> {
     let mut notes = Vec::new(alloc);
     let Some(taken) = harmful_take(harm, seen) else {
         return Ok(notes);
     };
-    let made = rows_made(seen).min(rows.len());
-    let behind = known_after(alloc, header, &rows[..made])?;
+    let rows = trace.rows.as_slice();
+    let made = &rows[..rows_made(seen).min(rows.len())];
+    let behind = known_after(
+        alloc,
+        &trace.header,
+        &made[..rows_of_ring(made, taken.ring)],
+    )?;
     let case = Case {
         alloc,
         header: &behind.header,
-        first,
-        before: &rows[..made],
+        first: trace.first,
+        before: made,
         known: &behind.known,
     };
     note_take(&case, &mut notes, taken, harm)?;
+    note_going(&case, &mut notes, taken.ring)?;
     Ok(notes)
+}
+
+/// How many of the rows tell of a ring: all of them, or those before it went.
+fn rows_of_ring(rows: &[TraceRow], id: u8) -> usize
+    ensures { result ≤ length rows.now }
+{
+    match going(rows, id) {
+        Some(row) => row.min(rows.len()),
+        None => rows.len(),
+    }
+}
+
+/// Notes by which row a ring went.
+fn note_going(case: &Case, notes: &mut Vec<String>, id: u8) -> Result<(), AllocError> {
+    let Some(row) = going(case.before, id) else {
+        return Ok(());
+    };
+    let line = line_of(case.first, row);
+    let note = format!(in case.alloc; "row {line} took ring {id:02x} away")?;
+    notes.push(note)?;
+    Ok(())
 }
 
 /// The last TRB that the controller took, where the harm lies in what it took.

@@ -3,16 +3,17 @@ use crate::harms::rows_made;
 use controller_model::Seen;
 use row_history::{line_of, start, stop};
 use std::alloc::{AllocError, Global};
-use traces::{Row, TraceRow};
+use traces::{Row, Trace, TraceRow};
 
-/// Notes on where a replay stands that can't go on, beside the rows of a trace from the line `first` on.
+/// Notes on where a replay stands that can't go on, beside a trace.
 pub fn notes_on_stuck(
     alloc: Global,
-    first: u32,
-    rows: &[TraceRow],
+    trace: &Trace,
     seen: &[Seen],
 ) -> Result<Vec<String>, AllocError> {
     let mut notes = Vec::new(alloc);
+    let first = trace.first;
+    let rows = trace.rows.as_slice();
     let made = rows_made(seen).min(rows.len());
     notes.push(next_row(alloc, first, rows.get(made), made)?)?;
     let before = &rows[..made];

@@ -1,14 +1,5 @@
 -- One endpoint is changed, and what a doorbell does
-use Rattle.controller_model.proofs.LowerLaws.{◌≡◌, ◌≢◌, ◌+◌, ◌*◌, ◌<◌, ◌==◌, ◌&&◌, ◌∙◌, ℕ, ap, sym, subst, refl, Bool, List, Option, Some, length, slice_get, get_or, set, inl, inr, arith, eq-eqb, ne_eqb, cases_eq, cond-true, cond-false, put_pair, EndpointState, Endpoint, FollowsEndpoints, read_at, slice_get-set_same, slice_get-set_other}
-
-pub put_pair_same : {A : Type 0} (f : ℕ → ℕ → A) (s i : ℕ) (x : A) → put_pair f s i x s i ≡ x
-put_pair_same f s i x = cond-true (s == s && i == i) x (f s i) (λ k. eq-eqb s s refl k && eq-eqb i i refl k)
-
-pub put_pair_slot : {A : Type 0} (f : ℕ → ℕ → A) (s i t j : ℕ) (x : A) → t ≢ s → put_pair f s i x t j ≡ f t j
-put_pair_slot f s i t j x apart = cond-false (t == s && j == i) x (f t j) (ap (λ b. b && j == i) (ne_eqb t s apart))
-
-pub put_pair_index : {A : Type 0} (f : ℕ → ℕ → A) (s i t j : ℕ) (x : A) → j ≢ i → put_pair f s i x t j ≡ f t j
-put_pair_index f s i t j x apart = grind (arith, cond-false, ne_eqb, Bool)
+use Rattle.controller_model.proofs.LowerLaws.{◌≡◌, ◌≢◌, ◌+◌, ◌*◌, ◌<◌, ◌==◌, ◌&&◌, ◌∙◌, ℕ, ap, sym, subst, refl, Bool, List, Option, Some, length, slice_get, get_or, set, inl, inr, arith, eq-eqb, ne_eqb, cases_eq, cond-true, cond-false, put_pair, put_pair_index, put_pair_same, put_pair_slot, EndpointState, Endpoint, FollowsEndpoints, read_at, slice_get-set_same, slice_get-set_other}
 
 -- the state of an endpoint is replaced
 pub endpoints_state : (endpoints : List Endpoint) (state : ℕ → ℕ → EndpointState) (ring_of : ℕ → ℕ → Option ℕ) (n s i : ℕ) (x new : Endpoint) →

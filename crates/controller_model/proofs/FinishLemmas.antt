@@ -9,7 +9,7 @@ pub step_fails : (A : Type 0) (fault : StepFault) (part step : Option World) (f 
     IsPart {A = A} (Err fault) part P → IsStep (Err fault) step shown Q
 step_fails A fault part step f shown P Q same fails = search (rules, option_map)
 
-module _ (h : Header) (w : World) (b : Block) where
-  pub finished_as_is : (o : Option UnderWay) → finished_as h w b o ≡ option_map (λ v. ended h v b) (completed h w b o)
+module _ (h live : Header) (w : World) (b : Block) where
+  pub finished_as_is : (o : Option UnderWay) → finished_as h live w b o ≡ option_map (λ v. ended h v b) (completed live w b o)
   unfolding finished_as ended_with
   finished_as_is o = grind (arith, map_choice)

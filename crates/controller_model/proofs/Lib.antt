@@ -6,7 +6,6 @@ pub mod Borders
 pub mod DeclaredLemmas
 pub mod WithdrawLemmas
 pub mod HistoryLemmas
-pub mod FirstFound
 pub mod NamedPlaces
 pub mod RowLemmas
 pub mod RingLemmas
@@ -21,7 +20,6 @@ pub mod BellLemmas
 pub mod RegisterLemmas
 pub mod EventPlaces
 pub mod NextRowLemmas
-pub mod ScribbleLemmas
 pub mod WatchLemmas
 pub mod OpeningLemmas
 pub mod SafetyLemmas
@@ -41,9 +39,7 @@ pub mod CommandLemmas
 pub mod SuccessLemmas
 pub mod FinishLemmas
 pub mod StepLemmas
-pub mod PlainRows
 pub mod PlainScenes
-pub mod ReadLemmas
 pub mod Words
 pub mod LowerLaws
 pub mod MiddleLaws

@@ -1,5 +1,5 @@
 -- The rows that are left, and how one of them is made
-use Rattle.controller_model.proofs.Words.{arith, TraceRow, header_after, row_made, Scene, row_next, step_made, ◌≡◌, ◌≢◌, ◌∙◌, ◌∷◌, List, [], slice_get, Option, Some, None, Err, Result, option_map, ap, refl, Header, Step, NextRow, World, counted, stepped, Seen, StepFault, IsStep}
+use Rattle.controller_model.proofs.Words.{arith, TraceRow, row_made, Scene, row_next, step_made, with_left, with_world, ◌≡◌, ◌≢◌, ◌∙◌, ◌∷◌, List, [], slice_get, Option, Some, None, Err, Result, option_map, ap, refl, Header, Step, NextRow, World, counted, stepped, Seen, StepFault, IsStep}
 
 pub nothing_left : {X : Type 0} (xs : List X) → slice_get xs 0 ≡ None → xs ≡ []
 nothing_left [] e = refl
@@ -19,18 +19,9 @@ pub step_failed : {X Y : Type 0} (fault : StepFault) (o : Option X) (g : X → Y
     IsStep (Err fault) o shown P → IsStep (Err fault) (option_map g o) shown Q
 step_failed fault o g shown P Q step = grind arith
 
--- the scene behind a row
-abbrev pub scene_behind : Scene → TraceRow → List TraceRow → World → Scene
-scene_behind x row rest w = record { header = header_after x.header row; rows = rest; world = counted x.header w }
+pub row_next_is : (x : Scene) (row : TraceRow) (rest : List TraceRow) → x.rows ≡ row ∷ rest → row_next x x.rows ≡ option_map (with_left rest) (row_made x row)
+row_next_is x row rest left = ap (λ rows. row_next x rows) left
 
-pub row_next_is : (x : Scene) (h : Header) (row : TraceRow) (rest : List TraceRow) → x.header ≡ h → x.rows ≡ row ∷ rest →
-    row_next x x.rows ≡ option_map (scene_behind x row rest) (row_made h x.world row)
-row_next_is x h row rest same left = ap (λ rows. row_next x rows) left ∙ ap (λ k. option_map (scene_behind x row rest) (row_made k x.world row)) same
-
--- the scene behind a step of the controller
-abbrev pub scene_with : Scene → World → Scene
-scene_with x w = record { header = x.header; rows = x.rows; world = w }
-
-pub step_made_is : (x : Scene) (s : Step) → s ≢ NextRow → step_made x s ≡ option_map (scene_with x) (stepped x.header x.world s)
+pub step_made_is : (x : Scene) (s : Step) → s ≢ NextRow → step_made x s ≡ option_map (with_world x) (stepped x.header x.live x.world s)
 unfolding stepped
 step_made_is x s other = grind arith

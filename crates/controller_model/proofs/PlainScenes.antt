@@ -1,5 +1,5 @@
 -- Beside rows of which none is a ring's, runs and replays are those beside a trace of the driver's rows alone
-use Rattle.controller_model.proofs.Words.{arith, rules, ◌≡◌, ◌≢◌, ◌+◌, ◌==◌, ◌&&◌, ◌∙◌, ◌∷◌, if◌then◌else◌, ℕ, not, nat_le, nat_lt, Bool, List, [], Option, Some, None, is_some, length, map, option_and_then, option_map, position, ap, refl, same_Some, list_any, range_with_len, Block, kind, code, word, is_set, Command, Change, changes, is_running, EndpointState, Header, Row, Step, NextRow, World, UnderWay, opening, stored, stored_block, event_at, harm_of, harms, waits, has_changed_context, is_changed_since, is_context_changed, counted, made, stepped, while_running, is_scribbled, scribbled, looked, looked_at, seen_by_look, crossed, taken, taken_on, declared_next, command_begun, look_shows, shows, can_post, posted, unreported, is_last, with_reported, report_success, report_error, report_stop, report_code, reported, reported_on, stopped_with, other_posted, succeeded, ended, ended_with, finished, finished_as, changed_by, changed_by_all, effect, is_had_by_another, placed_on, placed, disabled, inactive, in_state, row_done, next_row, declared, register_row, bell_row, event_read, endpoint_bell, activated, valued, run_or_stop, started_with, with_dequeue, may_scribble, has_one_of, is_transfer_event, is_other_event, is_command_completion, Plain, Scene, scene_ending_from, scene_replayed, scene_seen_by, scene_seen_from, step_made, replayed, seen_by, seen_from, NoHarm, ending_from, ending_of, judged}
+use Rattle.controller_model.proofs.Words.{arith, rules, ◌≡◌, ◌≢◌, ◌+◌, ◌==◌, ◌&&◌, ◌∙◌, ◌∷◌, if◌then◌else◌, ℕ, not, nat_le, nat_lt, Bool, List, [], Option, Some, None, is_some, length, map, option_and_then, option_map, position, ap, refl, same_Some, list_any, range_with_len, Block, kind, code, word, is_set, Command, Change, changes, is_running, EndpointState, Header, Row, Step, NextRow, World, UnderWay, opening, stored, stored_block, event_at, harm_of, harms, waits, has_changed_context, is_changed_since, is_context_changed, counted, made, stepped, while_running, is_scribbled, scribbled, looked, looked_at, seen_by_look, crossed, taken, taken_on, declared_next, command_begun, look_shows, shows, can_post, posted, unreported, is_last, with_reported, report_success, report_error, report_stop, report_code, reported, reported_on, stopped_with, other_posted, succeeded, ended, ended_with, finished, finished_as, changed_by, changed_by_all, effect, is_had_by_another, placed_on, placed, disabled, inactive, in_state, row_done, next_row, declared, register_row, bell_row, event_read, endpoint_bell, activated, valued, run_or_stop, started_with, with_dequeue, may_scribble, has_one_of, is_transfer_event, is_other_event, is_command_completion, Plain, Scene, TraceRow, with_left, with_world, scene_ending_from, scene_replayed, scene_seen_by, scene_seen_from, step_made, replayed, seen_by, seen_from, NoHarm, ending_from, ending_of, judged}
 
 -- the world with other rows still to come
 abbrev pub beside : List Row → World → World
@@ -42,7 +42,7 @@ module _ (rows : List Row) where
     unfolding taken_on declared_next
     taken_on_so w r b = refl
 
-    looked_so : (w : World) (r : ℕ) → option_map (beside rows) (looked h w r) ≡ looked h (beside rows w) r
+    looked_so : (w : World) (r : ℕ) → option_map (beside rows) (looked h h w r) ≡ looked h h (beside rows w) r
     unfolding looked looked_at seen_by_look crossed taken
     looked_so w r = search (rules, option_map, chosen, is_some, either_so, begun_so, taken_on_so)
 
@@ -94,11 +94,11 @@ module _ (rows : List Row) where
     unfolding ended posted stored_block stored
     ended_so w b = refl
 
-    ended_with_so : (w : World) (b : Block) (u : UnderWay) → option_map (beside rows) (ended_with h w b u) ≡ ended_with h (beside rows w) b u
+    ended_with_so : (w : World) (b : Block) (u : UnderWay) → option_map (beside rows) (ended_with h h w b u) ≡ ended_with h h (beside rows w) b u
     unfolding ended_with succeeded effect
     ended_with_so w b u = search (rules, option_map, chosen, through, ended_so, all_so)
 
-    finished_so : (w : World) (b : Block) → option_map (beside rows) (finished h w b) ≡ finished h (beside rows w) b
+    finished_so : (w : World) (b : Block) → option_map (beside rows) (finished h h w b) ≡ finished h h (beside rows w) b
     unfolding finished can_post finished_as
     finished_so w b = chosen (can_post h w b && is_command_completion (kind b) && not (code b == 0)) _ None _ None (grind (arith, chosen, ended_with_so)) refl
 
@@ -126,30 +126,36 @@ module _ (rows : List Row) where
     unfolding while_running
     running_so w o u e = chosen w.stopped None o None u refl e
 
-    pub made_so : (w : World) (s : Step) → s ≢ NextRow → option_map (beside rows) (made h w s) ≡ made h (beside rows w) s
+    pub made_so : (w : World) (s : Step) → s ≢ NextRow → option_map (beside rows) (made h h w s) ≡ made h h (beside rows w) s
     unfolding made
     made_so w s other = grind (arith, running_so, looked_so, reported_so, finished_so, other_so, scribbled_so)
 
 -- ---- a scene beside plain rows
 
 abbrev pub plain_scene : Header → World → Scene
-plain_scene h w = record { header = h; rows = map (λ row. Plain row) w.rows; world = beside [] w }
+plain_scene h w = record { header = h; live = h; rows = map (λ row. Plain row) w.rows; world = beside [] w }
 
 -- what leaves the rows leads from a plain scene to a plain scene
 onward : (h : Header) (rows : List Row) (o u : Option World) → option_map (beside rows) o ≡ o → option_map (beside []) o ≡ u →
-    option_map (λ w. let x : Scene = record { header = h; rows = map (λ row. Plain row) rows; world = counted h w } in x) u ≡ option_map (plain_scene h) (option_map (counted h) o)
+    option_map (λ w. let x : Scene = record { header = h; live = h; rows = map (λ row. Plain row) rows; world = counted h w } in x) u ≡ option_map (plain_scene h) (option_map (counted h) o)
 unfolding counted
 onward h rows o u stays e = grind (arith, option_map, same_Some)
 
-plain_step : (h : Header) (w : World) (s : Step) → step_made (plain_scene h w) s ≡ option_map (plain_scene h) (stepped h w s)
+-- a row of the driver leads from a scene to one with another world
+row_twice : (x : Scene) (rest : List TraceRow) (o : Option World) → option_map (with_left rest) (option_map (with_world x) o) ≡ option_map (λ w. with_left rest (with_world x w)) o
+row_twice x rest o = grind arith
+
+plain_step : (h : Header) (w : World) (s : Step) → step_made (plain_scene h w) s ≡ option_map (plain_scene h) (stepped h h w s)
 unfolding stepped made next_row
 plain_step h w NextRow = by w.rows
   where
-    by : (rows : List Row) → step_made (record { header = h; rows = map (λ row. Plain row) rows; world = beside [] w }) NextRow ≡ option_map (plain_scene h) (option_map (counted h) (next_row h w rows))
+    by : (rows : List Row) → step_made (record { header = h; live = h; rows = map (λ row. Plain row) rows; world = beside [] w }) NextRow ≡ option_map (plain_scene h) (option_map (counted h) (next_row h w rows))
     by [] = refl
-    by (row ∷ rest) = onward h rest (row_done h (beside rest w) row) (row_done h (beside [] w) row) (row_so rest h (beside rest w) row) (row_so [] h (beside rest w) row)
+    by (row ∷ rest) =
+        row_twice (record { header = h; live = h; rows = map (λ row. Plain row) (row ∷ rest); world = beside [] w }) (map (λ row. Plain row) rest) (row_done h (beside [] w) row)
+        ∙ onward h rest (row_done h (beside rest w) row) (row_done h (beside [] w) row) (row_so rest h (beside rest w) row) (row_so [] h (beside rest w) row)
 plain_step h w s =
-    onward h w.rows (made h w s) (made h (beside [] w) s) (made_so w.rows h w s (λ e. absurd (cc))) (made_so [] h w s (λ e. absurd (cc)))
+    onward h w.rows (made h h w s) (made h h (beside [] w) s) (made_so w.rows h w s (λ e. absurd (cc))) (made_so [] h w s (λ e. absurd (cc)))
 
 under_way_so : (h : Header) (w : World) (o : Option UnderWay) → has_changed_context h (beside [] w) o ≡ has_changed_context h w o
 unfolding has_changed_context is_context_changed is_changed_since
@@ -165,7 +171,7 @@ plain_ending : (h : Header) (n : ℕ) (o : Option World) (steps : List Step) →
 unfolding scene_ending_from ending_from
 plain_ending h n None steps = refl
 plain_ending h n (Some w) [] = ap (λ o. judged n o NoHarm) (plain_harm h w)
-plain_ending h n (Some w) (s ∷ steps) = grind (arith, plain_harm, plain_step, plain_ending h (n + 1) (stepped h w s) steps)
+plain_ending h n (Some w) (s ∷ steps) = grind (arith, plain_harm, plain_step, plain_ending h (n + 1) (stepped h h w s) steps)
 
 seen_so : (h : Header) (w : World) (s : Step) (o : Option World) → option_map (λ y. shows h (beside [] w) s) (option_map (plain_scene h) o) ≡ option_map (λ v. shows h w s) o
 unfolding shows look_shows
@@ -173,13 +179,13 @@ seen_so h w s o = grind arith
 
 plain_seen_by : (h : Header) (w : World) (s : Step) → scene_seen_by (plain_scene h w) s ≡ seen_by h w s
 unfolding scene_seen_by seen_by
-plain_seen_by h w s = ap (λ o. option_map (λ y. shows h (beside [] w) s) o) (plain_step h w s) ∙ seen_so h w s (stepped h w s)
+plain_seen_by h w s = ap (λ o. option_map (λ y. shows h (beside [] w) s) o) (plain_step h w s) ∙ seen_so h w s (stepped h h w s)
 
 plain_seen : (h : Header) (o : Option World) (steps : List Step) → scene_seen_from (option_map (plain_scene h) o) steps ≡ seen_from h o steps
 unfolding scene_seen_from seen_from
 plain_seen h None steps = refl
 plain_seen h (Some w) [] = refl
-plain_seen h (Some w) (s ∷ steps) = grind (arith, is_some, plain_harm, plain_seen_by, plain_step, plain_seen h (stepped h w s) steps)
+plain_seen h (Some w) (s ∷ steps) = grind (arith, is_some, plain_harm, plain_seen_by, plain_step, plain_seen h (stepped h h w s) steps)
 
 -- the replay beside plain rows is that beside the rows
 pub plain_replayed : (h : Header) (rows : List Row) (steps : List Step) → scene_replayed h (map (λ row. Plain row) rows) steps ≡ replayed h rows steps

@@ -1,5 +1,6 @@
 -- What a step at one ring does to the rings' harms
 use Rattle.controller_model.proofs.LowerLaws.{rules, TraceRow, Plain, Scene, row_next, step_made, ◌≡◌, ◌≢◌, ◌==◌, ◌&&◌, ◌||◌, ◌∙◌, if◌then◌else◌, ◌∷◌, ◌%◌, ℕ, not, Bool, true, false, List, [], Option, Some, None, option_map, ap, sym, subst, refl, inl, inr, IsSome, find, eq-eqb, ne_eqb, arith, nat_lt, list_any, cases_Bool, cases_eq, cond-false, cond-true, Block, block_at, cycle, Header, command_id, Ring, Look, ring_with, shape_of, some_ring, World, has_other_words, is_inside_descriptor, is_out_of_order, waits, RingHarms, command_begun, crossed, looked, looked_at, seen_by_look, taken, taken_on, counted, made, stepped, while_running, put, bits, Row, Sub, Write, Read, stored, declared, event_read, row_done, same_Some, RingHeld, ring_held, ChangesOnly, HasRingHarms, put_other, cond_both, or_false}
+use Rattle.controller_model.proofs.Words.{with_left, with_world}
 use Rattle.controller_model.proofs.RingSteps.{crossed_other, taken_other}
 
 or_again : (a b : Bool) → (a || (a || b)) ≡ (a || b)
@@ -89,38 +90,38 @@ no_harms_after h w v r x y (Some ring) at f none found only order words waiting 
 abbrev pub IsAt : ℕ → World → World → Type 0
 IsAt r w v = ChangesOnly r w v × (v.is_active r ≡ true)
 
-module _ (h : Header) (w : World) (r : ℕ) (active : w.is_active r ≡ true) where
-  waiting_at : IsAt r w (seen_by_look h w r)
+module _ (h live : Header) (w : World) (r : ℕ) (active : w.is_active r ≡ true) where
+  waiting_at : IsAt r w (seen_by_look live w r)
   unfolding seen_by_look
   waiting_at = (record { memory = refl; others = λ q apart. refl }, active)
 
-  crossing_at : (b : Block) → IsAt r w (crossed h (seen_by_look h w r) r b)
+  crossing_at : (b : Block) → IsAt r w (crossed h (seen_by_look live w r) r b)
   unfolding seen_by_look crossed
-  crossing_at b = (record { memory = refl; others = λ q apart. crossed_other h (seen_by_look h w r) r b q apart }, active)
+  crossing_at b = (record { memory = refl; others = λ q apart. crossed_other h (seen_by_look live w r) r b q apart }, active)
 
-  taking_on_at : (b : Block) → IsAt r w (taken_on h (seen_by_look h w r) r b)
+  taking_on_at : (b : Block) → IsAt r w (taken_on h (seen_by_look live w r) r b)
   unfolding seen_by_look taken_on
-  taking_on_at b = (record { memory = refl; others = λ q apart. taken_other h (seen_by_look h w r) r b q apart }, active)
+  taking_on_at b = (record { memory = refl; others = λ q apart. taken_other h (seen_by_look live w r) r b q apart }, active)
 
   begun_at : (u : World) (a : ℕ) (b : Block) → IsAt r w u → IsAt r w (command_begun h u a b)
   unfolding command_begun
   begun_at u a b f = (record { memory = f.0.memory; others = f.0.others }, f.1)
 
-  taking_at : (b : Block) → IsAt r w (taken h (seen_by_look h w r) r b)
+  taking_at : (b : Block) → IsAt r w (taken h (seen_by_look live w r) r b)
   unfolding taken
   taking_at b = cond_both (r == command_id h) _ _ (IsAt r w) (λ e. begun_at _ _ b (taking_on_at b)) (λ e. taking_on_at b)
 
   at_some : (u v : World) → IsAt r w u → Some u ≡ Some v → IsAt r w v
   at_some u v f e = subst (IsAt r w) (same_Some u v e) f
 
-  looked_at_is : (b : Block) (v : World) → looked_at h w r b ≡ Some v → IsAt r w v
+  looked_at_is : (b : Block) (v : World) → looked_at h live w r b ≡ Some v → IsAt r w v
   unfolding looked_at
   looked_at_is b v e = grind (arith, at_some, waiting_at, crossing_at, taking_at)
 
-pub looked_is : (h : Header) (w v : World) (r : ℕ) → looked h w r ≡ Some v → IsAt r w v
+pub looked_is : (h live : Header) (w v : World) (r : ℕ) → looked h live w r ≡ Some v → IsAt r w v
 unfolding looked
-looked_is h w v r e = elim (cases_Bool (w.is_active r)) [
-  | inl active ↦ looked_at_is h w r active (block_at w.memory (w.pointer_of r)) v (rw active at e)
+looked_is h live w v r e = elim (cases_Bool (w.is_active r)) [
+  | inl active ↦ looked_at_is h live w r active (block_at w.memory (w.pointer_of r)) v (rw active at e)
   | inr idle ↦ let none = rw idle at e in absurd (cc)
 ]
 
@@ -133,9 +134,9 @@ counted_at : (h : Header) (r : ℕ) (w u : World) → IsAt r w u → IsAt r w (c
 unfolding counted
 counted_at h r w u f = (record { memory = f.0.memory; others = f.0.others }, f.1)
 
-pub look_is : (h : Header) (w v : World) (r : ℕ) → stepped h w (Look r) ≡ Some v → IsAt r w v
+pub look_is : (h live : Header) (w v : World) (r : ℕ) → stepped h live w (Look r) ≡ Some v → IsAt r w v
 unfolding stepped made while_running
-look_is h w v r e = counts h (IsAt r w) (counted_at h r w) w.stopped (looked h w r) v (λ u made. looked_is h w u r made) e
+look_is h live w v r e = counts h (IsAt r w) (counted_at h r w) w.stopped (looked h live w r) v (λ u made. looked_is h live w u r made) e
 
 -- a write that keeps a word's lowest bit keeps that of each word
 low_kept : (m : ℕ → ℕ) (a x n : ℕ) → m a % 2 ≡ x % 2 → bits (put m a x n) 0 1 ≡ bits (m n) 0 1
@@ -161,10 +162,13 @@ counted_harms h u x f = record { order = f.order; words = f.words; waiting = f.w
 -- a row that keeps the harms does so as a step
 pub row_harms : (x y : Scene) (row : Row) (rest : List TraceRow) (harms : RingHarms) → x.rows ≡ Plain row ∷ rest → row_next x x.rows ≡ Some y →
     ((u : World) → row_done x.header x.world row ≡ Some u → HasRingHarms x.header u harms) → HasRingHarms y.header y.world harms
-row_harms x y row rest harms left e keeps = onward (row_done x.header x.world row) keeps (sym (ap (λ rows. row_next x rows) left) ∙ e)
+row_harms x y row rest harms left e keeps = onward (row_done x.header x.world row) keeps (twice (row_done x.header x.world row) ∙ sym (ap (λ rows. row_next x rows) left) ∙ e)
   where
     behind : World → Scene
-    behind w = record { header = x.header; rows = rest; world = counted x.header w }
+    behind w = record x { rows = rest; world = counted x.header w }
+
+    twice : (o : Option World) → option_map behind o ≡ option_map (with_left rest) (option_map (with_world x) o)
+    twice o = grind arith
 
     onward : (o : Option World) → ((u : World) → o ≡ Some u → HasRingHarms x.header u harms) → option_map behind o ≡ Some y → HasRingHarms y.header y.world harms
     onward None each made = absurd (cc)
@@ -174,10 +178,10 @@ row_harms x y row rest harms left e keeps = onward (row_done x.header x.world ro
 
 -- what a step of the controller leads to
 pub came_from : (x : Scene) (o : Option World) (y : Scene) →
-    option_map (λ w. let z : Scene = record { header = x.header; rows = x.rows; world = counted x.header w } in z) o ≡ Some y →
+    option_map (λ w. with_world x (counted x.header w)) o ≡ Some y →
     (y.header ≡ x.header) × (option_map (counted x.header) o ≡ Some y.world)
 came_from x o y e = grind (arith, same_Some)
 
-pub look_came : (x y : Scene) (r : ℕ) → step_made x (Look r) ≡ Some y → (y.header ≡ x.header) × (stepped x.header x.world (Look r) ≡ Some y.world)
+pub look_came : (x y : Scene) (r : ℕ) → step_made x (Look r) ≡ Some y → (y.header ≡ x.header) × (stepped x.header x.live x.world (Look r) ≡ Some y.world)
 unfolding stepped
-look_came x y r e = came_from x (made x.header x.world (Look r)) y e
+look_came x y r e = came_from x (made x.header x.live x.world (Look r)) y e

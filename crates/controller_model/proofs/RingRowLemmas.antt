@@ -1,5 +1,6 @@
 -- Rings that come and go: what is kept of the others
 use Rattle.controller_model.proofs.LowerLaws.{rules, remove, position-Some, fails_before_first, emptied, with_ring, without_descriptor, without_ring, length_from, no_ops, split_at, ◌≡◌, ◌≢◌, ◌==◌, ◌∷◌, ◌++◌, ◌<◌, ◌∙◌, if◌then◌else◌, ℕ, zero, suc, true, false, [], List, Some, None, not, find, filter, get_or, length, position, arith, ap, sym, refl, cases_eq, cond-true, cond-false, eq-eqb, ne_eqb, Header, Ring, ring_with, World, ring_held, put_same, put_other}
+use Rattle.controller_model.proofs.Words.{inl, inr, listed}
 
 -- ---- the rings that are there
 
@@ -18,6 +19,41 @@ found_behind (y ∷ ys) gone id apart = grind (arith, cases_eq, cond-false, eq-e
 pub without_alike : (h : Header) (gone r : ℕ) → r ≢ gone → ring_with (without_ring h gone) r ≡ ring_with h r
 unfolding without_ring
 without_alike h gone r apart = found_behind h.rings gone r apart
+
+-- of a header without the rings of an ID each ring is one of the header
+out_found : (rings : List Ring) (gone id : ℕ) (q : Ring) → find (λ r. r.id == id) (filter (λ r. not (r.id == gone)) rings) ≡ Some q → find (λ r. r.id == id) rings ≡ Some q
+out_found rings gone id q found = elim (cases_eq id gone) [
+  | inl same ↦ absurd (none_with rings gone id q same found)
+  | inr apart ↦ sym (found_behind rings gone id apart) ∙ found
+]
+  where
+    none_with : (rings : List Ring) (gone id : ℕ) (q : Ring) → id ≡ gone → find (λ r. r.id == id) (filter (λ r. not (r.id == gone)) rings) ≡ Some q → ⊥
+    none_with [] gone id q same found = absurd (cc)
+    none_with (y ∷ ys) gone id q same found = grind (arith, cases_eq, cond-false, eq-eqb, ne_eqb, cond-true, none_with ys gone id q same)
+
+pub without_lists : (h : Header) (gone r : ℕ) (q : Ring) → ring_with (without_ring h gone) r ≡ Some q → ring_with h r ≡ Some q
+unfolding without_ring
+without_lists h gone r q found = out_found h.rings gone r q found
+
+-- a ring that is listed in place of one is found
+found_last : (rings : List Ring) (x : Ring) → find (λ r. r.id == x.id) (filter (λ r. not (r.id == x.id)) rings ++ x ∷ []) ≡ Some x
+found_last [] x = cond-true (x.id == x.id) (Some x) None (eq-eqb x.id x.id refl)
+found_last (y ∷ ys) x = grind (arith, cases_eq, cond-false, eq-eqb, ne_eqb, cond-true, found_last ys x)
+
+pub listed_here : (h : Header) (ring : Ring) → ring_with (listed h ring) ring.id ≡ Some ring
+unfolding listed with_ring without_ring
+listed_here h ring = found_last h.rings ring
+
+pub listed_alike : (h : Header) (ring : Ring) (r : ℕ) → r ≢ ring.id → ring_with (listed h ring) r ≡ ring_with h r
+unfolding listed
+listed_alike h ring r apart = with_alike (without_ring h ring.id) ring r apart ∙ without_alike h ring.id r apart
+
+pub listed_lists : (h live : Header) (ring : Ring) → ((r : ℕ) (q : Ring) → ring_with live r ≡ Some q → ring_with h r ≡ Some q) →
+    (r : ℕ) (q : Ring) → ring_with (listed live ring) r ≡ Some q → ring_with (listed h ring) r ≡ Some q
+listed_lists h live ring lists r q found = elim (cases_eq r ring.id) [
+  | inl same ↦ ap (λ n. ring_with (listed h ring) n) same ∙ listed_here h ring ∙ sym (listed_here live ring) ∙ sym (ap (λ n. ring_with (listed live ring) n) same) ∙ found
+  | inr apart ↦ listed_alike h ring r apart ∙ lists r q (sym (listed_alike live ring r apart) ∙ found)
+]
 
 -- rings with an ID are taken out one by one
 one_out : (rings : List Ring) (n id : ℕ) (d : Ring) → n < length rings → ((get_or rings n d).id == id) ≡ true →

@@ -13,25 +13,15 @@ pub use Rattle.contexts.specs.Contexts.{context_cycle, context_pointer, has_flag
 unfoldable pub use Rattle.contexts.specs.Contexts.{added_endpoints}
 pub use Rattle.contexts.specs.declared.size.ContextSize.{ContextSize}
 pub use Rattle.contexts.specs.declared.size.ContextSize.TheVariants.{Bytes32}
-unfoldable pub use Rattle.controller_model.specs.Bindings.{changed_by, changed_by_all, disabled, effect, has_one_of, in_state, inactive, is_had_by_another, placed, placed_on}
 pub use Rattle.controller_model.specs.Completions.{IsPart, completed}
 pub use Rattle.controller_model.specs.Declarations.{Declares, as_declared, blocks_of, entries, lone_no_op, withdrawn, withdrawn_from}
-unfoldable pub use Rattle.controller_model.specs.DriverRows.{activated, bell_row, declared, endpoint_bell, event_read, next_row, register_row, row_done, run_or_stop, started_with, valued, with_dequeue}
-unfoldable pub use Rattle.controller_model.specs.Finishes.{ended, ended_with, finished, finished_as, passes_end, succeeded}
-pub use Rattle.controller_model.specs.Following.{Follows, FollowsEndpoints, FollowsHolder, FollowsRegisters, FollowsRing, FollowsRings, FollowsSlots, GoesOn, HasRoom, IsChange, IsEndpoint, IsStep, IsWell, KeepsRun, RingHeld, addressed, bound, freed, is_endpoint, is_holder, is_it, is_other, may_get, named_by, noted, noted_held, places_from, pointed, released, ring_held, taken_held, told, turned_off, under_way_of}
+pub use Rattle.controller_model.specs.Following.{Follows, FollowsEndpoints, FollowsHolder, FollowsRegisters, FollowsRing, FollowsRings, FollowsSlots, GoesOn, HasRoom, IsChange, IsEndpoint, IsStep, IsWell, KeepsRun, Lists, RingHeld, addressed, bound, freed, is_endpoint, is_holder, is_it, is_other, may_get, named_by, noted, noted_held, places_from, pointed, released, ring_held, taken_held, told, turned_off, under_way_of}
 pub use Rattle.controller_model.specs.Held.{Held, changed_at, held, held_block, held_by, held_stored, written_at}
 pub use Rattle.controller_model.specs.Histories.{Keeps, ShowsHarms}
-unfoldable pub use Rattle.controller_model.specs.Looks.{command_begun, crossed, looked, looked_at, may_scribble, seen_by_look, taken, taken_on}
 unfoldable pub use Rattle.controller_model.specs.OnLiterals.{model_on_literals}
-unfoldable pub use Rattle.controller_model.specs.Posts.{can_post, is_last, other_posted, posted, report_code, report_error, report_stop, report_success, reported, reported_on, stopped_with, with_reported, with_stopped}
 pub use Rattle.controller_model.specs.RingHarms.{ChangesOnly, FollowsScene, HasRingHarms, IsFollowed}
-pub use Rattle.controller_model.specs.RingRows.{header_after, row_made}
-unfoldable pub use Rattle.controller_model.specs.RingRows.{emptied, with_ring, without_descriptor, without_ring}
-pub use Rattle.controller_model.specs.Scenes.{Scene, row_next, scene_reached, step_made}
-unfoldable pub use Rattle.controller_model.specs.Scenes.{scene_ending_from, scene_replayed, scene_seen_by, scene_seen_from}
+unfoldable pub use Rattle.controller_model.specs.Showing.{scene_replayed, scene_seen_by, scene_seen_from}
 unfoldable pub use Rattle.controller_model.specs.Showing.{look_shows, replayed, seen_by, seen_from, shows}
-pub use Rattle.controller_model.specs.Steps.{Harmful, NoHarm, NotPossible, judged}
-unfoldable pub use Rattle.controller_model.specs.Steps.{counted, ending_from, ending_of, is_scribbled, made, scribbled, stepped, while_running}
 pub use Rattle.controller_model.specs.Trials.{GoesOnAs, Sees, has_own, is_elsewhere, own_ring}
 pub use Rattle.controller_model.specs.Watches.{is_changed_behind, may_touch}
 pub use Rattle.controller_model.specs.declared.declared.Declarations.{Declarations}
@@ -85,7 +75,7 @@ pub use Rattle.std.specs.Result.{result_ok}
 pub use Rattle.traces.specs.Header.{id_of, id_or_none, is_ring, is_transfer_kind, ring_with, shape_or}
 unfoldable pub use Rattle.traces.specs.Header.{command_id, command_ring, event_ring, event_shape, event_size, ring_having, shape_of, some_ring}
 pub use Rattle.traces.specs.Register.{base_address, register_or_zero, ring_cycle_state, with_register}
-pub use Rattle.traces.specs.Rows.{AreRows, FitsLine, IsRow}
+pub use Rattle.traces.specs.Rows.{FitsLine, IsRow}
 pub use Rattle.traces.specs.TraceRows.{IsTraceRow}
 pub use Rattle.traces.specs.declared.header.Header.{Header, Header as HeaderValue}
 pub use Rattle.traces.specs.declared.register.Register.{Register}
@@ -103,7 +93,18 @@ pub use Rattle.trb.specs.Block.{code, endpoint, slot}
 pub use Rattle.trb.specs.Kind.{is_command_completion, is_other_event, is_transfer_event}
 pub use Rattle.trb.specs.declared.kind.BlockKind.{BlockKind}
 pub use Rattle.trb.specs.declared.ring_kind.RingKind.TheVariants.{Cmd}
+unfoldable pub use Rattle.world_state.specs.Bindings.{changed_by, changed_by_all, disabled, effect, has_one_of, in_state, inactive, is_had_by_another, placed, placed_on}
+unfoldable pub use Rattle.world_state.specs.DriverRows.{activated, bell_row, declared, endpoint_bell, event_read, next_row, register_row, row_done, run_or_stop, started_with, valued, with_dequeue}
+unfoldable pub use Rattle.world_state.specs.Finishes.{ended, ended_with, finished, finished_as, passes_end, succeeded}
 unfoldable pub use Rattle.world_state.specs.Harms.{harm_of, harms, has_changed_context, has_other_words, is_changed_since, is_context_changed, is_end, is_inside_descriptor, is_out_of_order, is_right_place, waits}
+unfoldable pub use Rattle.world_state.specs.Looks.{command_begun, crossed, looked, looked_at, may_scribble, seen_by_look, taken, taken_on}
+unfoldable pub use Rattle.world_state.specs.Posts.{can_post, is_last, other_posted, posted, report_code, report_error, report_stop, report_success, reported, reported_on, stopped_with, with_reported, with_stopped}
+pub use Rattle.world_state.specs.RingRows.{is_in_way}
+unfoldable pub use Rattle.world_state.specs.RingRows.{emptied, listed, may_come, with_ring, without_descriptor, without_ring}
+pub use Rattle.world_state.specs.Scenes.{Scene, row_made, row_next, scene_reached, step_made, with_coming, with_left, with_world}
+unfoldable pub use Rattle.world_state.specs.Scenes.{scene_ending_from}
+pub use Rattle.world_state.specs.Steps.{Harmful, NoHarm, NotPossible, judged}
+unfoldable pub use Rattle.world_state.specs.Steps.{counted, ending_from, ending_of, is_scribbled, made, scribbled, stepped, while_running}
 unfoldable pub use Rattle.world_state.specs.Takes.{declared_next, first_at, is_as_declared, is_place, next_take, takes_of, unreported, was_placed}
 pub use Rattle.world_state.specs.World.{Placed, RingEvent, Took, UnderWay, World}
 unfoldable pub use Rattle.world_state.specs.World.{event_at, opening, stored, stored_block}

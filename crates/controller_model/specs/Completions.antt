@@ -7,7 +7,7 @@ use Rattle.traces.specs.declared.header.Header.{Header}
 use Rattle.world_state.specs.World.{World, UnderWay}
 use Rattle.controller_model.specs.declared.fault.StepFault.{StepFault}
 use Rattle.controller_model.specs.declared.fault.StepFault.TheVariants.{NotPossible, Spent, Memory}
-use Rattle.controller_model.specs.Finishes.{succeeded}
+use Rattle.world_state.specs.Finishes.{succeeded}
 
 -- with code 1 the command's effect; after a Stopped event no other code; other codes change nothing
 abbrev pub completed_with : Header → World → Block → UnderWay → Option World

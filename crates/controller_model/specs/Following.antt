@@ -12,6 +12,7 @@ use Rattle.commands.specs.declared.state.SlotState.{SlotState}
 use Rattle.commands.specs.declared.state.EndpointState.{EndpointState}
 use Rattle.commands.specs.declared.state.EndpointState.TheVariants.{Disabled as Off}
 use Rattle.traces.specs.declared.header.Header.{Header}
+use Rattle.traces.specs.declared.ring.Ring.{Ring}
 use Rattle.traces.specs.declared.row.Row.{Row}
 use Rattle.traces.specs.declared.register.Register.{Register}
 use Rattle.traces.specs.declared.register.Register.TheVariants.{Usbcmd, Usbsts, Dnctrl, Crcr, Dcbaap, Config, Iman, Imod, Erstsz, Erstba, Erdp}
@@ -37,11 +38,15 @@ use Rattle.controller_model.specs.declared.kept.Endpoint.{Endpoint}
 use Rattle.controller_model.specs.declared.kept.Events.{Events}
 use Rattle.controller_model.specs.declared.kept.Pending.{Pending}
 use Rattle.trb.specs.Block.{code, slot, endpoint, pointer as pointer_of}
-use Rattle.controller_model.specs.Posts.{report_code}
-use Rattle.controller_model.specs.Bindings.{is_had_by_another}
+use Rattle.world_state.specs.Posts.{report_code}
+use Rattle.world_state.specs.Bindings.{is_had_by_another}
 use Rattle.controller_model.specs.Held.{held, held_by}
 use Rattle.controller_model.specs.Declarations.{Declares}
 use Rattle.controller_model.specs.Histories.{Keeps, ShowsHarms}
+
+-- each ring that lives is one that was declared
+abbrev pub Lists : Header → Header → Type 0
+Lists h live = (r : ℕ) (q : Ring) → ring_with live r ≡ Some q → ring_with h r ≡ Some q
 
 -- what the world has of one ring
 pub record RingHeld : Type 0 where

@@ -1,12 +1,4 @@
-pub mod DriverRows
-pub mod Looks
-pub mod Posts
-pub mod Bindings
-pub mod Finishes
-pub mod Steps
 pub mod Showing
-pub mod RingRows
-pub mod Scenes
 pub mod OnLiterals
 pub mod Watches
 pub mod Held

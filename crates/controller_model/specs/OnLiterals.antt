@@ -1,17 +1,8 @@
 -- What a fact on literals unfolds to compute: name it on an `unfolding` line
 use Rattle.std.specs.Prelude.{⊤}
-use Rattle.controller_model.specs.Bindings as of_bindings
-use Rattle.controller_model.specs.DriverRows as of_driverrows
-use Rattle.controller_model.specs.Finishes as of_finishes
-use Rattle.controller_model.specs.Looks as of_looks
-use Rattle.controller_model.specs.Posts as of_posts
-use Rattle.controller_model.specs.RingRows as of_ringrows
-use Rattle.controller_model.specs.Scenes as of_scenes
 use Rattle.controller_model.specs.Showing as of_showing
-use Rattle.controller_model.specs.Steps as of_steps
 use Rattle.world_state.specs.OnLiterals.{world_on_literals}
-use Rattle.commands.specs.OnLiterals.{commands_on_literals}
 
 unfoldable pub model_on_literals : ⊤
-unfolding of_bindings.is_had_by_another of_bindings.inactive of_bindings.placed of_bindings.placed_on of_bindings.has_one_of of_bindings.disabled of_bindings.in_state of_bindings.changed_by of_bindings.changed_by_all of_bindings.effect of_driverrows.valued of_driverrows.started_with of_driverrows.run_or_stop of_driverrows.with_dequeue of_driverrows.register_row of_driverrows.activated of_driverrows.endpoint_bell of_driverrows.bell_row of_driverrows.declared of_driverrows.event_read of_driverrows.row_done of_driverrows.next_row of_finishes.passes_end of_finishes.succeeded of_finishes.ended of_finishes.ended_with of_finishes.finished_as of_finishes.finished of_looks.taken_on of_looks.may_scribble of_looks.command_begun of_looks.taken of_looks.crossed of_looks.seen_by_look of_looks.looked_at of_looks.looked of_posts.can_post of_posts.posted of_posts.with_reported of_posts.report_success of_posts.is_last of_posts.report_error of_posts.is_stop_under_way of_posts.with_stopped of_posts.stopped_with of_posts.report_stop of_posts.report_code of_posts.reported_on of_posts.reported of_posts.other_posted of_ringrows.with_ring of_ringrows.without_ring of_ringrows.emptied of_ringrows.without_descriptor of_scenes.scene_ending_from of_scenes.scene_seen_by of_scenes.scene_seen_from of_scenes.scene_replayed of_showing.look_shows of_showing.shows of_showing.seen_by of_showing.seen_from of_showing.replayed of_steps.is_scribbled of_steps.scribbled of_steps.counted of_steps.while_running of_steps.made of_steps.stepped of_steps.reached of_steps.judged of_steps.ending_from of_steps.ending_of world_on_literals commands_on_literals
+unfolding of_showing.look_shows of_showing.shows of_showing.seen_by of_showing.seen_from of_showing.replayed of_showing.scene_seen_by of_showing.scene_seen_from of_showing.scene_replayed world_on_literals
 model_on_literals = tt

@@ -6,9 +6,10 @@ use Rattle.controller_model.specs.declared.kept.Kept.{Kept}
 use Rattle.traces.specs.Header.{shape_of, some_ring}
 use Rattle.world_state.specs.World.{World}
 use Rattle.world_state.specs.Harms.{has_other_words, is_inside_descriptor, is_out_of_order, waits}
+use Rattle.controller_model.specs.declared.life.Rings.{Rings}
 use Rattle.controller_model.specs.declared.safety.RingHarms.{RingHarms}
-use Rattle.controller_model.specs.Following.{Follows, ring_held}
-use Rattle.controller_model.specs.Scenes.{Scene}
+use Rattle.controller_model.specs.Following.{Follows, Lists, ring_held}
+use Rattle.world_state.specs.Scenes.{Scene}
 
 -- these are the harms that some ring shows
 pub record HasRingHarms (h : Header) (w : World) (x : RingHarms) : Type 0 where
@@ -22,12 +23,14 @@ pub record ChangesOnly (r : ℕ) (w v : World) : Type 0 where
   pub others : (q : ℕ) → q ≢ r → ring_held v q ≡ ring_held w q
 
 -- what is kept stands for a scene with these rings, and these rows still to come
-pub record FollowsScene (h : Header) (rows : List TraceRow) (words : ℕ → ℕ) (k : Kept) (x : Scene) : Type 0 where
-  pub header : x.header ≡ h
+pub record FollowsScene (rings : Rings) (rows : List TraceRow) (words : ℕ → ℕ) (k : Kept) (x : Scene) : Type 0 where
+  pub header : x.header ≡ rings.declared
+  pub live : x.live ≡ rings.live
+  pub lists : Lists rings.declared rings.live
   pub left : x.rows ≡ rows
-  pub follows : Follows h [] words k x.world
+  pub follows : Follows rings.declared [] words k x.world
 
 -- and the harms of its rings too
-pub record IsFollowed (h : Header) (rows : List TraceRow) (words : ℕ → ℕ) (k : Kept) (harms : RingHarms) (x : Scene) : Type 0 where
-  pub follows : FollowsScene h rows words k x
+pub record IsFollowed (lists : Rings) (rows : List TraceRow) (words : ℕ → ℕ) (k : Kept) (harms : RingHarms) (x : Scene) : Type 0 where
+  pub follows : FollowsScene lists rows words k x
   pub rings : HasRingHarms x.header x.world harms

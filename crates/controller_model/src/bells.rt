@@ -3,7 +3,7 @@ ghost use Rattle.commands.specs.States.{is_running, is_stopped};
 ghost use Rattle.traces.specs.declared.header.Header.{Header as HeaderValue};
 ghost use Rattle.traces.specs.declared.row.Row.{Row as RowValue};
 ghost use Rattle.world_state.specs.World.{World};
-ghost use Rattle.controller_model.specs.DriverRows.{activated, endpoint_bell, bell_row};
+ghost use Rattle.world_state.specs.DriverRows.{activated, endpoint_bell, bell_row};
 ghost use Rattle.controller_model.specs.Following.{Follows};
 
 use crate::endpoints::{endpoint_of, set_state};
@@ -13,7 +13,7 @@ use commands::EndpointState;
 use traces::Header;
 
 /// The controller may look at a ring from now on.
-#[tactic(auto, using(crate::proofs::RingLemmas::with_rings, crate::proofs::RingLemmas::ring_changed, crate::proofs::RingSteps::activated_other, crate::proofs::RingSteps::activated_here), unfolding(crate::specs::DriverRows::activated))]
+#[tactic(auto, using(crate::proofs::RingLemmas::with_rings, crate::proofs::RingLemmas::ring_changed, crate::proofs::RingSteps::activated_other, crate::proofs::RingSteps::activated_here), unfolding(world_state::specs::DriverRows::activated))]
 fn activate(kept: &mut Kept, ring: u8)
     ensures { (h : HeaderValue) (rows : List RowValue) (words : ℕ → ℕ) (w : World) → Follows h rows words kept.old w →
         Follows h rows words kept.new (activated h w ring) }
@@ -51,7 +51,7 @@ pub(crate) fn ring_endpoint(kept: &mut Kept, slot: u8, target: u8)
 
 /// The driver rings a doorbell (xHCI 4.7, 5.6): that of the host controller makes the command ring active, once the
 /// controller runs.
-#[tactic(auto, unfolding(crate::specs::DriverRows::bell_row))]
+#[tactic(auto, unfolding(world_state::specs::DriverRows::bell_row))]
 pub(crate) fn ring_bell(header: &Header, kept: &mut Kept, slot: u8, target: u8)
     ensures { (rows : List RowValue) (words : ℕ → ℕ) (w : World) → Follows header.now rows words kept.old w →
         Follows header.now rows words kept.new (bell_row header.now w slot target) }

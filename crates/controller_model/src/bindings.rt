@@ -4,8 +4,8 @@ ghost use Rattle.traces.specs.declared.header.Header.{Header as HeaderValue};
 ghost use Rattle.traces.specs.declared.row.Row.{Row};
 ghost use Rattle.traces.specs.Header.{ring_having, ring_with, shape_of, is_transfer_kind};
 ghost use Rattle.world_state.specs.World.{World};
-ghost use Rattle.controller_model.specs.Bindings.{is_had_by_another, placed_on};
-ghost use Rattle.controller_model.specs.Following.{Follows, KeepsRun, bound, freed, is_endpoint, is_other, may_get, released};
+ghost use Rattle.world_state.specs.Bindings.{is_had_by_another, placed_on};
+ghost use Rattle.controller_model.specs.Following.{Follows, KeepsRun, Lists, bound, freed, is_endpoint, is_other, may_get, released};
 
 use crate::endpoints::endpoint_of;
 use crate::kept::{Endpoint, Holder, Kept};
@@ -155,8 +155,8 @@ pub(crate) fn place(
 ) -> Result<(), AllocError>
     requires index { index < 32 }
     requires aligned { pointer % 16 ≡ 0 }
-    ensures change { OnOk result ((rows : List Row) (words : ℕ → ℕ) (w v : World) → placed_on w slot index pointer cycle state (ring_having header.now pointer) ≡ Some v →
-        Follows header.now rows words kept.old w → Follows header.now rows words kept.new v) }
+    ensures change { OnOk result ((h : HeaderValue) (rows : List Row) (words : ℕ → ℕ) (w v : World) → Lists h header.now → placed_on w slot index pointer cycle state (ring_having header.now pointer) ≡ Some v →
+        Follows h rows words kept.old w → Follows h rows words kept.new v) }
     ensures rest { KeepsRun kept.old kept.new }
 {
     let ring = match ring_having(header, pointer) {
@@ -175,7 +175,7 @@ pub(crate) fn place(
 /// Whether the endpoint can get the ring at the pointer.
 pub(crate) fn can_place(header: &Header, kept: &Kept, slot: u8, index: u8, pointer: u64) -> bool
     requires { pointer % 16 ≡ 0 }
-    ensures { (rows : List Row) (words : ℕ → ℕ) (w : World) → Follows header.now rows words kept.now w →
+    ensures { (h : HeaderValue) (rows : List Row) (words : ℕ → ℕ) (w : World) → Follows h rows words kept.now w →
         result ≡ may_get w slot index (ring_having header.now pointer) }
 {
     match ring_having(header, pointer) {

@@ -3,7 +3,7 @@ ghost use Rattle.traces.specs.declared.header.Header.{Header};
 ghost use Rattle.traces.specs.declared.row.Row.{Row};
 ghost use Rattle.traces.specs.Header.{is_ring};
 ghost use Rattle.world_state.specs.World.{World};
-ghost use Rattle.controller_model.specs.Bindings.{disabled};
+ghost use Rattle.world_state.specs.Bindings.{disabled};
 ghost use Rattle.controller_model.specs.Following.{Follows, IsEndpoint, KeepsRun, named_by, turned_off};
 
 use crate::bindings::free;

@@ -8,8 +8,8 @@ ghost use Rattle.traces.specs.declared.header.Header.{Header as HeaderValue};
 ghost use Rattle.traces.specs.declared.row.Row.{Row};
 ghost use Rattle.traces.specs.Header.{ring_having};
 ghost use Rattle.world_state.specs.World.{World};
-ghost use Rattle.controller_model.specs.Bindings.{changed_by_all, in_state, inactive, placed_on};
-ghost use Rattle.controller_model.specs.Following.{Follows, GoesOn, HasRoom, IsWell, KeepsRun, places_from};
+ghost use Rattle.world_state.specs.Bindings.{changed_by_all, in_state, inactive, placed_on};
+ghost use Rattle.controller_model.specs.Following.{Follows, GoesOn, HasRoom, IsWell, KeepsRun, Lists, places_from};
 
 use crate::bindings::place;
 use crate::disabling::{Named, disable};
@@ -51,11 +51,11 @@ fn place_by_context<M: WordMemory>(
     requires end { context + input_context_bytes header.now.context_size ≤ 2 ^ 64 }
     requires first { 1 ≤ index }
     requires last { index < 32 }
-    ensures change { OnOk result ((rows : List Row) (words : ℕ → ℕ) (w v : World) →
+    ensures change { OnOk result ((h : HeaderValue) (rows : List Row) (words : ℕ → ℕ) (w v : World) → Lists h header.now →
         placed_on w slot index (context_pointer header.now.context_size (M.words memory.now) context index)
         (context_cycle header.now.context_size (M.words memory.now) context index) Running
         (ring_having header.now (context_pointer header.now.context_size (M.words memory.now) context index)) ≡ Some v →
-        Follows header.now rows words kept.old w → Follows header.now rows words kept.new v) }
+        Follows h rows words kept.old w → Follows h rows words kept.new v) }
     ensures rest { KeepsRun kept.old kept.new }
 {
     let endpoint = context_of(memory, header.context_size, context, index);
@@ -85,10 +85,10 @@ fn place_added<M: WordMemory>(
     requires end { context + input_context_bytes header.now.context_size ≤ 2 ^ 64 }
     requires first { 1 ≤ index }
     requires last { index < 32 }
-    ensures change { OnOk result ((rows : List Row) (words : ℕ → ℕ) (c : CommandValue) (w final : World) →
+    ensures change { OnOk result ((h : HeaderValue) (rows : List Row) (words : ℕ → ℕ) (c : CommandValue) (w final : World) → Lists h header.now →
         changed_by_all header.now c w (places_from header.now.context_size (M.words memory.now) slot context index) ≡ Some final →
-        Follows header.now rows words kept.old w →
-        GoesOn (Follows header.now rows words kept.new)
+        Follows h rows words kept.old w →
+        GoesOn (Follows h rows words kept.new)
         (λ v. changed_by_all header.now c v (places_from header.now.context_size (M.words memory.now) slot context (index + 1)) ≡ Some final)) }
     ensures rest { KeepsRun kept.old kept.new }
 {
@@ -109,9 +109,9 @@ fn place_all<M: WordMemory>(
 ) -> Result<(), AllocError>
     requires aligned { context % 16 ≡ 0 }
     requires end { context + input_context_bytes header.now.context_size ≤ 2 ^ 64 }
-    ensures change { OnOk result ((rows : List Row) (words : ℕ → ℕ) (c : CommandValue) (w final : World) →
+    ensures change { OnOk result ((h : HeaderValue) (rows : List Row) (words : ℕ → ℕ) (c : CommandValue) (w final : World) → Lists h header.now →
         changed_by_all header.now c w (places_from header.now.context_size (M.words memory.now) slot context 2) ≡ Some final →
-        Follows header.now rows words kept.old w → Follows header.now rows words kept.new final) }
+        Follows h rows words kept.old w → Follows h rows words kept.new final) }
     ensures rest { KeepsRun kept.old kept.new }
 {
     for index in 2..32 {
@@ -133,9 +133,9 @@ fn configure<M: WordMemory>(
 ) -> Result<(), AllocError>
     requires aligned { context % 16 ≡ 0 }
     requires end { HasRoom header.now.context_size (ConfigureEndpoint slot deconfigure context) }
-    ensures change { OnOk result ((rows : List Row) (words : ℕ → ℕ) (n : ℕ) (w final : World) →
+    ensures change { OnOk result ((h : HeaderValue) (rows : List Row) (words : ℕ → ℕ) (n : ℕ) (w final : World) → Lists h header.now →
         changed_by_all header.now command.now w (changes header.now.context_size (M.words memory.now) n (ConfigureEndpoint slot deconfigure context)) ≡ Some final →
-        Follows header.now rows words kept.old w → Follows header.now rows words kept.new final) }
+        Follows h rows words kept.old w → Follows h rows words kept.new final) }
     ensures rest { KeepsRun kept.old kept.new }
 {
     go_on(kept, command, slot);
@@ -159,9 +159,9 @@ pub(crate) fn apply<M: WordMemory>(
 ) -> Result<(), AllocError>
     requires well { IsWell command.now }
     requires end { HasRoom header.now.context_size command.now }
-    ensures change { OnOk result ((rows : List Row) (words : ℕ → ℕ) (w final : World) →
+    ensures change { OnOk result ((h : HeaderValue) (rows : List Row) (words : ℕ → ℕ) (w final : World) → Lists h header.now →
         changed_by_all header.now command.now w (changes header.now.context_size (M.words memory.now) slot command.now) ≡ Some final →
-        Follows header.now rows words kept.old w → Follows header.now rows words kept.new final) }
+        Follows h rows words kept.old w → Follows h rows words kept.new final) }
     ensures rest { KeepsRun kept.old kept.new }
 {
     match *command {

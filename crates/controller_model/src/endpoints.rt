@@ -2,7 +2,7 @@ ghost use Rattle.std.specs.Prelude.{◌≡◌, ℕ, ◌<◌, List};
 ghost use Rattle.traces.specs.declared.header.Header.{Header};
 ghost use Rattle.traces.specs.declared.row.Row.{Row};
 ghost use Rattle.world_state.specs.World.{World};
-ghost use Rattle.controller_model.specs.Bindings.{in_state};
+ghost use Rattle.world_state.specs.Bindings.{in_state};
 ghost use Rattle.controller_model.specs.Following.{Follows, KeepsRun};
 
 use crate::kept::{Endpoint, Kept};

@@ -3,13 +3,14 @@ ghost use Rattle.trb.specs.Block.{code, kind, pointer, slot};
 ghost use Rattle.trb.specs.Kind.{is_command_completion};
 ghost use Rattle.commands.specs.Command.{command_of, is_slot_or_any, may_answer_slot};
 ghost use Rattle.segments.specs.Places.{address_of};
+ghost use Rattle.traces.specs.declared.header.Header.{Header as HeaderValue};
 ghost use Rattle.traces.specs.declared.row.Row.{Row};
 ghost use Rattle.traces.specs.Header.{event_shape};
 ghost use Rattle.world_state.specs.World.{World};
 ghost use Rattle.controller_model.specs.declared.seen.Seen.TheVariants.{Posted};
 ghost use Rattle.controller_model.specs.Completions.{IsPart, completed};
-ghost use Rattle.controller_model.specs.Finishes.{finished, succeeded};
-ghost use Rattle.controller_model.specs.Following.{Follows, IsStep, KeepsRun};
+ghost use Rattle.world_state.specs.Finishes.{finished, succeeded};
+ghost use Rattle.controller_model.specs.Following.{Follows, IsStep, KeepsRun, Lists};
 
 use crate::effects::apply;
 use crate::fault::StepFault;
@@ -65,8 +66,8 @@ fn succeed<M: WordMemory>(
     block: &Block,
     slot: u8,
 ) -> Result<(), StepFault>
-    ensures change { (rows : List Row) (w : World) → Follows header.now rows (M.words memory.now) kept.old w →
-        IsPart result (succeeded header.now w slot (command_of block.now)) (Follows header.now rows (M.words memory.now) kept.new) }
+    ensures change { (h : HeaderValue) (rows : List Row) (w : World) → Lists h header.now → Follows h rows (M.words memory.now) kept.old w →
+        IsPart result (succeeded header.now w slot (command_of block.now)) (Follows h rows (M.words memory.now) kept.new) }
     ensures refused { result ≡ Err StepFault.NotPossible → kept.new ≡ kept.old }
     ensures rest { KeepsRun kept.old kept.new }
 {
@@ -89,8 +90,8 @@ fn complete<M: WordMemory>(
     kept: &mut Kept,
     block: &Block,
 ) -> Result<(), StepFault>
-    ensures change { (rows : List Row) (w : World) → Follows header.now rows (M.words memory.now) kept.old w →
-        IsPart result (completed header.now w block.now w.under_way) (Follows header.now rows (M.words memory.now) kept.new) }
+    ensures change { (h : HeaderValue) (rows : List Row) (w : World) → Lists h header.now → Follows h rows (M.words memory.now) kept.old w →
+        IsPart result (completed header.now w block.now w.under_way) (Follows h rows (M.words memory.now) kept.new) }
     ensures refused { result ≡ Err StepFault.NotPossible → kept.new ≡ kept.old }
     ensures rest { KeepsRun kept.old kept.new }
 {
@@ -111,17 +112,18 @@ fn complete<M: WordMemory>(
 }
 
 /// The controller posts the completion of the command under way, with its effect (xHCI 4.6, 6.4.2.2).
-#[tactic(auto, using(crate::proofs::PostLemmas::no_ring), unfolding(crate::specs::Finishes::finished, traces::specs::Header::event_shape))]
+#[tactic(auto, using(crate::proofs::PostLemmas::no_ring), unfolding(world_state::specs::Finishes::finished, traces::specs::Header::event_shape))]
 pub(crate) fn finish<M: WordMemory>(
     header: &Header,
+    live: &Header,
     memory: &mut M,
     kept: &mut Kept,
     block: &Block,
     step: u64,
 ) -> Result<Seen, StepFault>
     requires { step ≡ kept.old.progress.steps + 1 }
-    ensures step { (rows : List Row) (w : World) → Follows header.now rows (M.words memory.old) kept.old w →
-        IsStep result (finished header.now w block.now) (Posted (address_of (event_shape header.now) w.posted)) (Follows header.now rows (M.words memory.new) kept.new) }
+    ensures step { (rows : List Row) (w : World) → Lists header.now live.now → Follows header.now rows (M.words memory.old) kept.old w →
+        IsStep result (finished header.now live.now w block.now) (Posted (address_of (event_shape header.now) w.posted)) (Follows header.now rows (M.words memory.new) kept.new) }
     ensures refused { result ≡ Err StepFault.NotPossible → kept.new ≡ kept.old }
     ensures memory { result ≡ Err StepFault.NotPossible → M.words memory.new ≡ M.words memory.old }
 {
@@ -135,7 +137,7 @@ pub(crate) fn finish<M: WordMemory>(
     if !is_completion(block) {
         return Err(StepFault::NotPossible);
     }
-    complete(header, memory, kept, block)?;
+    complete(live, memory, kept, block)?;
     let at = post(shape, memory, kept, block, step)?;
     kept.under_way = None;
     Ok(Seen::Posted { at })

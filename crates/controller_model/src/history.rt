@@ -7,7 +7,7 @@ ghost use Rattle.traces.specs.declared.header.Header.{Header};
 ghost use Rattle.world_state.specs.World.{RingEvent, Took, Placed};
 ghost use Rattle.world_state.specs.Takes.{takes_of, first_at, is_as_declared, is_place};
 ghost use Rattle.world_state.specs.Harms.{is_end, is_right_place};
-ghost use Rattle.controller_model.specs.Posts.{is_last};
+ghost use Rattle.world_state.specs.Posts.{is_last};
 ghost use Rattle.controller_model.specs.Declarations.{as_declared};
 ghost use Rattle.controller_model.specs.Histories.{Keeps, ShowsHarms};
 

@@ -13,7 +13,7 @@ ghost use Rattle.controller_model.specs.Showing.{look_shows};
 ghost use Rattle.commands.specs.Command.{command_of};
 ghost use Rattle.contexts.specs.Contexts.{input_context_bytes};
 ghost use Rattle.trb.specs.Kind.{is_link};
-ghost use Rattle.controller_model.specs.Looks.{looked, looked_at, taken, command_begun, crossed, taken_on, seen_by_look};
+ghost use Rattle.world_state.specs.Looks.{looked, looked_at, taken, command_begun, crossed, taken_on, seen_by_look};
 ghost use Rattle.segments.specs.Places.{is_inside};
 
 use crate::fault::StepFault;
@@ -136,11 +136,11 @@ fn is_of(there: Option<&Ring>, address: u64) -> bool
     }
 }
 
-/// A look is noted where it is outside the ring's segments.
+/// A look is noted where it is outside the ring's segments, or the ring doesn't live.
 fn note_look(kept: &mut Kept, there: Option<&Ring>, ring: u8, pointer: u64)
     requires { pointer % 16 ≡ 0 }
-    ensures { (h : HeaderValue) (rows : List RowValue) (words : ℕ → ℕ) (w : World) → option_copied there.entry ≡ ring_with h ring → w.pointer_of ring ≡ pointer →
-        Follows h rows words kept.old w → Follows h rows words kept.new (seen_by_look h w ring) }
+    ensures { (h live : HeaderValue) (rows : List RowValue) (words : ℕ → ℕ) (w : World) → option_copied there.entry ≡ ring_with live ring → w.pointer_of ring ≡ pointer →
+        Follows h rows words kept.old w → Follows h rows words kept.new (seen_by_look live w ring) }
 {
     let is_inside = is_of(there, pointer);
     kept.looked_outside = kept.looked_outside | !is_inside;
@@ -244,16 +244,15 @@ fn begin(kept: &mut Kept, address: u64, block: &Block)
 /// The controller takes the block at a ring's pointer; one of the command ring is then under way.
 fn take_block(
     header: &Header,
-    there: Option<&Ring>,
     kept: &mut Kept,
     ring: u8,
     pointer: u64,
     block: &Block,
 ) -> Result<(), AllocError>
-    ensures { OnOk result ((rows : List RowValue) (words : ℕ → ℕ) (w : World) → option_copied there.entry ≡ ring_with header.now ring → w.pointer_of ring ≡ pointer →
+    ensures { OnOk result ((rows : List RowValue) (words : ℕ → ℕ) (w : World) → w.pointer_of ring ≡ pointer →
         Follows header.now rows words kept.old w → Follows header.now rows words kept.new (taken header.now w ring block.now)) }
 {
-    take_on(kept, there, ring, block)?;
+    take_on(kept, ring_with(header, ring), ring, block)?;
     if is_command_ring(header, ring) {
         begin(kept, pointer, block);
         watch_context(header, kept, pointer, block);
@@ -269,8 +268,8 @@ fn is_busy(header: &Header, kept: &Kept, ring: u8) -> bool
     is_command_ring(header, ring) && kept.under_way.is_some()
 }
 
-/// A look at a block (xHCI 4.9.2): it waits, follows a Link or takes the block.
-#[tactic(auto, using(crate::proofs::LookBranches::busy), unfolding(crate::specs::Looks::looked_at, crate::specs::Showing::look_shows))]
+/// A look at a block (xHCI 4.9.2): it waits, follows a Link or takes the block. The ring is handed in where it lives.
+#[tactic(auto, using(crate::proofs::LookBranches::busy), unfolding(world_state::specs::Looks::looked_at, crate::specs::Showing::look_shows))]
 fn look_at(
     header: &Header,
     there: Option<&Ring>,
@@ -281,9 +280,9 @@ fn look_at(
     block: &Block,
 ) -> Result<Seen, StepFault>
     requires { pointer % 16 ≡ 0 }
-    ensures step { (rows : List RowValue) (words : ℕ → ℕ) (w : World) → option_copied there.entry ≡ ring_with header.now ring → w.pointer_of ring ≡ pointer →
+    ensures step { (live : HeaderValue) (rows : List RowValue) (words : ℕ → ℕ) (w : World) → option_copied there.entry ≡ ring_with live ring → w.pointer_of ring ≡ pointer →
         w.cycle_state ring ≡ (if cycle then 1 else 0) → Follows header.now rows words kept.old w →
-        IsStep result (looked_at header.now w ring block.now) (look_shows w ring block.now) (Follows header.now rows words kept.new) }
+        IsStep result (looked_at header.now live w ring block.now) (look_shows w ring block.now) (Follows header.now rows words kept.new) }
     ensures refused { result ≡ Err StepFault.NotPossible → kept.new ≡ kept.old }
 {
     if !agrees(block, cycle) {
@@ -299,7 +298,7 @@ fn look_at(
         return Err(StepFault::NotPossible);
     }
     note_look(kept, there, ring, pointer);
-    take_block(header, there, kept, ring, pointer, block)?;
+    take_block(header, kept, ring, pointer, block)?;
     Ok(Seen::Took {
         ring,
         at: pointer,
@@ -310,12 +309,13 @@ fn look_at(
 /// A look at a ring: one fetch of the 16 bytes at its pointer, where it is active (xHCI 4.9.2).
 pub(crate) fn look<M: WordMemory>(
     header: &Header,
+    live: &Header,
     memory: &M,
     kept: &mut Kept,
     ring: u8,
 ) -> Result<Seen, StepFault>
     ensures step { (rows : List RowValue) (w : World) → Follows header.now rows (M.words memory.now) kept.old w →
-        IsStep result (looked header.now w ring) (look_shows w ring (block_at w.memory (w.pointer_of ring))) (Follows header.now rows (M.words memory.now) kept.new) }
+        IsStep result (looked header.now live.now w ring) (look_shows w ring (block_at w.memory (w.pointer_of ring))) (Follows header.now rows (M.words memory.now) kept.new) }
     ensures refused { result ≡ Err StepFault.NotPossible → kept.new ≡ kept.old }
 {
     let state = &kept.rings[usize::from(ring)];
@@ -324,7 +324,7 @@ pub(crate) fn look<M: WordMemory>(
     }
     let pointer = state.pointer;
     let cycle = state.cycle;
-    let there = ring_with(header, ring);
+    let there = ring_with(live, ring);
     let block = block_at(memory, pointer);
     look_at(header, there, kept, ring, pointer, cycle, &block)
 }

@@ -1,21 +1,22 @@
 ghost use Rattle.std.specs.Prelude.{◌≡◌, ℕ, ◌+◌, Err, List, OnOk};
 ghost use Rattle.traces.specs.Rows.{FitsLine, IsRow};
 ghost use Rattle.traces.specs.declared.row.Row.{Row as RowValue};
+ghost use Rattle.traces.specs.declared.trace_row.TraceRow.{TraceRow as TraceRowValue};
 ghost use Rattle.world_state.specs.World.{World};
 ghost use Rattle.controller_model.specs.declared.seen.Seen.TheVariants.{Row as RowSeen};
-ghost use Rattle.controller_model.specs.DriverRows.{row_done};
+ghost use Rattle.world_state.specs.DriverRows.{row_done};
 ghost use Rattle.controller_model.specs.RingHarms.{FollowsScene};
-ghost use Rattle.controller_model.specs.RingRows.{header_after, row_made};
 ghost use Rattle.traces.specs.TraceRows.{IsTraceRow};
-ghost use Rattle.controller_model.specs.Scenes.{Scene, row_next};
+ghost use Rattle.world_state.specs.Scenes.{Scene, row_made, row_next};
 ghost use Rattle.controller_model.specs.Following.{Follows, IsStep};
 
 use crate::bells::ring_bell;
 use crate::fault::StepFault;
 use crate::kept::Kept;
+use crate::life::Rings;
 use crate::posts::read_event;
 use crate::registers::write_register;
-use crate::ring_rows::{add_ring, remove_ring, withdraw};
+use crate::ring_rows::{add_ring, end_life, withdraw};
 use crate::rows::{declare, write};
 use crate::rows_left::RowsLeft;
 use crate::seen::Seen;
@@ -50,7 +51,7 @@ fn make_row<M: WordMemory>(
 
 /// What a row does to the rings that are there, to memory and to the controller.
 fn make_trace_row<M: WordMemory>(
-    header: &mut Header,
+    rings: &mut Rings,
     memory: &mut M,
     kept: &mut Kept,
     row: &TraceRow,
@@ -58,17 +59,16 @@ fn make_trace_row<M: WordMemory>(
 ) -> Result<Seen, StepFault>
     requires number { step ≡ kept.old.progress.steps + 1 }
     requires row { IsTraceRow row.now }
-    ensures header { OnOk result (header.new ≡ header_after header.old row.now) }
-    ensures step { (rows : List RowValue) (w : World) → Follows header.old rows (M.words memory.old) kept.old w →
-        IsStep result (row_made header.old w row.now) RowSeen (Follows header.new rows (M.words memory.new) kept.new) }
+    ensures step { (rows : List TraceRowValue) (x : Scene) → FollowsScene rings.old rows (M.words memory.old) kept.old x →
+        IsStep result (row_made x row.now) RowSeen (FollowsScene rings.new rows (M.words memory.new) kept.new) }
     ensures refused { result ≡ Err StepFault.NotPossible → kept.new ≡ kept.old }
     ensures memory { result ≡ Err StepFault.NotPossible → M.words memory.new ≡ M.words memory.old }
-    ensures rings { result ≡ Err StepFault.NotPossible → header.new ≡ header.old }
+    ensures rings { result ≡ Err StepFault.NotPossible → rings.new ≡ rings.old }
 {
     match row {
-        TraceRow::Plain(row) => return make_row(header, memory, kept, row, step),
-        TraceRow::Comes(ring) => add_ring(header, kept, ring.as_ring())?,
-        TraceRow::Goes(id) => remove_ring(header, kept, *id),
+        TraceRow::Plain(row) => return make_row(&rings.declared, memory, kept, row, step),
+        TraceRow::Comes(ring) => add_ring(rings, kept, ring.as_ring())?,
+        TraceRow::Goes(id) => end_life(rings, *id),
         TraceRow::Withdraws { ring, position } => withdraw(kept, *ring, *position),
     }
     Ok(Seen::Row)
@@ -77,25 +77,25 @@ fn make_trace_row<M: WordMemory>(
 /// The next row is made, if there is one.
 #[tactic(auto, using(crate::proofs::NextRowLemmas::nothing_left))]
 pub(crate) fn next_row<M: WordMemory>(
-    header: &mut Header,
+    rings: &mut Rings,
     left: &mut RowsLeft,
     memory: &mut M,
     kept: &mut Kept,
     step: u64,
 ) -> Result<Seen, StepFault>
     requires { step ≡ kept.old.progress.steps + 1 }
-    ensures step { (x : Scene) → FollowsScene header.old left.old (M.words memory.old) kept.old x →
-        IsStep result (row_next x x.rows) RowSeen (FollowsScene header.new left.new (M.words memory.new) kept.new) }
+    ensures step { (x : Scene) → FollowsScene rings.old left.old (M.words memory.old) kept.old x →
+        IsStep result (row_next x x.rows) RowSeen (FollowsScene rings.new left.new (M.words memory.new) kept.new) }
     ensures refused { result ≡ Err StepFault.NotPossible → kept.new ≡ kept.old }
     ensures memory { result ≡ Err StepFault.NotPossible → M.words memory.new ≡ M.words memory.old }
-    ensures rings { result ≡ Err StepFault.NotPossible → header.new ≡ header.old }
+    ensures rings { result ≡ Err StepFault.NotPossible → rings.new ≡ rings.old }
     ensures left { result ≡ Err StepFault.NotPossible → left.new ≡ left.old }
 {
     let row = match left.first() {
         None => return Err(StepFault::NotPossible),
         Some(row) => row,
     };
-    let seen = make_trace_row(header, memory, kept, row, step)?;
+    let seen = make_trace_row(rings, memory, kept, row, step)?;
     left.pass();
     count(kept)?;
     Ok(seen)

@@ -8,9 +8,9 @@ ghost use Rattle.traces.specs.declared.header.Header.{Header as HeaderValue};
 ghost use Rattle.traces.specs.declared.row.Row.{Row as RowValue};
 ghost use Rattle.traces.specs.Header.{event_ring, event_shape, is_event_kind};
 ghost use Rattle.world_state.specs.World.{World};
-ghost use Rattle.controller_model.specs.Posts.{can_post, posted, other_posted};
+ghost use Rattle.world_state.specs.Posts.{can_post, posted, other_posted};
 ghost use Rattle.controller_model.specs.declared.seen.Seen.TheVariants.{Posted, Row};
-ghost use Rattle.controller_model.specs.DriverRows.{event_read};
+ghost use Rattle.world_state.specs.DriverRows.{event_read};
 ghost use Rattle.controller_model.specs.Following.{Follows, IsStep};
 
 use crate::fault::StepFault;
@@ -113,7 +113,7 @@ fn place(shape: &RingShape, position: u64) -> u64
 }
 
 /// The controller posts an event of its own (xHCI 6.4.2.3 to 6.4.2.8).
-#[tactic(auto, using(crate::proofs::PostLemmas::no_ring), unfolding(crate::specs::Posts::other_posted, traces::specs::Header::event_shape))]
+#[tactic(auto, using(crate::proofs::PostLemmas::no_ring), unfolding(world_state::specs::Posts::other_posted, traces::specs::Header::event_shape))]
 pub(crate) fn post_other<M: WordMemory>(
     header: &Header,
     memory: &mut M,
@@ -154,7 +154,7 @@ fn event_address(header: &Header, position: u64) -> u64
 }
 
 /// The driver reads an event: one that was posted and not yet read, with the words at the read place (xHCI 4.9.4).
-#[tactic(auto, unfolding(crate::specs::DriverRows::event_read, world_state::specs::World::event_at))]
+#[tactic(auto, unfolding(world_state::specs::DriverRows::event_read, world_state::specs::World::event_at))]
 pub(crate) fn read_event<M: WordMemory>(
     header: &Header,
     memory: &M,

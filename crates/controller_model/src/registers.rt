@@ -6,7 +6,7 @@ ghost use Rattle.traces.specs.Header.{command_id};
 ghost use Rattle.traces.specs.declared.register.Register.TheVariants.{Erdp, Usbcmd};
 ghost use Rattle.traces.specs.Register.{with_register, run_bit, reset_bit, base_address, ring_cycle_state};
 ghost use Rattle.world_state.specs.World.{World};
-ghost use Rattle.controller_model.specs.DriverRows.{register_row, started_with, valued, with_dequeue};
+ghost use Rattle.world_state.specs.DriverRows.{register_row, started_with, valued, with_dequeue};
 ghost use Rattle.controller_model.specs.Following.{Follows, FollowsRegisters, noted, pointed};
 
 use crate::kept::{Kept, Registers};

@@ -12,7 +12,7 @@ ghost use Rattle.traces.specs.Header.{event_shape};
 ghost use Rattle.world_state.specs.World.{World};
 ghost use Rattle.world_state.specs.Takes.{unreported};
 ghost use Rattle.controller_model.specs.declared.seen.Seen.TheVariants.{Posted};
-ghost use Rattle.controller_model.specs.Posts.{is_last, is_stop_under_way, report_code, report_error, report_stop, report_success, reported, stopped_with, with_reported, with_stopped};
+ghost use Rattle.world_state.specs.Posts.{is_last, is_stop_under_way, report_code, report_error, report_stop, report_success, reported, stopped_with, with_reported, with_stopped};
 ghost use Rattle.controller_model.specs.Following.{Follows, IsChange, IsStep, KeepsRun, told};
 
 use crate::endpoints::{endpoint_of, set_state};
@@ -125,7 +125,7 @@ fn report_error(
 }
 
 /// Whether a Stop Endpoint for this endpoint is under way.
-#[tactic(auto, unfolding(crate::specs::Posts::is_stop_under_way))]
+#[tactic(auto, unfolding(world_state::specs::Posts::is_stop_under_way))]
 fn is_stop_under_way(kept: &Kept, slot: u8, index: u8) -> bool
     ensures { (h : HeaderValue) (rows : List Row) (words : ℕ → ℕ) (w : World) → Follows h rows words kept.now w →
         result ≡ is_stop_under_way h slot index w.under_way }
@@ -186,7 +186,7 @@ fn report_stop(kept: &mut Kept, slot: u8, index: u8, ring: u8, address: u64) -> 
 }
 
 /// What a Transfer Event with this completion code says of an endpoint and its ring (xHCI 6.4.5).
-#[tactic(auto, unfolding(crate::specs::Posts::report_code))]
+#[tactic(auto, unfolding(world_state::specs::Posts::report_code))]
 fn report_code(kept: &mut Kept, code: u8, slot: u8, index: u8, ring: u8, address: u64) -> bool
     requires { index < 32 }
     ensures change { (h : HeaderValue) (rows : List Row) (words : ℕ → ℕ) (w : World) → Follows h rows words kept.old w →
@@ -232,7 +232,7 @@ fn report_on(kept: &mut Kept, block: &Block) -> bool
 }
 
 /// The controller posts a Transfer Event (xHCI 4.10.2, 6.4.2.1).
-#[tactic(auto, using(crate::proofs::PostLemmas::no_ring), unfolding(crate::specs::Posts::reported, traces::specs::Header::event_shape))]
+#[tactic(auto, using(crate::proofs::PostLemmas::no_ring), unfolding(world_state::specs::Posts::reported, traces::specs::Header::event_shape))]
 pub(crate) fn report<M: WordMemory>(
     header: &Header,
     memory: &mut M,

@@ -1,13 +1,19 @@
 //! Rows by which rings come and go, and descriptors are withdrawn.
-ghost use Rattle.std.specs.Prelude.{◌≡◌, ◌≢◌, ◌<◌, ◌==◌, ℕ, List, IfSome, OnOk, length, position, remove};
+ghost use Rattle.std.specs.Prelude.{◌≡◌, ◌≢◌, ◌<◌, ◌==◌, if◌then◌else◌, ℕ, List, IfSome, OnOk, length, position, remove};
+ghost use Rattle.std.specs.List.{list_any};
 ghost use Rattle.traces.specs.declared.header.Header.{Header as HeaderValue};
 ghost use Rattle.traces.specs.declared.row.Row.{Row as RowValue};
 ghost use Rattle.traces.specs.Header.{ring_with};
 ghost use Rattle.world_state.specs.World.{World};
-ghost use Rattle.controller_model.specs.RingRows.{emptied, with_ring, without_descriptor, without_ring};
+ghost use Rattle.traces.specs.declared.trace_row.TraceRow.{TraceRow as TraceRowValue};
+ghost use Rattle.world_state.specs.RingRows.{emptied, is_in_way, listed, may_come, without_descriptor, without_ring};
+ghost use Rattle.controller_model.specs.RingHarms.{FollowsScene};
+ghost use Rattle.world_state.specs.Scenes.{Scene, with_coming};
+ghost use Rattle.controller_model.specs.declared.kept.Kept.{Kept as KeptValue};
 ghost use Rattle.controller_model.specs.Following.{Follows};
 
 use crate::kept::Kept;
+use crate::life::Rings;
 use std::alloc::AllocError;
 use traces::{Header, Ring};
 
@@ -19,18 +25,6 @@ fn empty(kept: &mut Kept, id: u8)
     let state = &mut kept.rings[usize::from(id)];
     state.declared.clear();
     state.history.clear();
-}
-
-/// A ring comes: it is there from now on, and nothing has happened on it (xHCI 4.9).
-pub(crate) fn add_ring(header: &mut Header, kept: &mut Kept, ring: &Ring) -> Result<(), AllocError>
-    ensures header { OnOk result (header.new ≡ with_ring header.old ring.now) }
-    ensures kept { OnOk result ((rows : List RowValue) (words : ℕ → ℕ) (w : World) → Follows header.old rows words kept.old w →
-        Follows header.new rows words kept.new (emptied w ring.now.id)) }
-{
-    let copy = ring.copy()?;
-    header.rings.push(copy)?;
-    empty(kept, ring.id);
-    Ok(())
 }
 
 /// Which ring is the first with this ID.
@@ -65,14 +59,56 @@ fn drop_ring(header: &mut Header, id: u8)
     }
 }
 
-/// A ring goes: it isn't there any more, and of what happened on it nothing is left (xHCI 4.9).
-pub(crate) fn remove_ring(header: &mut Header, kept: &mut Kept, id: u8)
-    ensures header { header.new ≡ without_ring header.old id }
-    ensures kept { (rows : List RowValue) (words : ℕ → ℕ) (w : World) → Follows header.old rows words kept.old w →
-        Follows header.new rows words kept.new (emptied w id) }
+/// The header lists the ring, in place of one that had its ID.
+fn list(header: &mut Header, ring: &Ring) -> Result<(), AllocError>
+    ensures { OnOk result (header.new ≡ listed header.old ring.now) }
 {
-    drop_ring(header, id);
-    empty(kept, id);
+    drop_ring(header, ring.id);
+    let copy = ring.copy()?;
+    header.rings.push(copy)?;
+    Ok(())
+}
+
+/// Whether both have the ID, or a segment of one overlaps one of the other.
+fn is_in_way(ring: &Ring, other: &Ring) -> bool
+    ensures { result ≡ is_in_way ring.now other.now }
+{
+    other.id == ring.id || other.shape.overlaps_ring(&ring.shape)
+}
+
+fn some_in_way(ring: &Ring, others: &[Ring]) -> bool
+    ensures { result ≡ list_any (is_in_way ring.now) others.now }
+{
+    others.iter().any(|other| is_in_way(ring, other))
+}
+
+/// Whether none of the rings that live is in the way of one that comes.
+fn may_come(live: &Header, ring: &Ring) -> bool
+    ensures { result ≡ may_come live.now ring.now }
+{
+    !some_in_way(ring, live.rings.as_slice())
+}
+
+/// A ring comes, and nothing has happened on it; where one that lives is in its way nothing is changed (xHCI 4.9).
+pub(crate) fn add_ring(rings: &mut Rings, kept: &mut Kept, ring: &Ring) -> Result<(), AllocError>
+    ensures { OnOk result ((rows : List TraceRowValue) (words : ℕ → ℕ) (x : Scene) → FollowsScene rings.old rows words kept.old x →
+        FollowsScene rings.new rows words kept.new (if may_come x.live ring.now then with_coming x ring.now else x)) }
+{
+    if !may_come(&rings.live, ring) {
+        return Ok(());
+    }
+    list(&mut rings.declared, ring)?;
+    list(&mut rings.live, ring)?;
+    empty(kept, ring.id);
+    Ok(())
+}
+
+/// The life of the ring with this ID ends: it is declared still, with all that happened on it (xHCI 4.9).
+pub(crate) fn end_life(rings: &mut Rings, id: u8)
+    ensures { (rows : List TraceRowValue) (words : ℕ → ℕ) (k : KeptValue) (x : Scene) → FollowsScene rings.old rows words k x →
+        FollowsScene rings.new rows words k (record x { live = without_ring x.live id }) }
+{
+    drop_ring(&mut rings.live, id);
 }
 
 /// The descriptor that begins at a position of a ring is withdrawn (xHCI 4.6.9, 6.4.1.4.1).

@@ -2,7 +2,7 @@ ghost use Rattle.std.specs.Prelude.{◌≡◌, ℕ, Some, List};
 ghost use Rattle.traces.specs.declared.header.Header.{Header};
 ghost use Rattle.traces.specs.declared.row.Row.{Row};
 ghost use Rattle.world_state.specs.World.{World};
-ghost use Rattle.controller_model.specs.Bindings.{inactive};
+ghost use Rattle.world_state.specs.Bindings.{inactive};
 ghost use Rattle.controller_model.specs.Following.{Follows, FollowsRing, KeepsRun, ring_held};
 
 use crate::kept::{Kept, RingState};
@@ -16,7 +16,7 @@ pub(crate) fn ring_state(kept: &Kept, ring: u8) -> &RingState
 }
 
 /// The controller looks at a ring no more.
-#[tactic(auto, using(crate::proofs::RingLemmas::with_rings, crate::proofs::RingLemmas::ring_changed, crate::proofs::RingSteps::inactive_other, crate::proofs::RingSteps::inactive_here), unfolding(crate::specs::Bindings::inactive))]
+#[tactic(auto, using(crate::proofs::RingLemmas::with_rings, crate::proofs::RingLemmas::ring_changed, crate::proofs::RingSteps::inactive_other, crate::proofs::RingSteps::inactive_here), unfolding(world_state::specs::Bindings::inactive))]
 pub(crate) fn deactivate(kept: &mut Kept, ring: u8)
     ensures change { (h : Header) (rows : List Row) (words : ℕ → ℕ) (w : World) → Follows h rows words kept.old w →
         Follows h rows words kept.new (inactive w (Some ring)) }

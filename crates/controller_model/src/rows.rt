@@ -2,7 +2,7 @@ ghost use Rattle.std.specs.Prelude.{◌≡◌, ◌≢◌, ℕ, ◌+◌, ◌<◌,
 ghost use Rattle.traces.specs.declared.header.Header.{Header as HeaderValue};
 ghost use Rattle.traces.specs.declared.row.Row.{Row as RowValue};
 ghost use Rattle.world_state.specs.World.{World, stored};
-ghost use Rattle.controller_model.specs.DriverRows.{declared, register_row, bell_row, event_read};
+ghost use Rattle.world_state.specs.DriverRows.{declared, register_row, bell_row, event_read};
 ghost use Rattle.controller_model.specs.Following.{Follows};
 
 use crate::kept::Kept;

@@ -6,16 +6,18 @@ ghost use Rattle.traces.specs.Header.{event_size, shape_of};
 ghost use Rattle.world_state.specs.World.{World};
 ghost use Rattle.world_state.specs.Harms.{harm_of, has_changed_context, has_other_words, is_inside_descriptor, is_out_of_order, waits};
 ghost use Rattle.traces.specs.declared.step.Step.TheVariants.{Look};
-ghost use Rattle.controller_model.specs.DriverRows.{row_done};
-ghost use Rattle.controller_model.specs.Steps.{stepped};
-ghost use Rattle.controller_model.specs.Scenes.{Scene, step_made};
+ghost use Rattle.world_state.specs.DriverRows.{row_done};
+ghost use Rattle.world_state.specs.Steps.{stepped};
+ghost use Rattle.world_state.specs.Scenes.{Scene, step_made};
 ghost use Rattle.traces.specs.declared.trace_row.TraceRow.{TraceRow as TraceRowValue};
 ghost use Rattle.controller_model.specs.declared.kept.Kept.{Kept as KeptValue};
+ghost use Rattle.controller_model.specs.declared.life.Rings.{Rings as RingsValue};
 ghost use Rattle.traces.specs.Header.{ring_with};
 ghost use Rattle.controller_model.specs.Following.{Follows, FollowsRing, ring_held};
 ghost use Rattle.controller_model.specs.RingHarms.{FollowsScene, HasRingHarms};
 
 use crate::kept::{Kept, RingState};
+use crate::life::Rings;
 use crate::looks::{command_of, input_words};
 use crate::memory::word_at;
 use crate::posts::event_ring;
@@ -133,7 +135,7 @@ fn is_any(harms: RingHarms) -> bool
     harms.out_of_order || harms.other_words || harms.waits_inside
 }
 
-/// The harms of all rings after a look at one of them, which may be gone. Where there was no harm before and that ring shows none, there
+/// The harms of all rings after a look at one of them, which may not be listed. Where there was no harm before and that ring shows none, there
 /// is none.
 fn harms_after_look<M: WordMemory>(
     header: &Header,
@@ -142,7 +144,7 @@ fn harms_after_look<M: WordMemory>(
     before: RingHarms,
     ring: u8,
 ) -> RingHarms
-    ensures { (rows : List RowValue) (w v : World) → HasRingHarms header.now w before → stepped header.now w (Look ring) ≡ Some v →
+    ensures { (live : HeaderValue) (rows : List RowValue) (w v : World) → HasRingHarms header.now w before → stepped header.now live w (Look ring) ≡ Some v →
         Follows header.now rows (M.words memory.now) kept.now v → HasRingHarms header.now v result }
 {
     if is_any(before) {
@@ -156,15 +158,16 @@ fn harms_after_look<M: WordMemory>(
 
 /// The harms of all rings after a step.
 pub(crate) fn harms_after<M: WordMemory>(
-    header: &Header,
+    rings: &Rings,
     memory: &M,
     kept: &Kept,
     before: RingHarms,
     step: &Step,
 ) -> RingHarms
     ensures { (rows : List TraceRowValue) (x y : Scene) → HasRingHarms x.header x.world before → step_made x step.now ≡ Some y →
-        FollowsScene header.now rows (M.words memory.now) kept.now y → HasRingHarms y.header y.world result }
+        FollowsScene rings.now rows (M.words memory.now) kept.now y → HasRingHarms y.header y.world result }
 {
+    let header = &rings.declared;
     match step {
         Step::Look { ring } => harms_after_look(header, memory, kept, before, *ring),
         _ => ring_harms(header, memory, kept),
@@ -187,7 +190,7 @@ fn keeps_harms<M: WordMemory>(memory: &M, row: &Row) -> bool
 
 /// Whether the next step surely leaves the rings' harms as they are.
 pub(crate) fn is_quiet<M: WordMemory>(left: &RowsLeft, memory: &M, step: &Step) -> bool
-    ensures { (h : HeaderValue) (k : KeptValue) (x y : Scene) (harms : RingHarms) → FollowsScene h left.now (M.words memory.now) k x → result ≡ true →
+    ensures { (rings : RingsValue) (k : KeptValue) (x y : Scene) (harms : RingHarms) → FollowsScene rings left.now (M.words memory.now) k x → result ≡ true →
         step_made x step.now ≡ Some y → HasRingHarms x.header x.world harms → HasRingHarms y.header y.world harms }
 {
     match step {

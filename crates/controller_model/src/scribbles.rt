@@ -7,7 +7,7 @@ ghost use Rattle.traces.specs.declared.header.Header.{Header as HeaderValue};
 ghost use Rattle.traces.specs.declared.row.Row.{Row as RowValue};
 ghost use Rattle.world_state.specs.World.{World};
 ghost use Rattle.controller_model.specs.declared.seen.Seen.TheVariants.{Scribbled};
-ghost use Rattle.controller_model.specs.Steps.{scribbled, is_scribbled};
+ghost use Rattle.world_state.specs.Steps.{scribbled, is_scribbled};
 ghost use Rattle.controller_model.specs.Following.{Follows, IsStep};
 
 use crate::fault::StepFault;
@@ -46,7 +46,7 @@ fn is_in(address: u64, base: u64, size: ContextSize) -> bool
 }
 
 /// Whether the word at an address belongs to the device context of a slot, and the controller may write that.
-#[tactic(auto, unfolding(crate::specs::Steps::is_scribbled))]
+#[tactic(auto, unfolding(world_state::specs::Steps::is_scribbled))]
 fn is_scribbled<M: WordMemory>(header: &Header, memory: &M, kept: &Kept, at: Addr, slot: u8) -> bool
     ensures { (rows : List RowValue) (w : World) → Follows header.now rows (M.words memory.now) kept.now w →
         result ≡ is_scribbled header.now w at slot }
@@ -59,7 +59,7 @@ fn is_scribbled<M: WordMemory>(header: &Header, memory: &M, kept: &Kept, at: Add
 }
 
 /// Whether the word at an address belongs to a device context that the controller may write.
-#[tactic(auto, using(crate::proofs::ScribbleLemmas::none_in_range))]
+#[tactic(auto, using(world_state::proofs::Ranges::none_in_range))]
 fn may_scribble<M: WordMemory>(header: &Header, memory: &M, kept: &Kept, at: Addr) -> bool
     ensures { (rows : List RowValue) (w : World) → Follows header.now rows (M.words memory.now) kept.now w →
         result ≡ list_any (is_scribbled header.now w at) (range_with_len 0 256) }

@@ -78,7 +78,7 @@ impl Stamps {
     }
 
     /// Whether one of so many words from an address on was changed after a step.
-    #[tactic(auto, using(crate::proofs::ScribbleLemmas::none_in_range))]
+    #[tactic(auto, using(world_state::proofs::Ranges::none_in_range))]
     pub(crate) fn is_changed_since(&self, step: u64, address: u64, words: u64) -> bool
         requires { words < 2 ^ 32 }
         ensures { result ≡ list_any (λ i. nat_lt step (changed_at self.now (address + 4 * i))) (range_with_len 0 words) }

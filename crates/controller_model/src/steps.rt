@@ -4,14 +4,15 @@ ghost use Rattle.traces.specs.declared.header.Header.{Header as HeaderValue};
 ghost use Rattle.traces.specs.declared.row.Row.{Row as RowValue};
 ghost use Rattle.world_state.specs.World.{World};
 ghost use Rattle.controller_model.specs.Showing.{shows};
-ghost use Rattle.controller_model.specs.Steps.{counted, made, stepped};
-ghost use Rattle.controller_model.specs.Following.{Follows, IsStep};
+ghost use Rattle.world_state.specs.Steps.{counted, made, stepped};
+ghost use Rattle.controller_model.specs.Following.{Follows, IsStep, Lists};
 ghost use Rattle.controller_model.specs.RingHarms.{FollowsScene};
-ghost use Rattle.controller_model.specs.Scenes.{Scene, step_made};
+ghost use Rattle.world_state.specs.Scenes.{Scene, step_made};
 
 use crate::fault::StepFault;
 use crate::finishes::finish;
 use crate::kept::Kept;
+use crate::life::Rings;
 use crate::looks::look;
 use crate::next_row::next_row;
 use crate::posts::post_other;
@@ -35,26 +36,28 @@ pub(crate) fn count(kept: &mut Kept) -> Result<(), AllocError>
 
 /// A step of the controller that isn't counted yet. After the stop none is possible.
 fn make<M: WordMemory>(
-    header: &Header,
+    rings: &Rings,
     memory: &mut M,
     kept: &mut Kept,
     step: &Step,
     number: u64,
 ) -> Result<Seen, StepFault>
     requires { number ≡ kept.old.progress.steps + 1 }
-    ensures step { (rows : List RowValue) (w : World) → step.now ≢ NextRow → Follows header.now rows (M.words memory.old) kept.old w →
-        IsStep result (made header.now w step.now) (shows header.now w step.now) (Follows header.now rows (M.words memory.new) kept.new) }
+    ensures step { (rows : List RowValue) (w : World) → step.now ≢ NextRow → Lists rings.now.declared rings.now.live →
+        Follows rings.now.declared rows (M.words memory.old) kept.old w →
+        IsStep result (made rings.now.declared rings.now.live w step.now) (shows rings.now.declared w step.now) (Follows rings.now.declared rows (M.words memory.new) kept.new) }
     ensures refused { result ≡ Err StepFault.NotPossible → kept.new ≡ kept.old }
     ensures memory { result ≡ Err StepFault.NotPossible → M.words memory.new ≡ M.words memory.old }
 {
     if kept.progress.stopped {
         return Err(StepFault::NotPossible);
     }
+    let header = &rings.declared;
     match step {
         Step::NextRow => Err(StepFault::NotPossible),
-        Step::Look { ring } => look(header, memory, kept, *ring),
+        Step::Look { ring } => look(header, &rings.live, memory, kept, *ring),
         Step::Report { event } => report(header, memory, kept, event, number),
-        Step::Finish { event } => finish(header, memory, kept, event, number),
+        Step::Finish { event } => finish(header, &rings.live, memory, kept, event, number),
         Step::Other { event } => post_other(header, memory, kept, event, number),
         Step::Scribble { at, word } => scribble(header, memory, kept, *at, *word, number),
     }
@@ -62,41 +65,42 @@ fn make<M: WordMemory>(
 
 /// A step of the controller.
 fn make_counted<M: WordMemory>(
-    header: &Header,
+    rings: &Rings,
     memory: &mut M,
     kept: &mut Kept,
     step: &Step,
     number: u64,
 ) -> Result<Seen, StepFault>
     requires { number ≡ kept.old.progress.steps + 1 }
-    ensures step { (rows : List RowValue) (w : World) → step.now ≢ NextRow → Follows header.now rows (M.words memory.old) kept.old w →
-        IsStep result (stepped header.now w step.now) (shows header.now w step.now) (Follows header.now rows (M.words memory.new) kept.new) }
+    ensures step { (rows : List RowValue) (w : World) → step.now ≢ NextRow → Lists rings.now.declared rings.now.live →
+        Follows rings.now.declared rows (M.words memory.old) kept.old w →
+        IsStep result (stepped rings.now.declared rings.now.live w step.now) (shows rings.now.declared w step.now) (Follows rings.now.declared rows (M.words memory.new) kept.new) }
     ensures refused { result ≡ Err StepFault.NotPossible → kept.new ≡ kept.old }
     ensures memory { result ≡ Err StepFault.NotPossible → M.words memory.new ≡ M.words memory.old }
 {
-    let seen = make(header, memory, kept, step, number)?;
+    let seen = make(rings, memory, kept, step, number)?;
     count(kept)?;
     Ok(seen)
 }
 
 /// Makes one step.
 pub(crate) fn make_step<M: WordMemory>(
-    header: &mut Header,
+    rings: &mut Rings,
     left: &mut RowsLeft,
     memory: &mut M,
     kept: &mut Kept,
     step: &Step,
 ) -> Result<Seen, StepFault>
-    ensures step { (x : Scene) → FollowsScene header.old left.old (M.words memory.old) kept.old x →
-        IsStep result (step_made x step.now) (shows x.header x.world step.now) (FollowsScene header.new left.new (M.words memory.new) kept.new) }
+    ensures step { (x : Scene) → FollowsScene rings.old left.old (M.words memory.old) kept.old x →
+        IsStep result (step_made x step.now) (shows x.header x.world step.now) (FollowsScene rings.new left.new (M.words memory.new) kept.new) }
     ensures refused { result ≡ Err StepFault.NotPossible → kept.new ≡ kept.old }
     ensures memory { result ≡ Err StepFault.NotPossible → M.words memory.new ≡ M.words memory.old }
-    ensures rings { result ≡ Err StepFault.NotPossible → header.new ≡ header.old }
+    ensures rings { result ≡ Err StepFault.NotPossible → rings.new ≡ rings.old }
     ensures left { result ≡ Err StepFault.NotPossible → left.new ≡ left.old }
 {
     let number = kept.progress.steps.checked_add(1).ok_or(AllocError)?;
     match step {
-        Step::NextRow => next_row(header, left, memory, kept, number),
-        _ => make_counted(header, memory, kept, step, number),
+        Step::NextRow => next_row(rings, left, memory, kept, number),
+        _ => make_counted(rings, memory, kept, step, number),
     }
 }

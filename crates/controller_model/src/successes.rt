@@ -9,8 +9,8 @@ ghost use Rattle.traces.specs.declared.row.Row.{Row};
 ghost use Rattle.traces.specs.Header.{ring_having};
 ghost use Rattle.traces.specs.Register.{register_or_zero};
 ghost use Rattle.world_state.specs.World.{World};
-ghost use Rattle.controller_model.specs.Bindings.{changed_by_all};
-ghost use Rattle.controller_model.specs.Finishes.{passes_end, succeeded};
+ghost use Rattle.world_state.specs.Bindings.{changed_by_all};
+ghost use Rattle.world_state.specs.Finishes.{passes_end, succeeded};
 ghost use Rattle.controller_model.specs.Following.{Follows, HasRoom, IsWell, may_get};
 
 use crate::bindings::can_place;
@@ -34,7 +34,7 @@ fn is_past_end(size: ContextSize, context: u64) -> bool
 }
 
 /// Whether the input context that a command reads ends above 2^64.
-#[tactic(auto, unfolding(crate::specs::Finishes::passes_end))]
+#[tactic(auto, unfolding(world_state::specs::Finishes::passes_end))]
 fn passes_end(header: &Header, command: &Command) -> bool
     ensures { result ≡ passes_end header.now (named_context command.now) }
 {
@@ -118,7 +118,7 @@ fn can_address<M: WordMemory>(
 ) -> bool
     requires aligned { context % 16 ≡ 0 }
     requires end { context + input_context_bytes header.now.context_size ≤ 2 ^ 64 }
-    ensures { (rows : List Row) (words : ℕ → ℕ) (w : World) → Follows header.now rows words kept.now w →
+    ensures { (h : HeaderValue) (rows : List Row) (words : ℕ → ℕ) (w : World) → Follows h rows words kept.now w →
         result ≡ may_get w slot 1 (ring_having header.now (context_pointer header.now.context_size (M.words memory.now) context 1)) }
 {
     let pointer = context_of(memory, header.context_size, context, 1).pointer;
@@ -130,7 +130,7 @@ fn can_address<M: WordMemory>(
 fn can_apply<M: WordMemory>(header: &Header, memory: &M, kept: &Kept, command: &Command) -> bool
     requires well { IsWell command.now }
     requires end { HasRoom header.now.context_size command.now }
-    ensures { (rows : List Row) (words : ℕ → ℕ) (n : ℕ) (w : World) → Follows header.now rows words kept.now w →
+    ensures { (h : HeaderValue) (rows : List Row) (words : ℕ → ℕ) (n : ℕ) (w : World) → Follows h rows words kept.now w →
         result ≡ is_some (changed_by_all header.now command.now w (changes header.now.context_size (M.words memory.now) n command.now)) }
 {
     match *command {
@@ -163,7 +163,7 @@ pub(crate) fn succeeds<M: WordMemory>(
     slot: u8,
 ) -> bool
     requires { IsWell command.now }
-    ensures value { (rows : List Row) (w : World) → Follows header.now rows (M.words memory.now) kept.now w →
+    ensures value { (h : HeaderValue) (rows : List Row) (w : World) → Follows h rows (M.words memory.now) kept.now w →
         result ≡ is_some (succeeded header.now w slot (Some command.now)) }
     ensures room { result ≡ true → HasRoom header.now.context_size command.now }
 {

@@ -7,7 +7,7 @@ ghost use Rattle.traces.specs.declared.header.Header.{Header as HeaderValue};
 ghost use Rattle.traces.specs.declared.row.Row.{Row};
 ghost use Rattle.traces.specs.Header.{is_ring};
 ghost use Rattle.world_state.specs.World.{World};
-ghost use Rattle.controller_model.specs.Bindings.{changed_by_all, is_had_by_another};
+ghost use Rattle.world_state.specs.Bindings.{changed_by_all, is_had_by_another};
 ghost use Rattle.controller_model.specs.Trials.{GoesOnAs, Sees, has_own, is_elsewhere, own_ring};
 ghost use Rattle.controller_model.specs.Following.{Follows, HasRoom, named_by, places_from};
 
@@ -80,7 +80,7 @@ fn is_held(kept: &Kept, rings: &[Option<u8>], slot: u8, index: u8, ring: u8) -> 
 }
 
 /// An endpoint would get its ring, where the input context adds it; whether it can.
-#[tactic(auto, using(crate::proofs::AddedLemmas::adds_later, crate::proofs::AddedLemmas::adds_next), unfolding(crate::specs::Bindings::changed_by, crate::specs::Bindings::changed_by_all, crate::specs::Bindings::placed_on))]
+#[tactic(auto, using(crate::proofs::AddedLemmas::adds_later, crate::proofs::AddedLemmas::adds_next), unfolding(world_state::specs::Bindings::changed_by, world_state::specs::Bindings::changed_by_all, world_state::specs::Bindings::placed_on))]
 fn try_added<M: WordMemory>(
     header: &Header,
     memory: &M,
@@ -95,9 +95,9 @@ fn try_added<M: WordMemory>(
     requires end { context + input_context_bytes header.now.context_size ≤ 2 ^ 64 }
     requires first { 1 ≤ index }
     requires last { index < 32 }
-    ensures refused { (rows : List Row) (words : ℕ → ℕ) (c : Command) (w v : World) → result ≡ false → Follows header.now rows words kept.now w → Sees rings.old slot w v →
+    ensures refused { (h : HeaderValue) (rows : List Row) (words : ℕ → ℕ) (c : Command) (w v : World) → result ≡ false → Follows h rows words kept.now w → Sees rings.old slot w v →
         changed_by_all header.now c v (places_from header.now.context_size (M.words memory.now) slot context index) ≡ None }
-    ensures made { (rows : List Row) (words : ℕ → ℕ) (c : Command) (w v : World) → result ≡ true → Follows header.now rows words kept.now w → Sees rings.old slot w v →
+    ensures made { (h : HeaderValue) (rows : List Row) (words : ℕ → ℕ) (c : Command) (w v : World) → result ≡ true → Follows h rows words kept.now w → Sees rings.old slot w v →
         GoesOnAs rings.new slot w
         (changed_by_all header.now c v (places_from header.now.context_size (M.words memory.now) slot context index))
         (λ u. changed_by_all header.now c u (places_from header.now.context_size (M.words memory.now) slot context (index + 1))) }
@@ -129,7 +129,7 @@ pub(crate) fn can_add_all<M: WordMemory>(
     requires many { length rings.old ≡ 32 }
     requires aligned { context % 16 ≡ 0 }
     requires end { context + input_context_bytes header.now.context_size ≤ 2 ^ 64 }
-    ensures { (rows : List Row) (words : ℕ → ℕ) (c : Command) (w v : World) → Follows header.now rows words kept.now w → Sees rings.old slot w v →
+    ensures { (h : HeaderValue) (rows : List Row) (words : ℕ → ℕ) (c : Command) (w v : World) → Follows h rows words kept.now w → Sees rings.old slot w v →
         result ≡ is_some (changed_by_all header.now c v (places_from header.now.context_size (M.words memory.now) slot context 2)) }
 {
     for index in 2..32 {
@@ -176,7 +176,7 @@ pub(crate) fn can_configure<M: WordMemory>(
 ) -> bool
     requires aligned { context % 16 ≡ 0 }
     requires end { HasRoom header.now.context_size (ConfigureEndpoint slot deconfigure context) }
-    ensures { (rows : List Row) (words : ℕ → ℕ) (c : Command) (n : ℕ) (w : World) → Follows header.now rows words kept.now w →
+    ensures { (h : HeaderValue) (rows : List Row) (words : ℕ → ℕ) (c : Command) (n : ℕ) (w : World) → Follows h rows words kept.now w →
         result ≡ is_some (changed_by_all header.now c w (changes header.now.context_size (M.words memory.now) n (ConfigureEndpoint slot deconfigure context))) }
 {
     if deconfigure {

@@ -1,1 +1,3 @@
+pub mod Classes
+pub mod Colors
 pub mod Layout

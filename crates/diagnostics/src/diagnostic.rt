@@ -1,7 +1,24 @@
 //! A diagnostic: what is told of a line.
+use crate::class::Class;
+use crate::colors::Colors;
 use ownership_rules::Refusal;
 use trace_reader::LineFault;
 use world_state::Harm;
+
+/// How a diagnostic is shown.
+#[derive(Clone, Copy, Debug)]
+pub struct View<'a> {
+    /// How the file is called.
+    pub path: &'a str,
+    pub colors: Colors,
+}
+
+/// What is told of a line, as it is shown, and its class.
+#[derive(Debug, Drop)]
+pub struct Explanation {
+    pub text: String,
+    pub class: Class,
+}
 
 /// A row that is quoted, and what it has to do with what is wrong.
 #[derive(Debug, Drop)]
@@ -42,4 +59,6 @@ pub struct Diagnostic {
     pub notes: Vec<String>,
     /// What helps.
     pub help: Option<String>,
+    /// Whether xHCI allows the line, and the profile alone refuses it: then a note says so.
+    pub unjudged: bool,
 }

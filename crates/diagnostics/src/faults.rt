@@ -2,7 +2,7 @@
 ghost use Rattle.std.specs.Prelude.{◌≡◌, IfOk, string_bytes};
 ghost use Rattle.diagnostics.specs.Layout.{IsToldOf};
 
-use crate::diagnostic::{Diagnostic, Matter};
+use crate::diagnostic::{Diagnostic, Matter, View};
 use crate::fields::{Field, TextKind, first_field, number_fault, word_count};
 use crate::ring_lines::{plan_ring_fault, ring_fault};
 use crate::source::{line_at, quote};
@@ -37,55 +37,42 @@ impl Why {
 /// What is told of the first bad line of a trace's text.
 pub fn explain_bad_line(
     alloc: Global,
-    path: &str,
+    view: &View,
     text: &[u8],
     line: u32,
     fault: LineFault,
 ) -> Result<String, AllocError>
-    ensures { IfOk result (λ told. IsToldOf path.now (Matter.Fault fault) line (string_bytes told)) }
+    ensures { IfOk result (λ told. IsToldOf view.now (Matter.Fault fault) line (string_bytes told)) }
 {
-    told_of_line(alloc, path, text, line, fault, TextKind::Trace)
+    told_of_line(alloc, view, text, line, fault, TextKind::Trace)
 }
 
 /// What is told of the first bad line of a plan's text.
 pub fn explain_plan_line(
     alloc: Global,
-    path: &str,
+    view: &View,
     text: &[u8],
     line: u32,
     fault: LineFault,
 ) -> Result<String, AllocError>
-    ensures { IfOk result (λ told. IsToldOf path.now (Matter.Fault fault) line (string_bytes told)) }
+    ensures { IfOk result (λ told. IsToldOf view.now (Matter.Fault fault) line (string_bytes told)) }
 {
-    told_of_line(alloc, path, text, line, fault, TextKind::Plan)
-}
-
-/// What is told of the first bad line of a schedule's text.
-pub fn explain_schedule_line(
-    alloc: Global,
-    path: &str,
-    text: &[u8],
-    line: u32,
-    fault: LineFault,
-) -> Result<String, AllocError>
-    ensures { IfOk result (λ told. IsToldOf path.now (Matter.Fault fault) line (string_bytes told)) }
-{
-    told_of_line(alloc, path, text, line, fault, TextKind::Schedule)
+    told_of_line(alloc, view, text, line, fault, TextKind::Plan)
 }
 
 /// What is told of the first bad line of a text of this kind.
 fn told_of_line(
     alloc: Global,
-    path: &str,
+    view: &View,
     text: &[u8],
     line: u32,
     fault: LineFault,
     kind: TextKind,
 ) -> Result<String, AllocError>
-    ensures { IfOk result (λ told. IsToldOf path.now (Matter.Fault fault) line (string_bytes told)) }
+    ensures { IfOk result (λ told. IsToldOf view.now (Matter.Fault fault) line (string_bytes told)) }
 {
     let diagnostic = diagnostic_of_text(alloc, text, line, fault, kind)?;
-    diagnostic.told(alloc, path)
+    diagnostic.told(alloc, view)
 }
 
 /// The diagnostic of the first bad line of a trace's text.
@@ -99,6 +86,19 @@ pub fn diagnostic_of_line(
     ensures line { IfOk result (λ diagnostic. diagnostic.refused.line ≡ line) }
 {
     diagnostic_of_text(alloc, text, line, fault, TextKind::Trace)
+}
+
+/// The diagnostic of the first bad line of a schedule's text.
+pub fn diagnostic_of_schedule_line(
+    alloc: Global,
+    text: &[u8],
+    line: u32,
+    fault: LineFault,
+) -> Result<Diagnostic, AllocError>
+    ensures fault { IfOk result (λ diagnostic. diagnostic.matter ≡ Matter.Fault fault) }
+    ensures line { IfOk result (λ diagnostic. diagnostic.refused.line ≡ line) }
+{
+    diagnostic_of_text(alloc, text, line, fault, TextKind::Schedule)
 }
 
 /// The diagnostic of the first bad line of such a text.
@@ -129,6 +129,7 @@ fn diagnostic_of_text(
         earlier,
         notes,
         help: Some(String::from_str(alloc, why.help)?),
+        unjudged: false,
     })
 }
 

@@ -2,6 +2,8 @@
 //! found and what was expected, and what helps. Bad lines and steps of a replay are explained here, from their texts alone.
 #![tactic(auto)]
 
+mod class;
+mod colors;
 mod diagnostic;
 mod faults;
 mod fields;
@@ -10,7 +12,12 @@ mod replays;
 mod ring_lines;
 mod source;
 
-pub use diagnostic::{Diagnostic, Matter, Quote};
-pub use faults::{diagnostic_of_line, explain_bad_line, explain_plan_line, explain_schedule_line};
-pub use replays::explain_step;
+pub use class::Class;
+pub use colors::{Colors, Part};
+pub use diagnostic::{Diagnostic, Explanation, Matter, Quote, View};
+pub use faults::{
+    diagnostic_of_line, diagnostic_of_schedule_line, explain_bad_line, explain_plan_line,
+};
+pub use layout::{error_line, help_line, note_line};
+pub use replays::diagnostic_of_step;
 pub use source::quote;

@@ -1,6 +1,6 @@
 //! What is told of a step of a schedule that does harm, or that no controller makes.
-ghost use Rattle.std.specs.Prelude.{◌≡◌, ◌+◌, ◌-◌, ◌^◌, IfOk, min, string_bytes};
-ghost use Rattle.diagnostics.specs.Layout.{IsToldOf, step_matter};
+ghost use Rattle.std.specs.Prelude.{◌≡◌, ◌+◌, ◌-◌, ◌^◌, IfOk, min};
+ghost use Rattle.diagnostics.specs.Layout.{step_matter};
 
 use crate::diagnostic::{Diagnostic, Matter};
 use crate::source::{line_at, quote};
@@ -8,23 +8,8 @@ use std::alloc::{AllocError, Global};
 use std::str::from_utf8;
 use world_state::Harm;
 
-/// What is told of a step of a schedule's text, from 1: it does harm, of which `found` are notes, or no controller makes it.
-pub fn explain_step(
-    alloc: Global,
-    path: &str,
-    text: &[u8],
-    step: u32,
-    harm: Option<Harm>,
-    found: Vec<String>,
-) -> Result<String, AllocError>
-    ensures { IfOk result (λ told. IsToldOf path.now (step_matter harm) (min (step + 1) (2 ^ 32 - 1)) (string_bytes told)) }
-{
-    let diagnostic = diagnostic_of_step(alloc, text, step, harm, found)?;
-    diagnostic.told(alloc, path)
-}
-
-/// The diagnostic of a step of a schedule's text.
-fn diagnostic_of_step(
+/// The diagnostic of a step of a schedule's text, from 1: it does harm, of which `found` are notes, or no controller makes it.
+pub fn diagnostic_of_step(
     alloc: Global,
     text: &[u8],
     step: u32,
@@ -60,6 +45,7 @@ fn diagnostic_of_step(
         earlier: None,
         notes,
         help: Some(String::from_str(alloc, help)?),
+        unjudged: false,
     })
 }
 
@@ -104,7 +90,8 @@ fn harm_note(harm: Harm) -> &'static str {
             "the TRB that it took, in the last `took` line, isn't that of the `sub` row (xHCI 4.9.2)",
         Harm::WaitsInsideDescriptor =>
             "a TRB of a TD was taken, and the next one doesn't have the controller's Cycle bit (xHCI 4.11)",
-        Harm::LooksOutside => "a Link TRB, or a TR Dequeue Pointer, led there (xHCI 4.9.2.1)",
+        Harm::LooksOutside =>
+            "a Link TRB, or a TR Dequeue Pointer, led there, or the ring was taken away (xHCI 4.9.2.1)",
         Harm::PostsOverUnread =>
             "ERDP let it go on over events that the driver has not read (xHCI 4.9.4)",
         Harm::InputContextChanged =>

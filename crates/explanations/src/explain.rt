@@ -2,38 +2,53 @@
 ghost use Rattle.std.specs.Prelude.{◌≡◌, IfOk, string_bytes};
 ghost use Rattle.diagnostics.specs.Layout.{IsToldOf};
 
-use crate::reading::rows_of;
+use crate::reading::trace_in;
 use command_findings::{
     after_stop, bad_command, bad_doorbell, bad_erdp, bad_register, busy, not_in_profile,
 };
 use commands::Command;
 use controller_findings::impossible_event;
-use diagnostics::{Diagnostic, Matter, quote};
+use diagnostics::{Diagnostic, Explanation, Matter, View, quote};
 use guest_memory::Addr;
-use long_rows::LongRows;
 use move_findings::bad_move;
 use ownership_rules::Refusal;
 use ring_findings::{
     GoingOn, bad_descriptor, bad_free, bad_ring, bad_withdraw, link_fault, never_submitted,
     not_as_submitted, not_declared, not_restored, not_whole, ring_full, write_to_owned,
 };
-use row_history::{Case, Finding, command_at, general_head, known_after, line_of, why_refused};
+use row_history::{
+    Case, Finding, NOT_JUDGED, command_at, general_head, known_after, line_of, why_refused,
+};
 use std::alloc::{AllocError, Global};
-use traces::{Row, TraceRow};
+use traces::{Row, Trace, TraceRow};
 
 /// What is told of a refused row of a text, of which the lines up to that row are read again.
 pub fn explain_refused(
     alloc: Global,
-    path: &str,
+    view: &View,
     text: &[u8],
     row: u32,
     refusal: Refusal,
-) -> Result<String, AllocError>
-    ensures { IfOk result (λ told. IsToldOf path.now (Matter.Rule refusal) row (string_bytes told)) }
+) -> Result<Explanation, AllocError>
+    ensures { IfOk result (λ told. IsToldOf view.now (Matter.Rule refusal) row (string_bytes told.text)) }
 {
-    match rows_of(alloc, lines_to(text, row))? {
-        Some(trace) => explain_row(alloc, path, text, &trace, row, refusal),
-        None => explain_alone(alloc, path, text, row, refusal),
+    let diagnostic = diagnostic_of_refused(alloc, text, row, refusal)?;
+    diagnostic.explained(alloc, view)
+}
+
+/// The diagnostic of a refused row of a text, of which the lines up to that row are read again.
+pub fn diagnostic_of_refused(
+    alloc: Global,
+    text: &[u8],
+    row: u32,
+    refusal: Refusal,
+) -> Result<Diagnostic, AllocError>
+    ensures rule { IfOk result (λ diagnostic. diagnostic.matter ≡ Matter.Rule refusal) }
+    ensures row { IfOk result (λ diagnostic. diagnostic.refused.line ≡ row) }
+{
+    match trace_in(alloc, lines_to(text, row))? {
+        Some(trace) => diagnostic_of(alloc, text, &trace, row, refusal),
+        None => diagnostic_alone(alloc, text, row, refusal),
     }
 }
 
@@ -44,20 +59,6 @@ fn lines_to(text: &[u8], line: u32) -> &[u8] {
         end = end.saturating_add(bytes.len()).saturating_add(1);
     }
     &text[..end.min(text.len())]
-}
-
-/// What is told of a refused row of a text that isn't read as a trace any more.
-fn explain_alone(
-    alloc: Global,
-    path: &str,
-    text: &[u8],
-    row: u32,
-    refusal: Refusal,
-) -> Result<String, AllocError>
-    ensures { IfOk result (λ told. IsToldOf path.now (Matter.Rule refusal) row (string_bytes told)) }
-{
-    let diagnostic = diagnostic_alone(alloc, text, row, refusal)?;
-    diagnostic.told(alloc, path)
 }
 
 /// The diagnostic of a row of which nothing but its rule is told.
@@ -79,29 +80,15 @@ fn diagnostic_alone(
         earlier: None,
         notes,
         help: None,
+        unjudged: refusal == Refusal::NotInProfile,
     })
-}
-
-/// What is told of a refused row of a trace.
-fn explain_row(
-    alloc: Global,
-    path: &str,
-    text: &[u8],
-    trace: &LongRows,
-    row: u32,
-    refusal: Refusal,
-) -> Result<String, AllocError>
-    ensures { IfOk result (λ told. IsToldOf path.now (Matter.Rule refusal) row (string_bytes told)) }
-{
-    let diagnostic = diagnostic_of(alloc, text, trace, row, refusal)?;
-    diagnostic.told(alloc, path)
 }
 
 /// The diagnostic of a row of a trace that breaks a rule.
 pub fn diagnostic_of(
     alloc: Global,
     text: &[u8],
-    trace: &LongRows,
+    trace: &Trace,
     row: u32,
     refusal: Refusal,
 ) -> Result<Diagnostic, AllocError>
@@ -148,6 +135,7 @@ fn diagnosed(
         Some(mark) => Some(quote(alloc, text, line_of(case.first, mark.index), mark.label)?),
         None => None,
     };
+    let unjudged = notes.iter().any(|note| note.as_str() == NOT_JUDGED);
     Ok(Diagnostic {
         matter: Matter::Rule(refusal),
         head,
@@ -155,6 +143,7 @@ fn diagnosed(
         earlier,
         notes,
         help,
+        unjudged,
     })
 }
 

@@ -6,5 +6,5 @@ mod explain;
 mod plans;
 mod reading;
 
-pub use explain::{diagnostic_of, explain_refused};
+pub use explain::{diagnostic_of, diagnostic_of_refused, explain_refused};
 pub use plans::{diagnostic_of_plan, explain_unfollowed};

@@ -4,7 +4,7 @@ ghost use Rattle.diagnostics.specs.Layout.{IsToldOf};
 ghost use Rattle.trace_reader.specs.Plans.{plan_of};
 
 use command_findings::left_out_among;
-use diagnostics::{Diagnostic, Matter, quote};
+use diagnostics::{Diagnostic, Matter, View, quote};
 use ownership_rules::Refusal;
 use ring_findings::no_td;
 use row_history::Finding;
@@ -22,15 +22,15 @@ const RING: u32 = 2;
 /// What is told of the line of a plan that can't be followed, which is read again; nothing where the text is no plan.
 pub fn explain_unfollowed(
     alloc: Global,
-    path: &str,
+    view: &View,
     text: &[u8],
     line: u32,
     matter: Matter,
 ) -> Result<String, AllocError>
-    ensures { IsOk (plan_of text.now) → IfOk result (λ told. IsToldOf path.now matter line (string_bytes told)) }
+    ensures { IsOk (plan_of text.now) → IfOk result (λ told. IsToldOf view.now matter line (string_bytes told)) }
 {
     match read_plan(alloc, text) {
-        Ok(plan) => explain_plan(alloc, path, text, &plan, line, matter),
+        Ok(plan) => explain_plan(alloc, view, text, &plan, line, matter),
         Err(ReadFault::Memory) => Err(AllocError),
         Err(ReadFault::Line { .. }) => Ok(String::new(alloc)),
     }
@@ -39,16 +39,16 @@ pub fn explain_unfollowed(
 /// What is told of a line of a plan.
 fn explain_plan(
     alloc: Global,
-    path: &str,
+    view: &View,
     text: &[u8],
     plan: &Plan,
     line: u32,
     matter: Matter,
 ) -> Result<String, AllocError>
-    ensures { IfOk result (λ told. IsToldOf path.now matter line (string_bytes told)) }
+    ensures { IfOk result (λ told. IsToldOf view.now matter line (string_bytes told)) }
 {
     let diagnostic = diagnostic_of_plan(alloc, text, plan, line, matter)?;
-    diagnostic.told(alloc, path)
+    diagnostic.told(alloc, view)
 }
 
 /// The diagnostic of a line of a plan that can't be followed.
@@ -83,6 +83,7 @@ pub fn diagnostic_of_plan(
         earlier,
         notes,
         help,
+        unjudged: false,
     })
 }
 

@@ -3,7 +3,6 @@ pub use Rattle.knowledge_page.specs.Shown.{IfNoRow, IsLast, IsNoRow, IsRange, ve
 pub use Rattle.knowledge_page.specs.declared.shown.ShowFault.{ShowFault}
 pub use Rattle.knowledge_page.specs.declared.shown.ShowFault.TheVariants.{Memory, NoRow}
 pub use Rattle.leases.specs.RingLeases.RingLents.{ring_lents}
-pub use Rattle.long_rows.specs.Kept.{long_kept}
 pub use Rattle.ownership_checker.specs.RingPasses.Rules.{ring_verdict, row_broken}
 unfoldable pub use Rattle.ownership_checker.specs.RingPasses.Rules.{ring_verdict_from}
 unfoldable pub use Rattle.ownership_rules.specs.Rules.{first_or}
@@ -12,10 +11,14 @@ pub use Rattle.ring_knowledge.specs.Known.{Known, nothing}
 pub use Rattle.safety.specs.RingChanges.Histories.{header_after, header_now, known_after}
 pub use Rattle.std.proofs.Common.{List, None, Option, Some, [], ap, arith, inl, inr, length, refl, subst, suc, sym, zero, ℕ, ◌+◌, ◌-◌, ◌<◌, ◌∷◌, ◌≡◌, ◌≤◌, ◌⊎◌}
 pub use Rattle.std.proofs.lemmas.Grind.{common_steps}
+pub use Rattle.std.proofs.lemmas.List.Elements.{All-take, All-weaker}
 pub use Rattle.std.proofs.lemmas.Option.{same_Some}
 pub use Rattle.std.proofs.lemmas.Result.{err_from_is_err_and}
-pub use Rattle.std.specs.Prelude.{reverse, take}
+pub use Rattle.std.specs.Prelude.{All, reverse, take}
+pub use Rattle.trace_reader.specs.Entries.{text_of}
 pub use Rattle.trace_reader.specs.Reading.{TraceText}
 pub use Rattle.traces.specs.Header.{IsHeader}
+pub use Rattle.traces.specs.TraceRows.{AreRowsOf, IsRowOf, IsTraceRow}
 pub use Rattle.traces.specs.declared.header.Header.{Header}
 pub use Rattle.traces.specs.declared.trace_row.TraceRow.{TraceRow}
+pub use Rattle.traces.specs.declared.version.Version.{Version}

@@ -1,10 +1,11 @@
 //! The rings: what is declared, given and passed on each, and which endpoint it serves.
-ghost use Rattle.std.specs.Prelude.{◌≡◌, IfSome, Some};
+ghost use Rattle.std.specs.Prelude.{◌≡◌, ◌≢◌, ℕ, IfNone, IfSome, Some};
 ghost use Rattle.segments.specs.ShapeValue.{Shape};
 ghost use Rattle.segments.specs.RingView.{RingView};
 ghost use Rattle.ring_knowledge.specs.Known.{Known};
 ghost use Rattle.ring_knowledge.specs.RingRecords.{FollowsRing};
 ghost use Rattle.trace_record.specs.DeviceSlots.Devices.{FollowsDevices};
+ghost use Rattle.trace_record.specs.DeviceSlots.Holders.{HasOneHolder};
 ghost use Rattle.knowledge_page.specs.Rings.{AreFacts};
 
 use crate::leased::{Run, write_runs};
@@ -57,31 +58,13 @@ pub fn ring_facts(known: &RingRecord) -> RingFacts
     }
 }
 
-/// The endpoint that a ring serves.
+/// The endpoint that a ring serves: none where no endpoint has it.
 pub(crate) fn served_by(devices: &DeviceRecord, ring: u8) -> Option<Served>
-    ensures { IfSome result (λ e. (k : Known) → FollowsDevices k devices.now → k.ring_of e.slot e.endpoint ≡ Some ring) }
+    ensures some { IfSome result (λ e. (k : Known) → FollowsDevices k devices.now → k.ring_of e.slot e.endpoint ≡ Some ring) }
+    ensures none { IfNone result ((k : Known) → FollowsDevices k devices.now → HasOneHolder k ring → (s i : ℕ) → k.ring_of s i ≢ Some ring) }
 {
-    if !devices.has_endpoint(ring) {
-        return None;
-    }
-    for slot in 1..=255 {
-        if let Some(endpoint) = endpoint_of(devices, slot, ring) {
-            return Some(Served { slot, endpoint });
-        }
-    }
-    None
-}
-
-/// The endpoint of a slot that a ring serves.
-fn endpoint_of(devices: &DeviceRecord, slot: u8, ring: u8) -> Option<u8>
-    ensures { IfSome result (λ endpoint. (k : Known) → FollowsDevices k devices.now → k.ring_of slot endpoint ≡ Some ring) }
-{
-    for endpoint in 1..32 {
-        if devices.ring_of(slot, endpoint) == Some(ring) {
-            return Some(endpoint);
-        }
-    }
-    None
+    let (slot, endpoint) = devices.holder(ring)?;
+    Some(Served { slot, endpoint })
 }
 
 /// A paragraph for each ring with which something was done.

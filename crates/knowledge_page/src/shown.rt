@@ -1,16 +1,15 @@
 //! Which row a page is about, and what stands before it.
 ghost use Rattle.std.specs.Prelude.{◌≡◌, ◌≤◌, Some, length, take, IfOk, IfErr};
-ghost use Rattle.long_rows.specs.Kept.{long_kept};
+ghost use Rattle.trace_reader.specs.Entries.{text_of};
 ghost use Rattle.knowledge_page.specs.Shown.{IfNoRow, IsBefore, IsNoRow, IsRange, IsShown};
 
 use crate::behind::standing_behind;
 use crate::standing::Standing;
-use long_rows::LongRows;
 use ownership_checker::CheckFault;
 use ownership_rules::Refusal;
 use std::alloc::Global;
 use thiserror::Error;
-use traces::TraceRow;
+use traces::{Trace, TraceRow};
 
 /// Where in a trace a page stands. Rows are named by their lines, which count from 1.
 #[derive(Clone, Copy, Debug, PartialEq, Eq)]
@@ -44,9 +43,9 @@ pub enum ShowFault {
 
 /// What stands before a row; where none is named, before the first that breaks a rule, or behind all where none does. Nothing is said of
 /// the rows behind one that breaks a rule: the rules tell what is known only of a driver that keeps them.
-pub fn shown_before(alloc: Global, trace: &LongRows, row: Option<u32>) -> Result<Shown, ShowFault>
-    ensures shown { IfOk result (IsShown (long_kept trace.now) row) }
-    ensures none { IfErr result (λ e. IfNoRow e (IsNoRow (long_kept trace.now) row)) }
+pub fn shown_before(alloc: Global, trace: &Trace, row: Option<u32>) -> Result<Shown, ShowFault>
+    ensures shown { IfOk result (IsShown (text_of trace.now) row) }
+    ensures none { IfErr result (λ e. IfNoRow e (IsNoRow (text_of trace.now) row)) }
 {
     if let Some(row) = row {
         let standing = standing_before(alloc, trace, row)?;
@@ -72,9 +71,9 @@ pub fn shown_before(alloc: Global, trace: &LongRows, row: Option<u32>) -> Result
 }
 
 /// What stands before the row of this line.
-fn standing_before(alloc: Global, trace: &LongRows, row: u32) -> Result<Standing, ShowFault>
-    ensures before { IfOk result (IsBefore (long_kept trace.now) row) }
-    ensures none { IfErr result (λ e. IfNoRow e (IsNoRow (long_kept trace.now) (Some row))) }
+fn standing_before(alloc: Global, trace: &Trace, row: u32) -> Result<Standing, ShowFault>
+    ensures before { IfOk result (IsBefore (text_of trace.now) row) }
+    ensures none { IfErr result (λ e. IfNoRow e (IsNoRow (text_of trace.now) (Some row))) }
 {
     let rows = trace.rows.as_slice();
     if row < trace.first || (row - trace.first) as usize >= rows.len() {
@@ -100,8 +99,8 @@ fn first_rows(rows: &[TraceRow], count: usize) -> &[TraceRow]
 }
 
 /// Which rows may be asked for.
-fn no_row(alloc: Global, trace: &LongRows) -> ShowFault
-    ensures { IfNoRow result (IsRange (long_kept trace.now)) }
+fn no_row(alloc: Global, trace: &Trace) -> ShowFault
+    ensures { IfNoRow result (IsRange (text_of trace.now)) }
 {
     let rows = trace.rows.as_slice();
     let first = trace.first;

@@ -9,10 +9,9 @@ use crate::standing::Standing;
 use crate::waiting_rings::{Lent, add_ring, taker_of};
 use commands::{Command, EndpointState};
 use event_ring::EventPlace;
-use long_rows::LongRows;
 use row_history::{last_read, last_register, line_of};
 use std::alloc::{AllocError, Global};
-use traces::{Register, TraceRow};
+use traces::{Register, Trace, TraceRow};
 use trb::RingKind;
 
 /// What waits. Rows are named by their lines.
@@ -109,7 +108,7 @@ pub(crate) struct Past<'a> {
 /// running.
 pub fn left_waiting(
     alloc: Global,
-    trace: &LongRows,
+    trace: &Trace,
     shown: &Shown,
 ) -> Result<Vec<Waiting>, AllocError> {
     let mut found = Vec::new(alloc);

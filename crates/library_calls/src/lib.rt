@@ -23,7 +23,11 @@ mod plans;
 #[cfg(test)]
 mod replays;
 #[cfg(test)]
+mod ring_rows;
+#[cfg(test)]
 mod ring_shapes;
+#[cfg(test)]
+mod runs;
 #[cfg(test)]
 mod sinks;
 #[cfg(test)]

@@ -1,4 +1,4 @@
-use controller_model::{StepFault, World, plain_rows};
+use controller_model::{StepFault, World};
 use guest_memory::{Addr, PageMemory, WordMemory};
 use std::alloc::{AllocError, Global};
 use std::test::Fail;
@@ -125,10 +125,9 @@ fn each_refused_write_is_told_and_then_no_step_is_made(rt: HostRuntime) -> Resul
     let trace = read_trace(alloc, TRACE)?;
     let schedule = read_schedule(alloc, SCHEDULE)?;
     let steps = schedule.steps.as_slice();
-    let rows = plain_rows(alloc, trace.rows.as_slice())?;
     for left in 0..WRITES {
         let memory = PageMemory::new(alloc);
-        let mut world = World::new(alloc, &trace.header, &rows, Few { memory, left })?;
+        let mut world = World::new(alloc, &trace, Few { memory, left })?;
         assert_eq!(rt;
             first_fault(&mut world, steps),
             Some(StepFault::Memory),
@@ -141,8 +140,7 @@ fn each_refused_write_is_told_and_then_no_step_is_made(rt: HostRuntime) -> Resul
     let memory = PageMemory::new(alloc);
     let mut world = World::new(
         alloc,
-        &trace.header,
-        &rows,
+        &trace,
         Few {
             memory,
             left: WRITES,

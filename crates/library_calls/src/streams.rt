@@ -1,6 +1,5 @@
 //! Traces that are checked and verified as they are read: the same at every cut of the bytes, and a failed read is told.
 use crate::sources::device_of;
-use certificate::verify_stream;
 use guest_memory::PageMemory;
 use ownership_checker::{StreamCheckFault, check_stream, count_stream};
 use ownership_rules::Refusal;
@@ -8,6 +7,7 @@ use ring_knowledge::Lease;
 use std::io::ErrorKind;
 use std::test::Fail;
 use trace_reader::{LineFault, StreamFault};
+use verifier::verify_stream;
 
 /// Two blocks are given.
 const ACCEPTED: &[u8] =

@@ -1,4 +1,5 @@
-use answers::{BlockWords, Status, keep, run_decode};
+use answers::{Status, keep, run_decode};
+use block_text::BlockWords;
 use ring_knowledge::Lease;
 use std::io::{self, Write};
 use std::test::Fail;

@@ -2,14 +2,14 @@ use std::alloc::AllocError;
 use std::test::Fail;
 use trace_reader::{
     LineFault, PlanLine, ReadFault, Step, TraceRow, print_schedule, print_trace, read_plan,
-    read_rows, read_schedule, read_trace,
+    read_schedule, read_trace,
 };
 
 const TRACE: &str =
     "xtrace 1\nctx 40\nring 00 cmd 0000000000010000:0010\nring 02 xfer 0000000000030000:0004 0000000000040000:0002\nsub 02 00000001 00000002 00000003 00000004\nw 0000000000030000 0000000a\nreg crcr fedcba9876543210\ndb 01 02\nev 00000005 00000006 00000007 00000008\n";
 
 const ROWS_OF_RINGS: &str =
-    "xtrace 2\nctx 20\nring 02 xfer 0000000000030000:0004\nw 0000000000030000 0000000a\nring 03 xfer 0000000000040000:0004\nnop 02 0000000000000001\nfree 03\n";
+    "xtrace 2\nctx 20\nring 02 xfer 0000000000030000:0004\nw 0000000000030000 0000000A\nring 03 xfer 0000000000040000:0004\nnop 02 0000000000000001\nfree 03\n";
 
 const PLAN: &str =
     "xplan 1\nring 02 xfer 0000000000030000:0004\nsub 02 00000001 00000002 00000003 00000004\nret 0000000000000001\n";
@@ -29,13 +29,13 @@ fn reads_and_prints_a_trace(rt: HostRuntime) -> Result<(), Fail> {
 }
 
 #[test]
-fn keeps_rows_of_each_kind(rt: HostRuntime) -> Result<(), Fail> {
-    let kept = read_rows(rt.alloc(), ROWS_OF_RINGS.as_bytes())?;
-    assert_eq!(rt; kept.first, 4);
-    assert_eq!(rt; kept.header.rings.as_slice().len(), 1);
+fn reads_and_prints_rows_of_each_kind(rt: HostRuntime) -> Result<(), Fail> {
+    let trace = read_trace(rt.alloc(), ROWS_OF_RINGS.as_bytes())?;
+    assert_eq!(rt; trace.first, 4);
+    assert_eq!(rt; trace.header.rings.as_slice().len(), 1);
     assert!(rt;
         matches!(
-            kept.rows.as_slice(),
+            trace.rows.as_slice(),
             [
                 TraceRow::Plain(_),
                 TraceRow::Comes(_),
@@ -46,6 +46,11 @@ fn keeps_rows_of_each_kind(rt: HostRuntime) -> Result<(), Fail> {
                 TraceRow::Goes(3),
             ]
         )
+    );
+    let lower = ROWS_OF_RINGS.to_ascii_lowercase(rt.alloc())?;
+    assert_eq!(rt;
+        print_trace(rt.alloc(), &trace)?.as_slice(),
+        lower.as_bytes()
     );
     Ok(())
 }

@@ -4,10 +4,10 @@
 
 ghost use Rattle.std.specs.Prelude.{◌≡◌, IfErr, Some};
 ghost use Rattle.world_state.specs.Harms.{harm_of};
-ghost use Rattle.controller_model.specs.Scenes.{Scene};
+ghost use Rattle.world_state.specs.Scenes.{Scene};
 ghost use Rattle.controller_model.specs.Worlds.{StandsFor};
 
-use controller_model::{Seen, World, plain_rows};
+use controller_model::{Seen, World};
 use guest_memory::{PageMemory, WordMemory};
 use std::io::{self, Read};
 use trace_reader::read_trace;
@@ -55,9 +55,8 @@ fn look_around<M: WordMemory + Drop>(
 
 /// Makes the rows, and looks at the rings behind each.
 fn run(rt: &HostRuntime, trace: &Trace) -> io::Result<()> {
-    let rows = plain_rows(rt.alloc(), trace.rows.as_slice())?;
     let memory = PageMemory::new(rt.alloc());
-    let mut world = World::new(rt.alloc(), &trace.header, &rows, memory)?;
+    let mut world = World::new(rt.alloc(), trace, memory)?;
     for (index, _) in trace.rows.as_slice().iter().enumerate() {
         let line = u64::from(trace.first).saturating_add(index as u64);
         if world.step(&Step::NextRow).is_err() {

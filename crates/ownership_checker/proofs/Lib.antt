@@ -1,6 +1,3 @@
-pub mod Walks
-pub mod Harmless
-pub mod Checking
 pub mod Streams
 pub mod JudgedRows
 pub mod RingPasses

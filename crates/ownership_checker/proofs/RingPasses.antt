@@ -4,7 +4,6 @@ pub mod Histories
 pub mod Steps
 pub mod Logged
 pub mod Walks
-pub mod RowsTaken
 pub mod RowsFit
 pub mod RowsRead
 pub mod FreeLeases

@@ -1,8 +1,8 @@
 -- What a pass over the rows of a trace says of it, by the log of their leases
-use Rattle.ownership_checker.proofs.Words.{arith, ◌≡◌, ◌+◌, ◌∷◌, ◌++◌, ◌∙◌, ℕ, Bool, List, [], Option, Err, ap, sym, length, map, reverse, length-append, length-map, TraceText, Header, Lease, Leased, Lent, ended_where, with_begun, ring_lents, StreamFault, Line, Device, IsOpened, IfBadLine, IsBadLine, IsWholeLog, ring_row, joined_behind, calls_say_what_is_taken, IsSound}
+use Rattle.ownership_checker.proofs.Words.{arith, ◌≡◌, ◌+◌, ◌∷◌, ◌++◌, ◌∙◌, ℕ, Bool, List, [], Option, Err, ap, sym, length, map, reverse, length-append, length-map, TraceText, Header, TraceRow, Lease, Leased, Lent, ended_where, with_begun, ring_lents, StreamFault, Line, Device, IsOpened, IfBadLine, IsBadLine, IsWholeLog, joined_behind, calls_say_the_text, IsSound, IsBehindAll, IsRingLogged, RingPass, header_now, lents}
 use Rattle.trace_reader.specs.declared.row_reader.fault.StreamFault.TheVariants.{Memory}
 use Rattle.ownership_checker.specs.RingPasses.Accepted.{leases_of}
-unfoldable use Rattle.trace_reader.specs.Streaming.WholeTexts.{taken_by_calls}
+unfoldable use Rattle.trace_reader.specs.Streaming.WholeTexts.{read_by_calls}
 
 module _ {B : Type 0} (Holds : Header → List Lent → B → Type 0) (trace : TraceText) (log : B) (w : IsWholeLog Holds trace log) where
   -- the leases that the log keeps
@@ -12,6 +12,18 @@ module _ {B : Type 0} (Holds : Header → List Lent → B → Type 0) (trace : T
   -- as many as were counted
   pub sound_count : (count : ℕ) → count ≡ length (ring_lents trace.header trace.first (reverse trace.rows)) → (leases : List Lease) × IsSound trace leases × (count ≡ length leases)
   sound_count count is = grind (arith, sound_so, length-map)
+
+-- behind rows that are kept in memory
+module _ {B M : Type 0} (words : M → ℕ → ℕ) (holds : List Lease → Header → List Lent → B → Type 0) (trace : TraceText) (log : B) (pass : RingPass B M) where
+  pub kept_whole : IsBehindAll words holds trace.header trace.first trace.rows log pass → (list : List Lease) → holds list trace.header (lents trace.header trace.first []) log → (kept : B) →
+      ((list : List Lease) (h : Header) (first : ℕ) (past : List TraceRow) → IsRingLogged (holds list) h first past pass → holds list (header_now h past) (ring_lents h first past) kept) →
+      IsWholeLog (holds list) trace kept
+  kept_whole all list begins kept logs = record {
+    verdict = all.verdict;
+    walk = all.walk;
+    harmless = all.harmless;
+    kept = logs list trace.header trace.first (reverse trace.rows) (all.logged list begins);
+  }
 
 -- ---- the count of leases
 
@@ -25,7 +37,7 @@ as_many_ended over row ts = length-map ts (ended_where over row)
 -- ---- a bad line before the first row
 
 pub opened_bad : (keeps : Bool) (held held' : Option (List ℕ)) (e : StreamFault) → IsOpened keeps held held' (Err e) → IfBadLine e (IsBadLine keeps held held')
-unfolding taken_by_calls
-opened_bad keeps held held' (Line line fault) (came, used, (later, is, told)) = (came, used, (later, is, sym (calls_say_what_is_taken ring_row keeps (came ++ later)) ∙ ap (joined_behind ring_row) told))
+unfolding read_by_calls
+opened_bad keeps held held' (Line line fault) (came, used, (later, is, told)) = (came, used, (later, is, sym (calls_say_the_text keeps (came ++ later)) ∙ ap joined_behind told))
 opened_bad keeps held held' Device told = tt
 opened_bad keeps held held' Memory told = tt

@@ -2,8 +2,6 @@
 pub use Rattle.commands.specs.Command.{command_by_kind, command_of, named_context}
 pub use Rattle.commands.specs.declared.command.Command.{Command}
 pub use Rattle.contexts.specs.Contexts.{input_context_bytes}
-pub use Rattle.controller_model.specs.RingRows.{header_after, without_ring}
-unfoldable pub use Rattle.controller_model.specs.RingRows.{with_ring}
 pub use Rattle.driver_rows.proofs.RingRows.GivenAt.{command_drives, gives_at, no_ring_moves, nothing_moves}
 pub use Rattle.driver_rows.proofs.RingRows.Lists.{read_there}
 pub use Rattle.driver_rows.specs.RingRows.GivenCommands.{GivesCommandAt}
@@ -13,7 +11,6 @@ unfoldable pub use Rattle.driver_rows.specs.RingRows.Withdrawing.{withdraws_badl
 pub use Rattle.event_ring.specs.EventPlaceValue.{EventState}
 pub use Rattle.event_rows.proofs.TransferEvents.Reports.{left_out as left_out_transfer}
 pub use Rattle.leases.proofs.LeaseBooks.FirstBook.{first_list}
-pub use Rattle.leases.proofs.LeaseBooks.Growing.{leases_are}
 pub use Rattle.leases.proofs.LeaseBooks.RangePlaces.{some_end}
 pub use Rattle.leases.proofs.LeaseRows.EntriesFit.{nothing_fits, still_fit}
 pub use Rattle.leases.proofs.LeaseRows.OtherRows.{on_both, on_more}
@@ -30,46 +27,36 @@ pub use Rattle.leases.specs.LeaseBooks.Lents.{Lent, ended_where, lease_of, passe
 unfoldable pub use Rattle.leases.specs.LeaseBooks.Lents.{grown, lents, with_begun}
 pub use Rattle.leases.specs.LeaseBooks.OtherShapes.{AreShapedAlike}
 pub use Rattle.leases.specs.LeaseBooks.Ranges.{FindsRanges}
-pub use Rattle.leases.specs.LeaseRows.CleanRows.{FollowsBook, HoldsAll, IsCleanRow, IsNextRow}
+pub use Rattle.leases.specs.LeaseRows.CleanRows.{HoldsAll, IsNextRow}
 pub use Rattle.leases.specs.LeaseRows.LeftBehind.{EntriesFit}
 pub use Rattle.leases.specs.RingLeases.Moving.{MovesRing}
 pub use Rattle.leases.specs.RingLeases.RingLents.{is_of_ring}
 unfoldable pub use Rattle.leases.specs.RingLeases.RingLents.{ring_lents}
-pub use Rattle.leases.specs.declared.book.lease_book.LeaseBook.{LeaseBook}
 pub use Rattle.leases.specs.declared.book.ranges.RangeIndexes.{RangeIndexes}
-pub use Rattle.line_text.specs.Lines.{TextLine, lines_of}
-pub use Rattle.ownership_checker.specs.JudgedRows.Accepted.{IsAccepted}
-pub use Rattle.ownership_checker.specs.JudgedRows.Tracking.{IsChecked, IsLeastFrom, IsPass, IsStepFrom, IsTracked}
+pub use Rattle.ownership_checker.specs.JudgedRows.Tracking.{IsLeastFrom, IsStepFrom, IsTracked}
 pub use Rattle.ownership_checker.specs.RingPasses.Accepted.{IsSound}
 pub use Rattle.ownership_checker.specs.RingPasses.Clean.{AreClean, IsLeastOfRow}
 pub use Rattle.ownership_checker.specs.RingPasses.KeptRows.{IsBehindAll}
-pub use Rattle.ownership_checker.specs.RingPasses.Passing.{DoNoHarm, IsRingLogged, IsRingPassed, NothingFree}
-pub use Rattle.ownership_checker.specs.RingPasses.Reading.{Begins, IfRefusedRow, IsBadLine, IsWholeLog, OfTrace, with_rows}
-pub use Rattle.ownership_checker.specs.RingPasses.RingRows.{ring_row}
+pub use Rattle.ownership_checker.specs.RingPasses.Passing.{IsRingLogged, IsRingPassed, NothingFree}
+pub use Rattle.ownership_checker.specs.RingPasses.Reading.{Begins, IfRefusedRow, IsWholeLog, OfTrace, with_rows}
 pub use Rattle.ownership_checker.specs.RingPasses.Rules.{broken_alone, broken_restored, driver_broken, ring_verdict, row_broken}
 unfoldable pub use Rattle.ownership_checker.specs.RingPasses.Rules.{ring_verdict_from}
-pub use Rattle.ownership_checker.specs.Tracking.{IsProgress}
-pub use Rattle.ownership_checker.specs.Walks.{WalksRead}
-pub use Rattle.ownership_checker.specs.declared.certificate.Certificate.{Certificate}
-pub use Rattle.ownership_checker.specs.declared.fault.CheckFault.{CheckFault}
 pub use Rattle.ownership_checker.specs.declared.lease_count.LeaseCount.{LeaseCount}
 pub use Rattle.ownership_checker.specs.declared.pass.reading.Passed.{Passed}
 pub use Rattle.ownership_checker.specs.declared.pass.ring_pass.RingPass.{RingPass}
 pub use Rattle.ownership_rules.proofs.Among.{IsIn}
 pub use Rattle.ownership_rules.specs.Areas.{is_bad_area}
-pub use Rattle.ownership_rules.specs.Clean.{IsClean, IsLenient}
 unfoldable pub use Rattle.ownership_rules.specs.Commands.{has_bad_context, is_bad_command}
 pub use Rattle.ownership_rules.specs.Doorbells.{is_bad_doorbell}
 unfoldable pub use Rattle.ownership_rules.specs.Doorbells.{doorbell_tests}
 pub use Rattle.ownership_rules.specs.Events.{is_impossible_completion, is_impossible_transfer, is_in_profile, is_past_room}
 unfoldable pub use Rattle.ownership_rules.specs.Events.{event_tests, is_impossible, is_impossible_by_kind}
-pub use Rattle.ownership_rules.specs.Leases.{leases as leases_of}
 unfoldable pub use Rattle.ownership_rules.specs.Leases.{without_end}
 unfoldable pub use Rattle.ownership_rules.specs.Older.{older, stricter}
 pub use Rattle.ownership_rules.specs.OpenLeases.{Leased, open_leases}
 pub use Rattle.ownership_rules.specs.Refusal.{broken_of, first_broken, first_of}
 pub use Rattle.ownership_rules.specs.Rules.{lenient}
-unfoldable pub use Rattle.ownership_rules.specs.Rules.{broken, first_or, lenient_tests, tests, verdict_from}
+unfoldable pub use Rattle.ownership_rules.specs.Rules.{broken, first_or, lenient_tests, tests}
 pub use Rattle.ownership_rules.specs.declared.refusal.Refusal.{Refusal}
 pub use Rattle.ownership_rules.specs.declared.refusal.Refusal.TheVariants.{AfterStop, BadDoorbell, BadFree, BadRing, BadWithdraw, ImpossibleEvent, NotInProfile, NotRestored, WriteToOwned}
 pub use Rattle.ring_knowledge.specs.Completions.{completed}
@@ -83,19 +70,18 @@ pub use Rattle.ring_knowledge.specs.Transfers.{transfer_read}
 pub use Rattle.ring_knowledge.specs.declared.lease.Lease.{Lease}
 pub use Rattle.ring_knowledge.specs.declared.ring_record.RingRecord.{RingRecord}
 pub use Rattle.safety.proofs.AreaFacts.{area_parts}
-pub use Rattle.safety.proofs.DriverHistories.{driver_keeps, kept_driver, kept_history}
+pub use Rattle.safety.proofs.DriverHistories.{kept_driver}
 pub use Rattle.safety.proofs.DriverRings.{endpoints_of, rings_of}
 pub use Rattle.safety.proofs.DriverRows.{nothing_keeps}
-pub use Rattle.safety.proofs.Headline.{headline}
-pub use Rattle.safety.proofs.Histories.{keeps_rings}
 pub use Rattle.safety.proofs.KeptRings.{still_of}
 pub use Rattle.safety.proofs.Lenient.{lenient_row}
-pub use Rattle.safety.proofs.NothingFree.{free_same, nothing_free}
+pub use Rattle.safety.proofs.NothingFree.{free_same}
 pub use Rattle.safety.proofs.NothingKept.{nothing_kept}
 pub use Rattle.safety.proofs.RingChanges.GoneRings.{gone_ring_kept}
+pub use Rattle.safety.proofs.RingChanges.Headline.{headline}
+pub use Rattle.safety.proofs.RingChanges.LiveHeadline.{now_keeps}
 pub use Rattle.safety.proofs.RingChanges.Restored.{row_comes, row_keeps, row_keeps as restored_keeps, stopped_still}
 pub use Rattle.safety.proofs.RingChanges.RingRuns.{comes_keeps}
-pub use Rattle.safety.proofs.RingChanges.RingsHeadline.{now_keeps, rings_headline}
 pub use Rattle.safety.proofs.RingChanges.Withdrawn.{stopped_with, withdraw_keeps}
 pub use Rattle.safety.proofs.RingIds.{none_has_256}
 pub use Rattle.safety.proofs.RingsOfHeader.{HasRing, has_ring, shape_allowed}
@@ -105,9 +91,8 @@ pub use Rattle.safety.proofs.TestsPassed.{AllFail, clean_tests, tests_fail}
 pub use Rattle.safety.proofs.UnfinishedBehind.{listed_unfinished}
 pub use Rattle.safety.proofs.Words.{no_flips}
 pub use Rattle.safety.specs.EndpointsKeep.{is_transfer_ring}
-pub use Rattle.safety.specs.Headline.{IsHarmless}
+pub use Rattle.safety.specs.Harmless.{DoNoHarm}
 pub use Rattle.safety.specs.Keeps.{DriverKeeps, IsDriverRing, IsTransferRing}
-pub use Rattle.safety.specs.KeptHistories.{MayReadAll}
 pub use Rattle.safety.specs.RingChanges.Changes.{IsComing, is_bad_ring}
 unfoldable pub use Rattle.safety.specs.RingChanges.Changes.{forgotten, is_bad_free}
 pub use Rattle.safety.specs.RingChanges.Histories.{AreKept, FitsFields, IsKept, header_now, known_after, known_now}
@@ -133,17 +118,15 @@ pub use Rattle.std.specs.Bool.{OnTrue}
 pub use Rattle.std.specs.List.{list_any, position}
 pub use Rattle.std.specs.Option.{SomeIff}
 pub use Rattle.std.specs.Prelude.{IfErr, IfOk, OnOk, drop, if◌then◌else◌, is_some, option_map, reverse, take, ◌%◌, ◌&&◌}
-pub use Rattle.trace_reader.proofs.Streaming.CallsJoined.{calls_say_what_is_taken}
+pub use Rattle.trace_reader.proofs.Streaming.CallsJoined.{calls_say_the_text}
 pub use Rattle.trace_reader.proofs.Streaming.RowsFit.{answer_fits}
 pub use Rattle.trace_reader.proofs.Streaming.Streams.{end_read, line_read_bad, opened_read, row_numbered, row_read}
-pub use Rattle.trace_reader.specs.DriverRows.{taken}
-unfoldable pub use Rattle.trace_reader.specs.DriverRows.{take_lines, text_taken}
-pub use Rattle.trace_reader.specs.Reading.{State, TraceText, go_on, next_number, read_line, start, whole}
-unfoldable pub use Rattle.trace_reader.specs.Reading.{read_lines, trace_of}
+pub use Rattle.trace_reader.specs.Reading.{TraceText}
+unfoldable pub use Rattle.trace_reader.specs.Reading.{trace_of}
 pub use Rattle.trace_reader.specs.Streaming.Ahead.{ahead_of}
 pub use Rattle.trace_reader.specs.Streaming.Answers.{IsCall, has_ended}
 pub use Rattle.trace_reader.specs.Streaming.ReaderState.{IsOpened, IsSameTrace, progress_of}
-pub use Rattle.trace_reader.specs.Streaming.Streams.{HasRead, IfBadLine, IsBadTaken, OfStream}
+pub use Rattle.trace_reader.specs.Streaming.Streams.{HasRead, IfBadLine, IsBadLine, OfStream}
 pub use Rattle.trace_reader.specs.Streaming.WholeTexts.{joined_behind}
 pub use Rattle.trace_reader.specs.declared.fault.LineFault.{LineFault}
 pub use Rattle.trace_reader.specs.declared.row_reader.fault.StreamFault.{StreamFault}
@@ -166,8 +149,7 @@ pub use Rattle.trace_record.specs.declared.row_place.RowPlace.{RowPlace}
 pub use Rattle.trace_record.specs.declared.trace_record.TraceRecord.{TraceRecord}
 pub use Rattle.traces.specs.Header.{IsHeader, command_ring, event_ring, id_or_none, is_driver_kind, is_transfer_kind, ring_with, shape_of}
 unfoldable pub use Rattle.traces.specs.Header.{command_id, event_shape, event_size}
-pub use Rattle.traces.specs.Limits.{most_lines, most_streamed_lines}
-pub use Rattle.traces.specs.Rows.{AreRows, FitsLine, IsRow}
+pub use Rattle.traces.specs.Limits.{most_streamed_lines}
 pub use Rattle.traces.specs.TraceRows.{IsTraceRow}
 pub use Rattle.traces.specs.declared.header.Header.{Header}
 pub use Rattle.traces.specs.declared.register.Register.TheVariants.{Crcr}
@@ -184,3 +166,5 @@ pub use Rattle.trb.specs.declared.kind.BlockKind.{BlockKind}
 pub use Rattle.trb.specs.declared.kind.BlockKind.TheVariants.{CommandCompletion, TransferEvent}
 pub use Rattle.trb.specs.declared.ring_kind.RingKind.{RingKind}
 pub use Rattle.trb.specs.declared.ring_kind.RingKind.TheVariants.{Evt, Xfer}
+pub use Rattle.world_state.specs.RingRows.{header_after, without_ring}
+unfoldable pub use Rattle.world_state.specs.RingRows.{with_ring}

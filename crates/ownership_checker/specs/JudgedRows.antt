@@ -1,2 +1,1 @@
 pub mod Tracking
-pub mod Accepted

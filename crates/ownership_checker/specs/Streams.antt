@@ -5,9 +5,9 @@ use Rattle.ownership_rules.specs.declared.refusal.Refusal.{Refusal}
 use Rattle.trace_reader.specs.Streaming.Answers.{told_failures}
 use Rattle.ownership_checker.specs.declared.fault.StreamCheckFault.{StreamCheckFault}
 use Rattle.ownership_checker.specs.declared.fault.StreamCheckFault.TheVariants.{Refused, Unread}
-pub use Rattle.trace_reader.specs.Streaming.Streams.{IfBadLine, OfStream}
+pub use Rattle.trace_reader.specs.Streaming.Streams.{IfBadLine, IsBadLine, OfStream}
 pub use Rattle.ownership_checker.specs.RingPasses.Accepted.{IsAccepted as IsAcceptedText, IsSound}
-pub use Rattle.ownership_checker.specs.RingPasses.Reading.{IsBadLine, OfTrace}
+pub use Rattle.ownership_checker.specs.RingPasses.Reading.{OfTrace}
 pub use Rattle.ownership_checker.specs.RingPasses.Rules.{ring_verdict}
 
 -- a refused row, by its number

@@ -3,7 +3,6 @@ use Rattle.std.specs.Prelude.{ℕ}
 use Rattle.ownership_rules.specs.declared.refusal.Refusal.{Refusal}
 use Rattle.ownership_checker.specs.declared.fault.CheckFault.{CheckFault}
 use Rattle.ownership_checker.specs.declared.fault.CheckFault.TheVariants.{Refused, Memory}
-pub use Rattle.ownership_checker.specs.JudgedRows.Accepted.{IsAccepted, IsHarmless}
 
 -- a refused row of a trace, by its number
 abbrev pub IfRefusedAt : CheckFault → (ℕ → Refusal → Type 0) → Type 0

@@ -3,7 +3,6 @@
 
 mod certificate;
 mod fault;
-mod kept_check;
 mod lease_count;
 mod pass;
 mod rows;
@@ -12,7 +11,6 @@ mod trace_check;
 
 pub use certificate::Certificate;
 pub use fault::{CheckFault, StreamCheckFault};
-pub use kept_check::check_kept;
 pub use lease_count::LeaseCount;
 pub use pass::{Behind, Passed, RingPass, pass_kept, pass_rows};
 pub use rows::check_row;

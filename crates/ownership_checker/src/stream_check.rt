@@ -1,8 +1,9 @@
 //! The check of a trace whose rows are read one by one.
 ghost use Rattle.std.specs.Prelude.{◌≡◌, false, ℕ, List, Some, length, IfErr, IfOk};
+ghost use Rattle.trace_reader.specs.Streaming.Streams.{IsBadLine};
 ghost use Rattle.ring_knowledge.specs.declared.lease.Lease.{Lease};
 ghost use Rattle.ownership_checker.specs.RingPasses.Accepted.{IsSound};
-ghost use Rattle.ownership_checker.specs.RingPasses.Reading.{IsBadLine, OfTrace};
+ghost use Rattle.ownership_checker.specs.RingPasses.Reading.{OfTrace};
 ghost use Rattle.ownership_checker.specs.RingPasses.Rules.{ring_verdict};
 ghost use Rattle.ownership_checker.specs.Streams.{IfBadLineIn, IfRefusedIn, told_in_check};
 

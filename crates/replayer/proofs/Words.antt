@@ -11,12 +11,8 @@ unfoldable pub use Rattle.contexts.specs.Contexts.{added_endpoints}
 pub use Rattle.contexts.specs.View.{View}
 pub use Rattle.contexts.specs.declared.size.ContextSize.{ContextSize}
 pub use Rattle.controller_model.proofs.RingRowLemmas.{none_dropped, nothing_listed, one_dropped, without_is}
-unfoldable pub use Rattle.controller_model.specs.RingRows.{with_ring}
-pub use Rattle.controller_model.specs.Scenes.{Scene, scene_before, scene_reached, step_made}
-unfoldable pub use Rattle.controller_model.specs.Scenes.{scene_ending_from, scene_replayed, scene_seen_by, scene_seen_from}
+unfoldable pub use Rattle.controller_model.specs.Showing.{scene_replayed, scene_seen_by, scene_seen_from}
 unfoldable pub use Rattle.controller_model.specs.Showing.{shows}
-pub use Rattle.controller_model.specs.Steps.{Harmful, Harmful as HarmfulAt, NoHarm}
-unfoldable pub use Rattle.controller_model.specs.Steps.{judged}
 pub use Rattle.controller_model.specs.Worlds.{StandsFor}
 pub use Rattle.controller_model.specs.declared.fault.StepFault.TheVariants.{NotPossible}
 pub use Rattle.controller_model.specs.declared.seen.Seen.{Seen}
@@ -29,7 +25,7 @@ pub use Rattle.event_rows.specs.TransferEvents.NamedSpots.{IsNamedAt}
 pub use Rattle.ownership_checker.proofs.RingPasses.Histories.{kept_now}
 pub use Rattle.ownership_checker.proofs.RingPasses.Verdicts.{row_refused}
 pub use Rattle.ownership_checker.specs.RingPasses.Clean.{AreClean, IsLeastOfRow}
-pub use Rattle.ownership_checker.specs.RingPasses.Passing.{DoNoHarm, IsRingPassed}
+pub use Rattle.ownership_checker.specs.RingPasses.Passing.{IsRingPassed}
 pub use Rattle.ownership_checker.specs.RingPasses.Rules.{ring_verdict}
 pub use Rattle.ownership_checker.specs.declared.pass.ring_pass.RingPass.{RingPass}
 unfoldable pub use Rattle.ownership_rules.specs.Events.{is_impossible_by_kind, is_impossible_completion}
@@ -54,32 +50,33 @@ pub use Rattle.ring_knowledge.specs.Known.{Known}
 unfoldable pub use Rattle.ring_knowledge.specs.Known.{nothing}
 unfoldable pub use Rattle.ring_knowledge.specs.Learned.{learned}
 pub use Rattle.ring_knowledge.specs.RingRecords.{FollowsRing}
-unfoldable pub use Rattle.ring_knowledge.specs.Rings.{command_at, event_at, next_command, spot_on}
+unfoldable pub use Rattle.ring_knowledge.specs.Rings.{command_at, event_at, next_command}
 pub use Rattle.ring_knowledge.specs.declared.ring_record.RingRecord.{RingRecord}
 pub use Rattle.safety.proofs.CleanRows.{event_facts}
 pub use Rattle.safety.proofs.DriverRings.{endpoints_of, rings_of, transfer_ring}
 pub use Rattle.safety.proofs.Endpoints.{change_keeps}
-pub use Rattle.safety.proofs.Headers.{header_parts, transfer_driver}
+pub use Rattle.safety.proofs.Headers.{header_parts}
 pub use Rattle.safety.proofs.KeptRings.{CompletionFacts, by_completion, command_holds, next_unfinished}
 pub use Rattle.safety.proofs.LazyRuns.Induction.{kept_on, later_kept, one_more}
+pub use Rattle.safety.proofs.LazyRuns.LazySteps.{lazy_steps_are}
 pub use Rattle.safety.proofs.LazyRuns.RingRows.{restored_learns}
 pub use Rattle.safety.proofs.LazyRuns.RowsLearn.{row_learns}
 pub use Rattle.safety.proofs.LazyRuns.StepsCounted.{few_steps}
 pub use Rattle.safety.proofs.LazyRuns.WholeRuns.{all_are_read}
 pub use Rattle.safety.proofs.Placings.{ReadyAt, all_ready, dropped, map_map, ready_next, ring_at}
 pub use Rattle.safety.proofs.RingChanges.GoneRings.{gone_ring_header}
-pub use Rattle.safety.proofs.RingChanges.Restored.{row_keeps}
+pub use Rattle.safety.proofs.RingChanges.Headline.{headline}
+pub use Rattle.safety.proofs.RingChanges.LiveHeadline.{now_keeps}
 pub use Rattle.safety.proofs.RingChanges.RingRuns.{comes_header}
-pub use Rattle.safety.proofs.RingChanges.RingsHeadline.{Keeps, now_keeps, rings_headline}
 pub use Rattle.safety.proofs.RingIds.{having_transfer, none_has_256}
-pub use Rattle.safety.proofs.RingsOfHeader.{found_allowed, found_passes}
 pub use Rattle.safety.proofs.SafeContext.{command_is_ring, next_is}
 pub use Rattle.safety.proofs.StatesPlaced.{is_off_of, on_is}
 pub use Rattle.safety.proofs.TestsPassed.{any_of_map, each_fails}
 pub use Rattle.safety.proofs.Words.{Change, Data, Link, Look, NextRow, RingSpot, Shape, Spot, Step, Xfer, cases_Bool, drop_all, false≢true, flat_map, fun_ext, is_command_completion, is_crossing, is_ring, is_success, is_transfer_event, list_any, list_any-append, number, put, rank, reverse-append, shape_or}
 unfoldable pub use Rattle.safety.proofs.Words.{changed_by}
 pub use Rattle.safety.specs.EndpointsKeep.{EndpointsKeep}
-pub use Rattle.safety.specs.Keeps.{DriverKeeps, IsDriverRing, IsTransferRing}
+pub use Rattle.safety.specs.Harmless.{DoNoHarm}
+pub use Rattle.safety.specs.Keeps.{DriverKeeps, IsTransferRing}
 pub use Rattle.safety.specs.LazyRuns.LateEvents.{IsTimely}
 pub use Rattle.safety.specs.LazyRuns.Law.{ContainsAll}
 unfoldable pub use Rattle.safety.specs.LazyRuns.Lazy.{behind_taken, brought, command_taken, further, goals, lazy_run, lazy_steps, looks_to, open_goals, pointers_after, pointers_at, pointers_for, post_of, report_goals, spots_before, steps_before, steps_for, stop_goal, stopped_goals, taken_up_to}
@@ -91,15 +88,15 @@ unfoldable pub use Rattle.safety.specs.RingChanges.Withdrawals.{restored_on, rin
 pub use Rattle.safety.specs.RingsKeep.{RingsKeep}
 pub use Rattle.segments.proofs.Words.{nat_tests, next, position_or_len, spots_from, take_more}
 pub use Rattle.segments.specs.RingView.{floor_number}
-pub use Rattle.std.proofs.Common.{Bool, Err, List, None, Ok, Option, Result, Some, [], add-one, ap, append-nil, append_assoc, arith, drop, drop-cons, eq-eqb, false, filter, get_or, get_or-set_other, get_or-set_same, get_or-take, if◌then◌else◌, inl, inr, is_some, length, length-take-le, map, max, nat_lt, not, option_map, position, refl, replicate, rules, slice_get, slice_index, subst, suc, sym, take_all, true, zero, ℕ, ◌&&◌, ◌*◌, ◌++◌, ◌+◌, ◌-◌, ◌<◌, ◌==◌, ◌||◌, ◌∙◌, ◌∷◌, ◌≡◌, ◌≤◌}
+pub use Rattle.std.proofs.Common.{Bool, Err, List, None, Ok, Option, Result, Some, [], add-one, ap, append-nil, append_assoc, arith, drop, drop-cons, eq-eqb, false, filter, get_or, get_or-set_other, get_or-set_same, get_or-take, if◌then◌else◌, inl, inr, is_some, length, length-take-le, map, max, nat_lt, not, position, refl, replicate, rules, slice_get, slice_index, subst, suc, sym, take_all, true, zero, ℕ, ◌&&◌, ◌*◌, ◌++◌, ◌+◌, ◌-◌, ◌<◌, ◌==◌, ◌||◌, ◌∙◌, ◌∷◌, ◌≡◌, ◌≤◌}
 pub use Rattle.std.proofs.Math.Bool.{or-false}
 pub use Rattle.std.proofs.Math.ListN.{get_or-append, set}
 pub use Rattle.std.proofs.Math.Seq.{set-append_seam}
-pub use Rattle.std.proofs.lemmas.Bool.{and_parts, cond-false, cond-true, cond_both, eqb-true, ltb-true, ne_eqb, or_parts}
+pub use Rattle.std.proofs.lemmas.Bool.{cond-false, cond-true, cond_both, eqb-true, ne_eqb, or_parts}
 pub use Rattle.std.proofs.lemmas.Grind.{common_steps}
-pub use Rattle.std.proofs.lemmas.List.{get_or-replicate, get_or-reverse, length-replicate, length-reverse, reverse-reverse}
+pub use Rattle.std.proofs.lemmas.List.{get_or-replicate, length-replicate, reverse-reverse}
 pub use Rattle.std.proofs.lemmas.List.Edits.{length-remove}
-pub use Rattle.std.proofs.lemmas.List.Elements.{All-append, All-cons, All-head, All-map, All-nil, All-same, All-tail, All-weaker}
+pub use Rattle.std.proofs.lemmas.List.Elements.{All-append, All-cons, All-head, All-nil, All-same, All-tail, All-weaker}
 pub use Rattle.std.proofs.lemmas.List.Folds.{find_at}
 pub use Rattle.std.proofs.lemmas.Option.{none-some, same_Some, slice_get-get_or, slice_get_within}
 pub use Rattle.std.specs.List.{cons_option, filter_map, range_with_len, remove}
@@ -115,19 +112,25 @@ pub use Rattle.trace_record.specs.declared.trace_record.TraceRecord.{TraceRecord
 pub use Rattle.traces.specs.Header.{IsHeader, is_transfer_kind, may_stand_together, no_shape, ring_with}
 unfoldable pub use Rattle.traces.specs.Header.{command_id, command_ring, ring_having, shape_of}
 pub use Rattle.traces.specs.Limits.{most_lines, most_streamed_lines}
-pub use Rattle.traces.specs.Rows.{AreSteps, IsRow, IsStep}
-pub use Rattle.traces.specs.TraceRows.{IsTraceRow}
+pub use Rattle.traces.specs.Rows.{AreSteps, IsStep}
+pub use Rattle.traces.specs.TraceRows.{AreRowsOf, IsRowOf, IsTraceRow}
 pub use Rattle.traces.specs.declared.header.Header.{Header}
 pub use Rattle.traces.specs.declared.ring.Ring.{Ring}
 pub use Rattle.traces.specs.declared.row.Row.{Row}
 pub use Rattle.traces.specs.declared.row.Row.TheVariants.{Bell, Read}
 pub use Rattle.traces.specs.declared.step.Step.TheVariants.{Finish, Other, Report}
 pub use Rattle.traces.specs.declared.trace_row.TraceRow.{TraceRow}
+pub use Rattle.traces.specs.declared.version.Version.{Version}
 pub use Rattle.traces.specs.declared.trace_row.TraceRow.TheVariants.{Comes, Goes, Plain, Withdraws}
-pub use Rattle.trb.specs.Block.{IsBlock, code, kind, slot}
+pub use Rattle.trb.specs.Block.{code, kind, slot}
 pub use Rattle.trb.specs.CompletionCode.{is_stopping}
 pub use Rattle.trb.specs.declared.block.Block.{Block}
 pub use Rattle.trb.specs.declared.kind.BlockKind.{BlockKind}
 pub use Rattle.trb.specs.declared.kind.BlockKind.TheVariants.{CommandCompletion, TransferEvent}
 unfoldable pub use Rattle.world_state.specs.Harms.{harm_of}
+unfoldable pub use Rattle.world_state.specs.RingRows.{with_ring}
+pub use Rattle.world_state.specs.Scenes.{Scene, scene_before, scene_reached, step_made}
+unfoldable pub use Rattle.world_state.specs.Scenes.{scene_ending_from}
+pub use Rattle.world_state.specs.Steps.{Harmful, Harmful as HarmfulAt, NoHarm}
+unfoldable pub use Rattle.world_state.specs.Steps.{judged}
 pub use Rattle.world_state.specs.declared.harm.Harm.{Harm}

@@ -1,2 +1,6 @@
 pub mod Harmful
 pub mod Verdicts
+pub mod Floors
+pub mod Making
+pub mod Attempts
+pub mod Eager

@@ -1,14 +1,13 @@
-ghost use Rattle.std.specs.Prelude.{◌≡◌, ◌+◌, ◌≤◌, ◌++◌, ◌∷◌, [], ℕ, All, length, OnOk};
+ghost use Rattle.std.specs.Prelude.{◌≡◌, ◌+◌, ◌≤◌, ◌++◌, ◌∷◌, [], ℕ, length, OnOk};
 ghost use Rattle.traces.specs.Limits.{most_schedule_lines};
-ghost use Rattle.traces.specs.TraceRows.{IsTraceRow};
-ghost use Rattle.controller_model.specs.Scenes.{scene_replayed};
+ghost use Rattle.controller_model.specs.Showing.{scene_replayed};
 ghost use Rattle.replayer.specs.Replays.{IsReplay};
 
 use crate::fault::ReplayFault;
 use controller_model::{Seen, StepFault, World};
 use guest_memory::{PageMemory, WordMemory};
 use std::alloc::{AllocError, Global};
-use traces::{Header, Schedule, Step, TraceRow};
+use traces::{Schedule, Step, Trace};
 
 /// Notes what one more step showed.
 fn note(seen: &mut Vec<Seen>, shown: Seen) -> Result<(), AllocError>
@@ -21,17 +20,15 @@ fn note(seen: &mut Vec<Seen>, shown: Seen) -> Result<(), AllocError>
 /// Replays steps beside the rows of a trace, in memory in which no word was written.
 fn replay_in<M: WordMemory + Drop>(
     alloc: Global,
-    header: &Header,
-    rows: &[TraceRow],
+    trace: &Trace,
     steps: &[Step],
     memory: M,
 ) -> Result<Vec<Seen>, ReplayFault>
     requires zero { (a : ℕ) → M.words memory a ≡ 0 }
-    requires fits { All IsTraceRow rows.now }
     requires within { length steps.now + 1 ≤ most_schedule_lines }
-    ensures { IsReplay (scene_replayed header.now rows.now steps.now) result }
+    ensures { IsReplay (scene_replayed trace.now.header trace.now.rows steps.now) result }
 {
-    let mut world = World::new(alloc, header, rows, memory)?;
+    let mut world = World::new(alloc, trace, memory)?;
     let mut seen = Vec::new(alloc);
     let mut number = 0;
     for step in steps {
@@ -62,22 +59,15 @@ fn replay_in<M: WordMemory + Drop>(
     }
 }
 
-/// Replays a schedule beside the rows of a trace: what all its steps show, where there is no harm after any, nor before the first. The
-/// rings that are there change from row to row; each step and its harm are told by those that are there then. Each fault has what the
+/// Replays a schedule beside a trace: what all its steps show, where there is no harm after any, nor before the first. Rows
+/// declare rings and end the lives of others; harm is asked of each that was declared, whether it lives or went. Each fault has what the
 /// steps done showed. `Memory` is answered only where a growth was refused or a count would pass 2^64.
-pub fn replay(
-    alloc: Global,
-    header: &Header,
-    rows: &[TraceRow],
-    schedule: &Schedule,
-) -> Result<Vec<Seen>, ReplayFault>
-    requires { All IsTraceRow rows.now }
-    ensures { IsReplay (scene_replayed header.now rows.now schedule.now.steps) result }
+pub fn replay(alloc: Global, trace: &Trace, schedule: &Schedule) -> Result<Vec<Seen>, ReplayFault>
+    ensures { IsReplay (scene_replayed trace.now.header trace.now.rows schedule.now.steps) result }
 {
     replay_in(
         alloc,
-        header,
-        rows,
+        trace,
         schedule.steps.as_slice(),
         PageMemory::new(alloc),
     )

@@ -7,6 +7,7 @@ mod harmful;
 mod lazy;
 mod no_log;
 mod notes;
+mod rings;
 
 pub use fault::ScheduleFault;
 pub use harmful::{HarmfulRun, Search, harmful_run, harmful_schedule};

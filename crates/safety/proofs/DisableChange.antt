@@ -1,6 +1,6 @@
 -- The change of endpoints that are disabled: they have no ring, and what ring they had is inactive
 use Rattle.safety.proofs.LowerLaws.{◌≡◌, ◌⊎◌, ◌==◌, ◌&&◌, if◌then◌else◌, ◌∙◌, ℕ, Bool, true, false, not, Option, Some, None, arith, refl, ap, subst, inl, inr, eq-eqb, eqb-true, ne_eqb, rules, any_in_range, cases_Bool, false≢true, and_from, and_left, and_right, and_parts, cond-false, none-some, same_Some, Command, Off, Disables, Header, is_ring, shape_of, command_id, World, Known, RingState, state_of, BoundRing, FreeRing, EndpointRing, rank_least, rank_most, changed_by, disabled, none_in_range, cond_is, StatesMatch, ChangeKeeps}
-use Rattle.controller_model.specs.Bindings as bindings
+use Rattle.world_state.specs.Bindings as bindings
 
 is_ring_of : (r : ℕ) (o : Option ℕ) → o ≡ Some r → is_ring r o ≡ true
 is_ring_of r o at = ap (λ x. is_ring r x) at ∙ eq-eqb r r refl

@@ -4,7 +4,7 @@ use Rattle.safety.proofs.KeptRings.{command_holds}
 use Rattle.safety.proofs.PlaceKeeps.{MayBind, MayMove, bind_keeps, move_keeps}
 use Rattle.safety.proofs.FinishSuccess.{EffectKeeps}
 use Rattle.safety.proofs.FinishGiven.{ListKeeps, nothing_keeps, change_then}
-use Rattle.controller_model.specs.Bindings as bindings
+use Rattle.world_state.specs.Bindings as bindings
 
 -- ---- a ring on which nothing from the floor on is given
 

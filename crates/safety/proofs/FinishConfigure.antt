@@ -4,7 +4,7 @@ use Rattle.safety.proofs.KeptRings.{command_holds}
 use Rattle.safety.proofs.PlaceEach.{each_keeps}
 use Rattle.safety.proofs.FinishSuccess.{EffectKeeps}
 use Rattle.safety.proofs.FinishGiven.{ListKeeps, change_then}
-use Rattle.controller_model.specs.Bindings as bindings
+use Rattle.world_state.specs.Bindings as bindings
 
 module _ (h : Header) (is : IsHeader h) (k : Known) (d : DriverKeeps h k) (s a : ℕ) (given : CommandKeeps h k (next_command h k) (ConfigureEndpoint s false a)) where
   abbrev pub c : Command

@@ -1,6 +1,6 @@
 -- The controller finishes the command under way with another code than success: the run goes on
 use Rattle.safety.proofs.MiddleLaws.{rules, [], ◌≡◌, ◌+◌, ◌<◌, ◌==◌, ◌∷◌, ◌++◌, ◌∙◌, ℕ, Bool, true, false, not, List, Option, Some, None, is_some, arith, refl, sym, ap, subst, lt-ltb, eq-eqb, false≢true, and_from, and_left, or_from, or_left, or_right, cond-true, cond-false, not_from_true, not_from_false, Block, BlockKind, IsBlock, code, kind, pointer, slot, is_transfer_event, is_command_completion, address_of, ceiling, cycle_of_bit, Command, command_of, may_answer_slot, can_succeed, Header, Config, IsHeader, shape_of, command_id, register_or_zero, World, posted, counted, Known, event_read, command_at, next_command, is_in_profile, is_impossible_by_kind, is_impossible_completion, may_be_taken, can_finish, was_stop_seen, DriverKeeps, CommandMatches, UnderWayMatches, Agrees, Runs, all_read, stored, stored_block, ring_shape, command_of-with_cycle, ceiling_given, AtFloor, at_floor, command_is_ring, command_at_is, agrees_counted, with_reads, PostKeeps, post_keeps, learned_read, event_clean, runs_more, ReportKeeps, IsFinish, finish_is, failure_is, completion_kind, let_go, seen_after, next_known, failed_read, none_waits, none_after, stands_next, events_next, matches_next}
-use Rattle.controller_model.specs.Finishes as finishes
+use Rattle.world_state.specs.Finishes as finishes
 
 pub posted_under_way : (h : Header) (w : World) (b : Block) → (posted h w b).under_way ≡ w.under_way
 unfolding posted stored_block stored
@@ -103,5 +103,5 @@ module _ (h : Header) (is : IsHeader h) (k : Known) (unread : List Block) (w v :
 
 -- the run goes on behind the completion of a command that fails
 pub finish_failure_runs : (h : Header) → IsHeader h → (now : Known) (w v : World) (b : Block) → IsBlock b → w.stopped ≡ false → (run : Runs h now w) →
-    DriverKeeps h (all_read h now run.unread) → (code b == 1) ≡ false → finishes.finished h w b ≡ Some v → Runs h now (counted h v)
+    DriverKeeps h (all_read h now run.unread) → (code b == 1) ≡ false → finishes.finished h h w b ≡ Some v → Runs h now (counted h v)
 finish_failure_runs h is now w v b block running run d fails at = runs_more h now w v b block run (failure_keeps h is (all_read h now run.unread) run.unread w v b block running d run.agrees (finish_is h w v b at) fails)

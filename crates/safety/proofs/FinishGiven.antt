@@ -1,7 +1,7 @@
 -- The command that succeeds is one that was given: what was tested of it then holds still
 use Rattle.safety.proofs.MiddleLaws.{[], ◌≡◌, ◌∷◌, List, Some, subst, same_Some, Command, Change, Header, World, Known, changed_by, changed_by_all, StatesMatch, ChangeKeeps, none_keeps, both_keep}
 use Rattle.safety.proofs.FinishSlots.{some_then}
-use Rattle.controller_model.specs.Bindings as bindings
+use Rattle.world_state.specs.Bindings as bindings
 
 -- ---- changes one after the other
 

@@ -1,7 +1,7 @@
 -- What a finish is, and what is known behind the completion of a command that had no effect
 use Rattle.safety.proofs.LowerLaws.{◌≡◌, ◌==◌, ◌∙◌, ℕ, Bool, true, false, Option, Some, None, refl, sym, ap, eqb-true, rules, false≢true, and_parts, cond-false, not-true, false_from_ne_true, none-some, same_Some, put, put_pair, Block, BlockKind, code, kind, pointer, slot, is_command_completion, after, Reaches, Command, StopEndpoint, command_of, is_stop_of, may_answer_slot, Header, shape_of, command_id, World, UnderWay, can_post, posted, Known, event_read, command_at, next_command, on_ring, is_stopping_now, may_be_taken, was_stop_seen, DriverKeeps, CommandCompletion, completed, finished, stop_ended, arith, with_reads, cond_is}
 use Rattle.safety.proofs.FloorMoves.{floor_behind}
-use Rattle.controller_model.specs.Finishes as finishes
+use Rattle.world_state.specs.Finishes as finishes
 
 -- ---- what a finish is
 
@@ -13,15 +13,15 @@ pub record IsFinish (h : Header) (w v : World) (b : Block) : Type 0 where
   pub under_way : w.under_way ≡ Some taken
   pub named : pointer b ≡ taken.address
   pub slot_named : may_answer_slot (command_of taken.block) (slot b) ≡ true
-  pub ends : finishes.ended_with h w b taken ≡ Some v
+  pub ends : finishes.ended_with h h w b taken ≡ Some v
 
-finished_on : (h : Header) (w v : World) (b : Block) (o : Option UnderWay) → finishes.finished_as h w b o ≡ Some v →
-    (u : UnderWay) × (o ≡ Some u) × (pointer b ≡ u.address) × (may_answer_slot (command_of u.block) (slot b) ≡ true) × (finishes.ended_with h w b u ≡ Some v)
+finished_on : (h : Header) (w v : World) (b : Block) (o : Option UnderWay) → finishes.finished_as h h w b o ≡ Some v →
+    (u : UnderWay) × (o ≡ Some u) × (pointer b ≡ u.address) × (may_answer_slot (command_of u.block) (slot b) ≡ true) × (finishes.ended_with h h w b u ≡ Some v)
 unfolding finishes.finished_as
 finished_on h w v b None at = search (rules, none-some)
 finished_on h w v b (Some u) at = search (rules, none-some, cond_is, and_parts, eqb-true)
 
-pub finish_is : (h : Header) (w v : World) (b : Block) → finishes.finished h w b ≡ Some v → IsFinish h w v b
+pub finish_is : (h : Header) (w v : World) (b : Block) → finishes.finished h h w b ≡ Some v → IsFinish h w v b
 unfolding finishes.finished
 finish_is h w v b at = search (rules, cond_is, and_parts, finished_on, not-true, none-some)
 
@@ -29,7 +29,7 @@ finish_is h w v b at = search (rules, cond_is, and_parts, finished_on, not-true,
 abbrev pub let_go : World → World
 let_go u = record u { under_way = None }
 
-pub failure_is : (h : Header) (w v : World) (b : Block) (u : UnderWay) → (code b == 1) ≡ false → finishes.ended_with h w b u ≡ Some v → (u.has_stopped ≡ false) × (let_go (posted h w b) ≡ v)
+pub failure_is : (h : Header) (w v : World) (b : Block) (u : UnderWay) → (code b == 1) ≡ false → finishes.ended_with h h w b u ≡ Some v → (u.has_stopped ≡ false) × (let_go (posted h w b) ≡ v)
 unfolding finishes.ended_with finishes.ended
 failure_is h w v b u fails at = search (rules, cond_is, cond-false, none-some, same_Some)
 

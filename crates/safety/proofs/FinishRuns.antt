@@ -7,15 +7,15 @@ use Rattle.safety.proofs.FinishSlots.{effect_keeps}
 use Rattle.safety.proofs.FinishDequeue.{dequeue_keeps}
 use Rattle.safety.proofs.FinishAddress.{address_keeps}
 use Rattle.safety.proofs.FinishConfigure.{configure_keeps}
-use Rattle.controller_model.specs.Finishes as finishes
+use Rattle.world_state.specs.Finishes as finishes
 
 -- a block that is no command of the profile never succeeds
-no_success : (h : Header) (w v : World) (b : Block) (u : UnderWay) → command_of u.block ≡ None → (code b == 1) ≡ true → finishes.ended_with h w b u ≡ Some v → ⊥
+no_success : (h : Header) (w v : World) (b : Block) (u : UnderWay) → command_of u.block ≡ None → (code b == 1) ≡ true → finishes.ended_with h h w b u ≡ Some v → ⊥
 unfolding finishes.ended_with finishes.succeeded
 no_success h w v b u none one at = search (rules, none-some, option_map, slot, cond-true, code)
 
 module _ (h : Header) (is : IsHeader h) (now : Known) (w v : World) (b : Block) (block : IsBlock b) (running : w.stopped ≡ false) (run : Runs h now w)
-    (d : DriverKeeps h (all_read h now run.unread)) (one : (code b == 1) ≡ true) (at : finishes.finished h w b ≡ Some v) where
+    (d : DriverKeeps h (all_read h now run.unread)) (one : (code b == 1) ≡ true) (at : finishes.finished h h w b ≡ Some v) where
   abbrev k : Known
   k = all_read h now run.unread
 
@@ -42,5 +42,5 @@ module _ (h : Header) (is : IsHeader h) (now : Known) (w v : World) (b : Block) 
   any_success_runs = let f = finish_is h w v b at in taken_runs f (command_of f.taken.block) refl
 
 pub finish_runs : (h : Header) → IsHeader h → (now : Known) (w v : World) (b : Block) → IsBlock b → w.stopped ≡ false → (run : Runs h now w) →
-    DriverKeeps h (all_read h now run.unread) → finishes.finished h w b ≡ Some v → Runs h now (counted h v)
+    DriverKeeps h (all_read h now run.unread) → finishes.finished h h w b ≡ Some v → Runs h now (counted h v)
 finish_runs h is now w v b block running run d at = search (rules, code, any_success_runs, finish_failure_runs)

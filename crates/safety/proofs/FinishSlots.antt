@@ -1,7 +1,7 @@
 -- The controller finishes with success a command that places no endpoint on a ring: the run goes on
 use Rattle.safety.proofs.MiddleLaws.{[], ◌≡◌, ◌∷◌, ◌∙◌, ℕ, true, false, List, Option, Some, option_and_then, ap, subst, none-some, same_Some, Command, AddressDevice, ConfigureEndpoint, SetTrDequeue, Change, SlotGoesOn, DeviceLeft, Disables, Places, Stops, Resets, changes, Header, World, Known, changed_by, changed_by_all, succeeded, arith, StatesMatch, ChangeKeeps, none_keeps, both_keep, slot_keeps, device_keeps, reset_keeps, stop_keeps, disable_keeps}
 use Rattle.safety.proofs.FinishSuccess.{EffectKeeps}
-use Rattle.controller_model.specs.Bindings as bindings
+use Rattle.world_state.specs.Bindings as bindings
 
 -- ---- changes that place nothing
 

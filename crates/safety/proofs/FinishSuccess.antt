@@ -2,8 +2,8 @@
 use Rattle.safety.proofs.MiddleLaws.{[], ◌≡◌, ◌+◌, ◌⊎◌, ◌==◌, ◌&&◌, ◌∷◌, ◌++◌, ◌∙◌, ℕ, Bool, true, false, not, List, Option, Some, is_some, unwrap_or, arith, refl, sym, ap, subst, inl, inr, cases_Bool, and_left, or_left, or_right, or_parts, cond-true, not-false, none-some, Block, IsBlock, code, kind, slot, is_transfer_event, is_command_completion, Reaches, floor_number, after, Command, StopEndpoint, EndpointState, command_of, is_stop_of, named_slot, named_endpoint, named_context, can_succeed, slot_success, endpoint_success, slot_meant, endpoint_meant, is_slot_enabled, Header, Read, Config, IsHeader, shape_of, command_id, register_or_zero, World, UnderWay, posted, counted, Known, event_read, learned, command_at, next_command, on_ring, is_in_profile, can_finish, was_stop_seen, DriverKeeps, state_of, UnderWayMatches, Agrees, stored, stored_block, completed, finished, stop_ended, succeeded, ◌≢◌, option_and_then, rules, false≢true, Stands, EventsStand, Matches, next_is, agrees_counted, with_reads, post_keeps, learned_read, event_clean, ReportKeeps, mapped, cond_is, put_at, put_off, IsFinish, completion_kind, let_go, seen_after, next_known, stop_ended_is, reached_is, stopping_of, put_false, none_waits, none_after, stands_next, events_next, matches_next, known_changed, world_changed, LeavesRest, ChangeKeeps, floor_behind}
 use Rattle.std.proofs.Common.{option_map}
 use Rattle.safety.proofs.FinishFails.{no_transfer, posted_under_way, taken_now, can_end, completion_possible, floor, here_is, taken_is, answers_is}
-use Rattle.controller_model.specs.Bindings as bindings
-use Rattle.controller_model.specs.Finishes as finishes
+use Rattle.world_state.specs.Bindings as bindings
+use Rattle.world_state.specs.Finishes as finishes
 use Rattle.world_state.specs.World as of_world
 
 -- Behind the success of a command: its changes are made, the event is posted, and the command ring's floor moves on
@@ -42,7 +42,7 @@ pub record IsSuccess (h : Header) (w v : World) (b : Block) (e : Command) : Type
   pub effect_is : bindings.effect h w (slot b) e ≡ Some made
   pub ends : let_go (posted h made b) ≡ v
 
-success_is : (h : Header) (w v : World) (b : Block) (u : UnderWay) (e : Command) → command_of u.block ≡ Some e → (code b == 1) ≡ true → finishes.ended_with h w b u ≡ Some v → IsSuccess h w v b e
+success_is : (h : Header) (w v : World) (b : Block) (u : UnderWay) (e : Command) → command_of u.block ≡ Some e → (code b == 1) ≡ true → finishes.ended_with h h w b u ≡ Some v → IsSuccess h w v b e
 unfolding finishes.ended_with finishes.ended finishes.succeeded
 success_is h w v b u e is one at =
     search (rules, mapped, succeeded, slot, option_map, cond-true, code, cond_is, named_context, not, can_succeed, register_or_zero, none-some, or_parts, not-false)

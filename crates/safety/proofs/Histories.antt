@@ -1,7 +1,5 @@
--- A clean history keeps what the rules keep of each ring
-use Rattle.safety.proofs.MiddleLaws.{[], ◌≡◌, ◌&&◌, ◌∷◌, not, true, false, List, refl, not-false, Block, BlockKind, TransferEvent, CommandCompletion, kind, is_transfer_event, is_command_completion, Header, Row, Sub, Write, Reg, Bell, Read, IsHeader, Known, event_read, learned, known, is_in_profile, is_impossible_by_kind, IsLenient, command_id, IsRestored, MayCome, RingsKeep, RingsKept, EndpointsKeep, MayFinish, MayRead, MayReadAll, event_facts, stands, same_keeps, declared_keeps, written_keeps, register_keeps, rung_keeps, transfer_keeps, keeps_endpoints}
-use Rattle.safety.proofs.NothingFree.{nothing_free, may_come}
-use Rattle.safety.proofs.DriverRows.{nothing_keeps}
+-- A row that breaks no rule keeps what the rules keep of each ring
+use Rattle.safety.proofs.MiddleLaws.{[], ◌≡◌, ◌&&◌, not, true, false, refl, not-false, Block, BlockKind, TransferEvent, CommandCompletion, kind, is_transfer_event, is_command_completion, Header, Row, Sub, Write, Reg, Bell, Read, IsHeader, Known, event_read, learned, is_in_profile, is_impossible_by_kind, command_id, IsRestored, MayCome, RingsKeep, RingsKept, EndpointsKeep, MayFinish, MayRead, event_facts, stands, same_keeps, declared_keeps, written_keeps, register_keeps, rung_keeps, transfer_keeps}
 use Rattle.safety.proofs.Completions.{completion_keeps}
 
 module _ (h : Header) (is : IsHeader h) where
@@ -25,10 +23,3 @@ module _ (h : Header) (is : IsHeader h) where
 
   pub row_keeps : (k : Known) (row : Row) → RingsKeep h k → EndpointsKeep h k → IsRestored (k.ring (command_id h)) → MayCome h k row → MayRead h k row → RingsKeep h (learned h k row)
   row_keeps k row keeps endpoints commands comes may r driver = (row_kept k row keeps endpoints commands comes may r driver).rules
-
-  -- of a clean history whose completions place endpoints where they may
-  pub keeps_rings : (past : List Row) → IsLenient h past → MayReadAll h past → RingsKeep h (known h past)
-  unfolding known
-  keeps_rings [] clean may = nothing_keeps h is
-  keeps_rings (row ∷ past) clean may =
-      row_keeps (known h past) row (keeps_rings past clean.0 may.0) (keeps_endpoints h is past) (nothing_free h past (command_id h)) (may_come h is past row clean.1) may.1

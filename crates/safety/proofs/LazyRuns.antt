@@ -3,6 +3,7 @@ pub mod AllRead
 pub mod Follows
 pub mod RowsLearn
 pub mod RingRows
+pub mod LazySteps
 pub mod Induction
 pub mod LooksRun
 pub mod NeedsOfHeld

@@ -14,7 +14,7 @@ from_range a (suc n) x at =
       | inr later ↦ let rest = from_range (a + 1) n x later in (omega (arith, rest.0), omega (arith, rest.1))
     ]
 
-from_both : {X : Type 0} (x : X) (xs ys : List X) → IsIn x (xs ++ ys) → IsIn x xs ⊎ IsIn x ys
+pub from_both : {X : Type 0} (x : X) (xs ys : List X) → IsIn x (xs ++ ys) → IsIn x xs ⊎ IsIn x ys
 from_both x [] ys at = inr at
 from_both x (y ∷ xs) ys at =
     elim at [

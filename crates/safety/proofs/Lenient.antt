@@ -1,5 +1,5 @@
 -- What breaks no rule of the trace's version breaks no lenient rule
-use Rattle.safety.proofs.Words.{[], ◌≡◌, ◌||◌, ◌∷◌, ◌∙◌, Bool, true, false, List, map, refl, sym, inl, inr, IsClean, stricter, broken, tests, cases_Bool, cond-true, cond-false, Header, Row, Known, known, Refusal, AfterStop, Test, broken_of, lenient_tests, lenient, IsLenient}
+use Rattle.safety.proofs.Words.{[], ◌≡◌, ◌||◌, ◌∷◌, ◌∙◌, Bool, true, false, List, map, refl, sym, inl, inr, stricter, broken, tests, cases_Bool, cond-true, cond-false, Header, Row, Known, Refusal, AfterStop, Test, broken_of, lenient_tests, lenient}
 
 -- tests that refuse besides: where they refuse nothing, neither do those that they are made of
 fewer : (more : Refusal → Bool) (ts : List Test) → broken_of (map (λ t. (t.0, more t.0 || t.1)) ts) ≡ [] → broken_of ts ≡ []
@@ -25,7 +25,3 @@ module _ (h : Header) where
             cond-false k.stopped (AfterStop ∷ []) (broken_of (lenient_tests h k row)) on
             ∙ fewer (stricter h k row) (lenient_tests h k row) (sym (cond-false k.stopped (AfterStop ∷ []) (broken_of (tests h k row)) on) ∙ clean)
       ]
-
-  pub lenient_history : (rows : List Row) → IsClean h rows → IsLenient h rows
-  lenient_history [] clean = tt
-  lenient_history (row ∷ past) clean = (lenient_history past clean.0, lenient_row (known h past) row clean.1)

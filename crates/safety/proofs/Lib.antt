@@ -61,7 +61,6 @@ pub mod SameRings
 pub mod FinishSlots
 pub mod StopRead
 pub mod ReportRuns
-pub mod RowsLeft
 pub mod ContextReads
 pub mod BoundRings
 pub mod CommandsBeside
@@ -113,7 +112,6 @@ pub mod PlaceEach
 pub mod EndpointsOff
 pub mod FinishConfigure
 pub mod FinishRuns
-pub mod HeadlineFrom
 pub mod StatesChanges
 pub mod StatesFit
 pub mod StatesOneSlot
@@ -182,7 +180,7 @@ pub mod CommandMoves
 pub mod DeviceBehind
 pub mod Squares
 pub mod Lenient
-pub mod Headline
+pub mod StepRuns
 pub mod CommandGood
 pub mod Words
 pub mod RingsKept

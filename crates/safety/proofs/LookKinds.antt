@@ -1,6 +1,6 @@
 -- The three ways in which a look ends, and what each changes
 use Rattle.safety.proofs.Words.{◌≡◌, ◌≢◌, ◌+◌, ◌-◌, ◌%◌, ◌^◌, ◌==◌, ◌&&◌, ◌⊎◌, if◌then◌else◌, ◌∷◌, ℕ, Bool, true, false, Some, None, is_some, refl, inl, inr, cond, eq-eqb, ne_eqb, eqb-true, rules, cond-true, cond-false, not-false, same_Some, put, Block, is_set, aligned, block_at, cycle, kind, pointer, word, is_link, declared_at, Header, command_id, shape_of, World, Took, next_take, looked, looked_at, seen_by_look, crossed, taken_on, command_begun, RingState, state_of, declared_next}
-use Rattle.controller_model.specs.Looks.{taken}
+use Rattle.world_state.specs.Looks.{taken}
 use Rattle.safety.proofs.OnlyRing.{OnlyRing}
 
 pub put_at : {A : Type 0} (f : ℕ → A) (n : ℕ) (x : A) → put f n x n ≡ x
@@ -41,7 +41,7 @@ LookEnds h w v r = Waits h w v r ⊎ Crosses h w v r ⊎ TakesBlock h w v r
 none_is : {A : Type 0} (x : A) → None ≡ Some x → ⊥
 none_is x e = cc
 
-pub looked_is : (h : Header) (w v : World) (r : ℕ) → looked h w r ≡ Some v → (w.is_active r ≡ true) × LookEnds h w v r
+pub looked_is : (h : Header) (w v : World) (r : ℕ) → looked h h w r ≡ Some v → (w.is_active r ≡ true) × LookEnds h w v r
 unfolding looked looked_at
 looked_is h w v r at =
     elim (cond_is (w.is_active r) _ _ (Some v) at) [

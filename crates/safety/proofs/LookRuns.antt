@@ -1,6 +1,6 @@
 -- Behind a look the run goes on
 use Rattle.safety.proofs.LowerLaws.{◌≡◌, ◌≢◌, ◌∙◌, ℕ, List, Some, sym, ap, inl, inr, cases_Bool, cases_eq, false≢true, Block, Header, IsHeader, command_id, World, looked, counted, Known, DriverKeeps, Agrees, Runs, all_read, ◌==◌, ◌&&◌, ◌||◌, ◌⊎◌, Bool, true, false, not, Option, None, is_some, slice_get, arith, refl, subst, eq-eqb, eqb-true, rules, cond-true, and_cases, or_cases, same_Some, Spot, Data, Link, is_inside, cycle_of_bit, Command, AddressDevice, command_of, shape_of, UnderWay, seen_by_look, crossed, taken_on, command_begun, may_scribble, next_command, was_stop_seen, IsDriverRing, IsUnfinished, RingState, state_of, RingMatches, CommandMatches, UnderWayMatches, TakenCommand, add-zero, ne_eqb, cond-false, or_from, not_from_true, after, spot_address, DeclaredBlock, declared_at, next_take, Unreported, BoundRing, Matches, looked_is, seen, LookEnds, only_seen, only_crossed, only_taken, only_begun, behind_link, behind_block, command_of-with_cycle, AtFloor, at_floor, command_is_ring, command_at_is, OnlyRing, matches_command, stands_only, events_only, late_only, read_only, matches_transfer, transfer_driver, ring_shape, spot_lies, agrees_counted, number_after, crossed_unreported, taken_unreported}
-use Rattle.controller_model.specs.Looks.{taken}
+use Rattle.world_state.specs.Looks.{taken}
 use Rattle.safety.proofs.LookSpots.{CrossDone, cross_done, TakeDone, take_done}
 
 -- The controller looks at the block at a ring's pointer, and waits, follows a Link or takes it: the run goes on
@@ -203,7 +203,7 @@ module _ (h : Header) (is : IsHeader h) (k : Known) (unread : List Block) (w : W
   command_looks v active (inr (inr block)) = search (rules, command_waits, command_crosses, cross_done, ring, c, begun_is, command_takes, take_done, no_one)
 
 module _ (h : Header) (is : IsHeader h) (k : Known) (unread : List Block) (w : World) (d : DriverKeeps h k) (g : Agrees h k unread w) where
-  command_agrees : (v : World) → looked h w (command_id h) ≡ Some v → Agrees h k unread (counted h v)
+  command_agrees : (v : World) → looked h h w (command_id h) ≡ Some v → Agrees h k unread (counted h v)
   command_agrees v at =
       let l = looked_is h w v (command_id h) at in
       elim (cases_Bool k.started) [
@@ -211,7 +211,7 @@ module _ (h : Header) (is : IsHeader h) (k : Known) (unread : List Block) (w : W
         | inr off ↦ absurd (false≢true (sym (g.matches.before off).inactive ∙ l.0))
       ]
 
-  transfer_agrees : (v : World) (r : ℕ) → r ≢ command_id h → looked h w r ≡ Some v → Agrees h k unread (counted h v)
+  transfer_agrees : (v : World) (r : ℕ) → r ≢ command_id h → looked h h w r ≡ Some v → Agrees h k unread (counted h v)
   transfer_agrees v r other at =
       let l = looked_is h w v r at in
       elim (g.matches.rings r other) [
@@ -219,14 +219,14 @@ module _ (h : Header) (is : IsHeader h) (k : Known) (unread : List Block) (w : W
         | inr free ↦ absurd (false≢true (sym free.rests.inactive ∙ l.0))
       ]
 
-  look_agrees : (v : World) (r : ℕ) → looked h w r ≡ Some v → Agrees h k unread (counted h v)
+  look_agrees : (v : World) (r : ℕ) → looked h h w r ≡ Some v → Agrees h k unread (counted h v)
   look_agrees v r at =
       elim (cases_eq r (command_id h)) [
-        | inl command ↦ command_agrees v (ap (λ q. looked h w q) (sym command) ∙ at)
+        | inl command ↦ command_agrees v (ap (λ q. looked h h w q) (sym command) ∙ at)
         | inr other ↦ transfer_agrees v r other at
       ]
 
 pub look_runs : (h : Header) → IsHeader h → (now : Known) (w v : World) (r : ℕ) → (run : Runs h now w) → DriverKeeps h (all_read h now run.unread) →
-    looked h w r ≡ Some v → Runs h now (counted h v)
+    looked h h w r ≡ Some v → Runs h now (counted h v)
 look_runs h is now w v r run d at =
     record { unread = run.unread; possible = run.possible; blocks = run.blocks; on = run.on; agrees = look_agrees h is (all_read h now run.unread) run.unread w d run.agrees v r at }

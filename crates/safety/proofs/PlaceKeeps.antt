@@ -1,7 +1,7 @@
 -- A command's success places the ring of an endpoint, in the world as in what is known
 use Rattle.safety.proofs.MiddleLaws.{◌≡◌, ◌≢◌, ◌<◌, ◌≤◌, if◌then◌else◌, ◌∙◌, ℕ, Bool, true, false, Some, None, arith, sym, subst, inl, inr, none-some, same_Some, Spot, IsSpot, spot_address, spot_cycle, IsShape, declared, floor_number, ceiling, is_move, is_placement, ceiling_within, given_count_declared, RingKeeps, place_count_pos, rank_least, rank_most, Command, EndpointState, Places, is_off, Header, IsHeader, shape_of, command_id, ring_having, World, Known, IsTransferRing, state_of, RingMatches, BoundRing, FreeRing, changed_by, rules, ring_shape, transfer_driver, transfer_not_command, having_transfer, transfer_ring, Ready, MoveSpot, move_spot, moved_having, set_view, placed_state, placed_matches, placed_unreported, rest_active, placed_world_is, rest_still, binds_placed, moves_placed, PlacedTo, placed_keeps, StatesMatch, ChangeKeeps}
 use Rattle.safety.proofs.PlacedWorld.{IsPlaced, placed_is}
-use Rattle.controller_model.specs.Bindings as bindings
+use Rattle.world_state.specs.Bindings as bindings
 
 -- an endpoint that is off, and has no ring, gets a free one where that stands still
 pub record MayBind (h : Header) (k : Known) (s i p : ℕ) (cycle : Bool) : Type 0 where

@@ -4,7 +4,7 @@ use Rattle.world_state.specs.World.{event_at}
 use Rattle.safety.proofs.EventRead.{learned_read}
 use Rattle.safety.proofs.SameDriver.{event_same}
 use Rattle.world_state.specs.World as of_world
-use Rattle.controller_model.specs.DriverRows as driver
+use Rattle.world_state.specs.DriverRows as driver
 
 -- blocks with the same four words are the same
 same_block : (a b : Block) → IsBlock a → IsBlock b → same_words a b ≡ true → a ≡ b

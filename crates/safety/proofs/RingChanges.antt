@@ -11,5 +11,10 @@ pub mod RingRuns
 pub mod QuietKeeps
 pub mod Withdrawn
 pub mod Restored
-pub mod RingsHeadline
+pub mod LiveRuns
+pub mod LiveHeadline
+pub mod GoneAside
+pub mod LivingRings
+pub mod Alike
+pub mod Headline
 pub mod Examples

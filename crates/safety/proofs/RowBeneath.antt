@@ -5,7 +5,7 @@ use Rattle.safety.proofs.KeptCounts.{passable, read_counts}
 use Rattle.safety.proofs.RowRings.{rings_agree}
 use Rattle.safety.proofs.RowRegisters.{MayMove}
 use Rattle.safety.proofs.RowWrites.{writes_agree}
-use Rattle.controller_model.specs.DriverRows as driver
+use Rattle.world_state.specs.DriverRows as driver
 use Rattle.world_state.specs.World as of_world
 
 -- A declaration where all events are read: what is known agrees with the world

@@ -3,7 +3,7 @@ use Rattle.safety.proofs.LowerLaws.{◌≡◌, ◌+◌, ◌≤◌, if◌then◌e
 use Rattle.safety.proofs.DriverGoesOn.{goes_same}
 use Rattle.safety.proofs.MatchesGoesOn.{SameController, matches_go_on}
 use Rattle.world_state.specs.World as of_world
-use Rattle.controller_model.specs.DriverRows as driver
+use Rattle.world_state.specs.DriverRows as driver
 
 pub agrees_once_counted : (h : Header) (k : Known) (unread : List Block) (w : World) → Agrees h k unread w → Agrees h k unread (counted h w)
 agrees_once_counted h k unread w g = agrees_counted h k unread w g.stands g.events g.matches g.read (λ a. omega (arith, g.stamps a))

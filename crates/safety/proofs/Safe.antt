@@ -53,7 +53,7 @@ nothing_found : (a b c d e f : Bool) → a ≡ false → b ≡ false → c ≡ f
     option_map (λ (t : Harm × Bool). t.0) (find (λ (t : Harm × Bool). t.1) ((TakenOutOfOrder, a) ∷ (TakenOtherWords, b) ∷ (WaitsInsideDescriptor, c) ∷ (LooksOutside, d) ∷ (PostsOverUnread, e) ∷ (InputContextChanged, f) ∷ [])) ≡ None
 nothing_found a b c d e f ha hb hc hd he hf = rw (ha, hb, hc, hd, he, hf) refl
 
-safe_from : (h : Header) (w : World) → some_ring h (λ r. is_out_of_order (shape_of h r) (w.events r)) ≡ false →
+pub safe_from : (h : Header) (w : World) → some_ring h (λ r. is_out_of_order (shape_of h r) (w.events r)) ≡ false →
     some_ring h (λ r. has_other_words (shape_of h r) (w.events r)) ≡ false → some_ring h (λ r. waits w r && is_inside_descriptor (w.events r)) ≡ false →
     w.looked_outside ≡ false → (nat_lt 0 (event_size h) && nat_le (event_size h) (w.posted - w.reads)) ≡ false → has_changed_context h w w.under_way ≡ false → IsSafe h w
 unfolding harm_of harms

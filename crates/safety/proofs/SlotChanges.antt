@@ -1,6 +1,6 @@
 -- The changes of a success that touch no ring: a slot's state goes on, its device context is left, an endpoint is reset
 use Rattle.safety.proofs.LowerLaws.{◌≡◌, ◌==◌, ◌&&◌, if◌then◌else◌, ℕ, Some, unwrap_or, ap, subst, rules, false≢true, same_Some, put_pair, Command, EndpointState, Stopped, SlotGoesOn, DeviceLeft, Resets, Header, World, Known, changed_by, in_state, put_at, put_off, StatesMatch, ChangeKeeps}
-use Rattle.controller_model.specs.Bindings as bindings
+use Rattle.world_state.specs.Bindings as bindings
 
 pub same_put_pair : {A : Type 0} (f g : ℕ → ℕ → A) (s i : ℕ) (x : A) → ((t j : ℕ) → f t j ≡ g t j) → (t j : ℕ) → put_pair f s i x t j ≡ put_pair g s i x t j
 same_put_pair f g s i x same t j = ap (λ z. if t == s && j == i then x else z) (same t j)

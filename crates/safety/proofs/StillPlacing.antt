@@ -1,4 +1,4 @@
--- A clean history keeps what the rules keep of each ring, so long as what was tested of a command holds still when it succeeds
+-- Completions place endpoints where they may, so long as what was tested of a command holds still when it succeeds
 use Rattle.safety.proofs.Words.{slot, Header, Row, IsHeader, Known, RingsKeep, EndpointsKeep, MayRead, StillReads, arith}
 use Rattle.safety.proofs.Placings.{still_places}
 

@@ -2,7 +2,7 @@
 use Rattle.safety.proofs.LowerLaws.{◌≡◌, ◌≢◌, ℕ, false, Option, Some, None, refl, sym, ap, subst, inl, inr, rules, arith, cases_eq, false≢true, same_Some, put, Spot, Shape, ceiling, is_way_given, Command, Stopped, Stops, Header, shape_of, command_id, World, Known, RingState, state_of, RingMatches, BoundRing, EndpointRing, on_ring, changed_by, held_at_ceiling, in_state, RingView, newest_still, put_at, put_off, StatesMatch, ChangeKeeps, none_keeps, both_keep}
 use Rattle.safety.proofs.NoWait.{ceiling_held}
 use Rattle.safety.proofs.SlotChanges.{state_made}
-use Rattle.controller_model.specs.Bindings as bindings
+use Rattle.world_state.specs.Bindings as bindings
 
 -- ---- one ring
 

@@ -14,26 +14,12 @@ pub use Rattle.contexts.specs.Contexts.{context_cycle, context_pointer, device_c
 unfoldable pub use Rattle.contexts.specs.Contexts.{added_endpoints}
 pub use Rattle.contexts.specs.declared.size.ContextSize.{ContextSize}
 pub use Rattle.contexts.specs.declared.size.ContextSize.TheVariants.{Bytes32, Bytes64}
-pub use Rattle.controller_model.proofs.EndpointLemmas.{put_pair_same}
-pub use Rattle.controller_model.proofs.FirstFound.{first_at-found}
-pub use Rattle.controller_model.proofs.ReadLemmas.{read_made}
-pub use Rattle.controller_model.proofs.ScribbleLemmas.{any_in_range}
-unfoldable pub use Rattle.controller_model.specs.Bindings.{changed_by as world_changed_by, changed_by_all as world_changed_by_all, disabled as world_disabled, effect, effect as bindings_effect, has_one_of, in_state as world_in_state, inactive, is_had_by_another, placed, placed_on}
-pub use Rattle.controller_model.specs.DriverRows.{event_read as driver_event_read}
-unfoldable pub use Rattle.controller_model.specs.DriverRows.{activated, bell_row, declared as driver_declared, endpoint_bell, endpoint_bell as driver_endpoint_bell, register_row, row_done, run_or_stop as driver_run_or_stop, started_with, valued as driver_valued, with_dequeue}
-unfoldable pub use Rattle.controller_model.specs.Finishes.{ended, ended_with, finished as finish_finished, finished_as, passes_end, succeeded as finish_succeeded}
-unfoldable pub use Rattle.controller_model.specs.Looks.{command_begun, crossed, looked, looked_at, may_scribble, seen_by_look, taken as looks_taken, taken_on}
-unfoldable pub use Rattle.controller_model.specs.OnLiterals.{model_on_literals}
-unfoldable pub use Rattle.controller_model.specs.Posts.{can_post, is_last, is_stop_under_way, other_posted, posted, posted as posts_posted, report_code, report_error, report_stop, report_success, reported, reported_on, stopped_with, with_reported, with_stopped}
-pub use Rattle.controller_model.specs.Scenes.{scene_replayed}
-pub use Rattle.controller_model.specs.Steps.{NoHarm}
-unfoldable pub use Rattle.controller_model.specs.Steps.{counted, is_scribbled, made, made as steps_made, scribbled, while_running}
 pub use Rattle.event_ring.proofs.CountLemmas.{posted_in_order}
 pub use Rattle.event_ring.specs.EventRing.{AreInOrder, erdp_address, has_room, is_event_place, is_reached_within, position_from, table_bytes}
 pub use Rattle.guest_memory.specs.Memory.{put, put_pair}
 pub use Rattle.ownership_rules.proofs.Among.{IsIn, any_of, both_ways, from_filter, in_filter, some_of}
 unfoldable pub use Rattle.ownership_rules.specs.Areas.{is_bad_area, is_in_range_lease, is_soiled}
-pub use Rattle.ownership_rules.specs.Clean.{IsClean, IsLenient}
+pub use Rattle.ownership_rules.specs.Clean.{IsLenient}
 unfoldable pub use Rattle.ownership_rules.specs.Commands.{adds_streams, has_bad_content, has_bad_context, has_bad_entry, is_bad_added, is_bad_command, is_bad_device, is_busy, names_disabled_endpoint, names_disabled_slot, streams_in, takes_bad_device, type_in}
 unfoldable pub use Rattle.ownership_rules.specs.Declarations.{declaration_tests, is_driver_ring}
 unfoldable pub use Rattle.ownership_rules.specs.Doorbells.{doorbell_tests, is_bad_bell, is_bad_doorbell, is_touched, touches_endpoint}
@@ -61,16 +47,17 @@ pub use Rattle.ring_knowledge.specs.Rings.{Crossing, Given, Position, RingSpot}
 unfoldable pub use Rattle.ring_knowledge.specs.Rings.{command_at, event_at, given_by, given_of, next_command, on_ring, spot_on, unfinished, unfinished_positions}
 unfoldable pub use Rattle.ring_knowledge.specs.Transfers.{broken_off, passed, passed as transfers_passed, stopped_at, transfer_read, transferred, transferred_at}
 unfoldable pub use Rattle.ring_knowledge.specs.Writes.{command_given, device_named, entry_of, no_device, taken_device, with_device, with_word, written}
+pub use Rattle.safety.proofs.RingChanges.LiveRuns.{LiveScene, live_next, live_reached, live_row, live_step, live_with}
 pub use Rattle.safety.specs.Beneath.{HeldMore, IsHeldMore, IsIdleEndpoint, MayRing, MoreLaw, Square, SquareLaw, is_idle, is_open_if}
 pub use Rattle.safety.specs.EndpointsKeep.{EndpointsKeep, IsTransferRing as IsTransferTest, is_transfer_ring}
-pub use Rattle.safety.specs.Headline.{Headline, IsHarmless}
+pub use Rattle.safety.specs.Headline.{Headline}
 pub use Rattle.safety.specs.Invariant.{ArePossible, Ended, Runs, all_read}
 pub use Rattle.safety.specs.Keeps.{CommandKeeps, CommandRingKeeps, CommandRingNamed, DeviceKeeps, DriverKeeps, IsDriverRing, IsTransferRing, IsUnfinished, MovesIf, StatesKeep, Stays, StaysIf, Unstarted}
-pub use Rattle.safety.specs.KeptHistories.{IsDriverRow, MayRead, MayReadAll, StillReads}
+pub use Rattle.safety.specs.KeptHistories.{IsDriverRow, MayRead, StillReads}
 pub use Rattle.safety.specs.KeptStep.{CommandsKeep, DevicesKeep, KeptByRestoring, KeptByRows}
 pub use Rattle.safety.specs.LazyRuns.LateEvents.{IsTimely, is_late_row, is_report_of_success}
 unfoldable pub use Rattle.safety.specs.LazyRuns.LateEvents.{is_held_ring, is_late}
-pub use Rattle.safety.specs.LazyRuns.Law.{AllAreRead, AreAtFloors, ContainsAll, FewSteps, GoesSoFar, LazyLaw, scene_with}
+pub use Rattle.safety.specs.LazyRuns.Law.{AllAreRead, AreAtFloors, ContainsAll, FewSteps, GoesSoFar, LazyLaw}
 pub use Rattle.safety.specs.LazyRuns.Lazy.{further as lazy_further}
 unfoldable pub use Rattle.safety.specs.LazyRuns.Lazy.{behind_taken, brought, brought as lazy_brought, command_taken, further, goals, goals as lazy_goals, lazy_run, lazy_steps, looks_to, open_goals, pointers_after, pointers_at, pointers_for, post_of, report_goals, spots_before, steps_before, steps_for, stop_goal, stopped_goals, taken_up_to}
 unfoldable pub use Rattle.safety.specs.LazyRuns.Needs.{begins_anew, ends_need, is_placed_by, is_placed_by_all, need, number_behind, number_needed, number_reported, ring_placed}
@@ -80,7 +67,7 @@ pub use Rattle.safety.specs.Placings.{AreFree, MayChange, MayChangeAll, MayFinis
 pub use Rattle.safety.specs.Restoring.{AreRestored, EndpointRestored, IsRestoring, KeepsPassed, MayCome, MovesRestored}
 pub use Rattle.safety.specs.RingChanges.Changes.{IsComing}
 unfoldable pub use Rattle.safety.specs.RingChanges.Changes.{emptied, forgotten, is_bad_free, is_bad_ring, is_bad_segment, is_had, shows_first_lap, with_ring, without_ring}
-pub use Rattle.safety.specs.RingChanges.Histories.{AreKept, FitsFields, IsKept, RingsHeadline, Scene, header_after, header_now, known_after, known_now, row_made, row_next, scene_reached, step_made}
+pub use Rattle.safety.specs.RingChanges.Histories.{AreKept, FitsFields, IsKept, Scene, header_after, header_now, known_after, known_now, row_made, row_next, scene_reached, step_made}
 pub use Rattle.safety.specs.RingChanges.Withdrawals.{restored}
 unfoldable pub use Rattle.safety.specs.RingChanges.Withdrawals.{has_stopped, is_bad_withdraw, is_left, restored_on, rests_with, ring_moved, ring_restored, some_flips, without_descriptor}
 pub use Rattle.safety.specs.RingsKeep.{PassesNoMore, RingKept, RingsKeep, RingsKept}
@@ -166,8 +153,22 @@ pub use Rattle.trb.specs.declared.kind.BlockKind.{BlockKind}
 pub use Rattle.trb.specs.declared.kind.BlockKind.TheVariants.{CommandCompletion, TransferEvent}
 pub use Rattle.trb.specs.declared.ring_kind.RingKind.{RingKind}
 pub use Rattle.trb.specs.declared.ring_kind.RingKind.TheVariants.{Cmd, Evt, Xfer}
+pub use Rattle.world_state.proofs.EventsRead.{read_made}
+pub use Rattle.world_state.proofs.FirstFound.{first_at-found}
+pub use Rattle.world_state.proofs.Pairs.{put_pair_same}
+pub use Rattle.world_state.proofs.Ranges.{any_in_range}
+unfoldable pub use Rattle.world_state.specs.Bindings.{changed_by as world_changed_by, changed_by_all as world_changed_by_all, disabled as world_disabled, effect, effect as bindings_effect, has_one_of, in_state as world_in_state, inactive, is_had_by_another, placed, placed_on}
+pub use Rattle.world_state.specs.DriverRows.{event_read as driver_event_read}
+unfoldable pub use Rattle.world_state.specs.DriverRows.{activated, bell_row, declared as driver_declared, endpoint_bell, endpoint_bell as driver_endpoint_bell, register_row, row_done, run_or_stop as driver_run_or_stop, started_with, valued as driver_valued, with_dequeue}
+unfoldable pub use Rattle.world_state.specs.Finishes.{ended, ended_with, finished as finish_finished, finished_as, passes_end, succeeded as finish_succeeded}
 pub use Rattle.world_state.specs.Harms.{IsSafe}
 unfoldable pub use Rattle.world_state.specs.Harms.{harm_of, harms, has_changed_context, has_other_words, is_changed_since, is_context_changed, is_end, is_inside_descriptor, is_out_of_order, is_right_place, waits}
+unfoldable pub use Rattle.world_state.specs.Looks.{command_begun, crossed, looked, looked_at, may_scribble, seen_by_look, taken as looks_taken, taken_on}
+unfoldable pub use Rattle.world_state.specs.OnLiterals.{world_on_literals}
+unfoldable pub use Rattle.world_state.specs.Posts.{can_post, is_last, is_stop_under_way, other_posted, posted, posted as posts_posted, report_code, report_error, report_stop, report_success, reported, reported_on, stopped_with, with_reported, with_stopped}
+pub use Rattle.world_state.specs.Scenes.{scene_ending}
+pub use Rattle.world_state.specs.Steps.{NoHarm}
+unfoldable pub use Rattle.world_state.specs.Steps.{counted, is_scribbled, made, made as steps_made, scribbled, while_running}
 unfoldable pub use Rattle.world_state.specs.Takes.{declared_next, first_at, is_as_declared, is_place, next_take, takes_of, unreported, was_placed}
 pub use Rattle.world_state.specs.World.{Placed, RingEvent, Took, UnderWay, World}
 unfoldable pub use Rattle.world_state.specs.World.{opening, stored, stored_block}

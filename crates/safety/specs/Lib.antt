@@ -9,6 +9,7 @@ pub mod Stands
 pub mod Matches
 pub mod Invariant
 pub mod Headline
+pub mod Harmless
 pub mod Beneath
 pub mod RingChanges
 pub mod LazyRuns

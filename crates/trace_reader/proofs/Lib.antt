@@ -20,7 +20,6 @@ pub mod SpelledLines
 pub mod SpelledTraces
 pub mod Spelled
 pub mod Printed
-pub mod DriverTraces
 pub mod Unspelled
 pub mod Lowered
 pub mod LineByLine

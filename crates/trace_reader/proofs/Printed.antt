@@ -1,5 +1,5 @@
 -- What is printed of a trace spells the trace
-use Rattle.trace_reader.proofs.UpperLaws.{common_steps, rules, ◌≡◌, ◌<◌, ◌∷◌, ◌++◌, ℕ, true, false, List, [], length, map, Ok, All, IsTrue, refl, arith, ne_eqb, flat_map, join_with_byte, and_from, All-weaker, fields_of, is_line_feed, lines_of, All-join, AreFields, fields_of-join, lines_of-ended, lines_of-nothing, Ring, TraceRow, trace_row_fields, TraceText, trace_of, Field, lines_written, printed, printed_line, printed_trace, ring_fields, row_fields, spells, trace_lines, IsTrace, AllSound, plain_fields, written_as_printed, ring_sound, sound_named, trace_row_sound, read_if_spelled}
+use Rattle.trace_reader.proofs.UpperLaws.{common_steps, rules, ◌≡◌, ◌<◌, ◌∷◌, ◌++◌, ℕ, Bool, true, false, List, [], length, map, Ok, All, IsTrue, refl, arith, ne_eqb, flat_map, join_with_byte, and_from, All-weaker, fields_of, is_line_feed, lines_of, All-join, AreFields, fields_of-join, lines_of-ended, lines_of-nothing, Ring, TraceRow, trace_row_fields, TraceText, trace_of, Field, lines_written, printed, printed_line, printed_trace, ring_fields, row_fields, spells, trace_lines, IsTrace, AllSound, plain_fields, written_as_printed, ring_sound, sound_named, trace_row_sound, read_if_spelled}
 
 -- ---- one line
 
@@ -68,5 +68,5 @@ unfolding spells printed_trace
 printed_spells trace = printed_lines (trace_lines trace) (trace_sound trace)
 
 -- a valid trace is read as it was printed
-pub printed_reads : (trace : TraceText) → IsTrace trace → trace_of true (printed_trace trace) ≡ Ok trace
-printed_reads trace is = read_if_spelled (printed_trace trace) trace (printed_spells trace) is
+pub printed_reads : (keeps : Bool) (trace : TraceText) → IsTrace keeps trace → trace_of keeps (printed_trace trace) ≡ Ok trace
+printed_reads keeps trace is = read_if_spelled keeps (printed_trace trace) trace (printed_spells trace) is

@@ -1,40 +1,40 @@
 -- One line more of a text
-use Rattle.trace_reader.proofs.Words.{rules, ◌≡◌, ◌-◌, ◌≤◌, ◌∷◌, ◌++◌, ◌∙◌, ℕ, List, [], Bool, false, Option, Some, None, Result, Ok, Err, refl, ap, cond, length, nat_lt, arith, is_none, option_map_or, nat_tests, common_steps, ContextSize, Version, TextLine, lines_of, LineFault, BadHeader, BadRow, Number, Limit, Shape, LineError, TraceRow, Answers, IfBadLine, IfFault, at_line, placed, said_by_line, took_in, State, after, go_on, is_bad_number, is_bad_shape, is_misplaced, line_fault, next_number, read_line, take_lines, taken, text_taken, row_fault, size_of, start, version_of, whole, with_said, Said}
+use Rattle.trace_reader.proofs.Words.{rules, ◌≡◌, ◌-◌, ◌≤◌, ◌∷◌, ◌++◌, ◌∙◌, ℕ, List, [], Bool, false, Option, Some, None, Result, Ok, Err, refl, ap, cond, length, nat_lt, arith, is_none, option_map_or, nat_tests, common_steps, ContextSize, Version, TextLine, lines_of, LineFault, BadHeader, BadRow, Number, Limit, Shape, LineError, TraceRow, Answers, IfBadLine, IfFault, at_line, placed, said_by_line, took_in, State, after, go_on, is_bad_number, is_bad_shape, is_misplaced, line_fault, next_number, read_line, read_lines, trace_of, row_fault, size_of, start, version_of, whole, with_said, Said}
 
-module _ {R : Type 0} where
-  -- the rows so far, before what later lines say
-  abbrev pub prepend : List R → Result (State × List R) (ℕ × LineFault) → Result (State × List R) (ℕ × LineFault)
-  prepend rows (Ok (st, later)) = Ok (st, rows ++ later)
-  prepend rows (Err fault) = Err fault
+-- the rows so far, before what later lines say
+abbrev pub prepend : List TraceRow → Result (State × List TraceRow) (ℕ × LineFault) → Result (State × List TraceRow) (ℕ × LineFault)
+prepend rows (Ok (st, later)) = Ok (st, rows ++ later)
+prepend rows (Err fault) = Err fault
 
-  pub nothing_before : (r : Result (State × List R) (ℕ × LineFault)) → prepend [] r ≡ r
-  nothing_before r = search rules
+pub nothing_before : (r : Result (State × List TraceRow) (ℕ × LineFault)) → prepend [] r ≡ r
+nothing_before r = search rules
 
-  good : (rows : List R) (number : ℕ) (r : Result (State × Option R) LineFault) (rest : State → Result (State × List R) (ℕ × LineFault)) (next : State × List R) → took_in rows r ≡ Ok next →
-      prepend rows (go_on number r rest) ≡ prepend next.1 (rest next.0)
-  good rows number r rest next is = search (rules, common_steps)
+good : (rows : List TraceRow) (number : ℕ) (r : Result (State × Option TraceRow) LineFault) (rest : State → Result (State × List TraceRow) (ℕ × LineFault)) (next : State × List TraceRow) →
+    took_in rows r ≡ Ok next → prepend rows (go_on number r rest) ≡ prepend next.1 (rest next.0)
+good rows number r rest next is = search (rules, common_steps)
 
-  module _ (keeps : Bool) (take : TraceRow → Result R LineFault) where
-    pub stopped : (text : List ℕ) (rows : List R) (st : State) (line : TextLine) (lines : List TextLine) (e : LineError) →
-        take_lines take (start keeps) (lines_of text) ≡ prepend rows (take_lines take st (line ∷ lines)) → IfFault e (λ fault. taken take (read_line st line) ≡ Err fault) →
-        IfBadLine (at_line (next_number st) e) (λ number code. text_taken keeps take text ≡ Err (number, code))
-    unfolding text_taken take_lines
-    stopped text rows st line lines e so_far is = search rules
+-- these rows were read, and these lines of the text are left
+abbrev pub HasLines : Bool → List ℕ → List TraceRow → State → List TextLine → Type 0
+HasLines keeps text rows st lines = read_lines (start keeps) (lines_of text) ≡ prepend rows (read_lines st lines)
 
-    pub read_on : (text : List ℕ) (rows later : List R) (st next : State) (line : TextLine) (rest : List ℕ) (lines : List TextLine) →
-        take_lines take (start keeps) (lines_of text) ≡ prepend rows (take_lines take st lines) → lines ≡ line ∷ lines_of rest → took_in rows (taken take (read_line st line)) ≡ Ok (next, later) →
-        take_lines take (start keeps) (lines_of text) ≡ prepend later (take_lines take next (lines_of rest))
-    unfolding take_lines
-    read_on text rows later st next line rest lines so_far is took = grind (arith, common_steps, good)
+module _ (keeps : Bool) (text : List ℕ) (rows : List TraceRow) (st : State) where
+  pub stopped : (line : TextLine) (lines : List TextLine) (e : LineError) → HasLines keeps text rows st (line ∷ lines) → IfFault e (λ fault. read_line st line ≡ Err fault) →
+      IfBadLine (at_line (next_number st) e) (λ number code. trace_of keeps text ≡ Err (number, code))
+  unfolding trace_of read_lines
+  stopped line lines e so_far is = search rules
 
-    pub ended : (text rest : List ℕ) (rows : List R) (st : State) → take_lines take (start keeps) (lines_of text) ≡ prepend rows (take_lines take st (lines_of rest)) → length rest ≡ 0 →
-        text_taken keeps take text ≡ whole (Ok (st, rows))
-    unfolding text_taken take_lines lines_of
-    ended text rest rows st so_far short = grind (arith, common_steps)
+  pub read_on : (later : List TraceRow) (next : State) (line : TextLine) (rest : List ℕ) (lines : List TextLine) → HasLines keeps text rows st lines → lines ≡ line ∷ lines_of rest →
+      took_in rows (read_line st line) ≡ Ok (next, later) → HasLines keeps text later next (lines_of rest)
+  unfolding read_lines
+  read_on later next line rest lines so_far is took = grind (arith, common_steps, good)
 
-  pub header_there : (st : State) (rows : List R) → 2 ≤ st.lines →
-      whole (Ok (st, rows)) ≡ Ok (record { header = record { version = st.version; context_size = st.size; rings = st.rings }; first = next_number st - length rows; rows = rows })
-  header_there st rows there = grind (arith, nat_lt, nat_tests)
+  pub ended : (rest : List ℕ) → HasLines keeps text rows st (lines_of rest) → length rest ≡ 0 → trace_of keeps text ≡ whole (Ok (st, rows))
+  unfolding trace_of read_lines lines_of
+  ended rest so_far short = grind (arith, common_steps)
+
+pub header_there : (st : State) (rows : List TraceRow) → 2 ≤ st.lines →
+    whole (Ok (st, rows)) ≡ Ok (record { header = record { version = st.version; context_size = st.size; rings = st.rings }; first = next_number st - length rows; rows = rows })
+header_there st rows there = grind (arith, nat_lt, nat_tests)
 
 by_tests : (st : State) (late past : Bool) (said : Option Said) →
     option_map_or Err (cond late (Some BadRow) (cond (is_none said) (Some Number) (cond past (Some Limit) (cond (option_map_or (is_misplaced st.rings st.later) said false) (Some Shape) None)))) (Ok (with_said st said))

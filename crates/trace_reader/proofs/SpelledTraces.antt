@@ -1,11 +1,7 @@
 -- What is read of a text's lines, and what the lines spell
-use Rattle.trace_reader.proofs.MiddleLaws.{common_steps, rules, ◌≡◌, ◌+◌, ◌≤◌, ◌&&◌, ◌∷◌, ◌++◌, ◌∙◌, ℕ, Bool, true, false, not, List, [], length, map, nat_lt, Option, Some, None, Result, Ok, All, refl, sym, ap, arith, append_assoc, append-nil, ltb-true, list_any, list_all, and_parts, and_from, not-true, or_parts, or_from, All-head, All-tail, fields_of, TextLine, is_shape, LineFault, Ring, TraceRow, Version, IsTraceRow, is_of_version, begins_with_ring, has_no_shape, has_used_id, have_new_ids, ids_with, behind_row, clash, may_stand_together, most_of, State, next_number, read_line, read_lines, with_said, Field, are_written, lines_written, ring_fields, trace_row_fields, Said, SaysRow, SaysRing, no_clash, ring_fits, together_with, IsGood, read_from_good, step_from_read}
+use Rattle.trace_reader.proofs.MiddleLaws.{common_steps, rules, ◌≡◌, ◌+◌, ◌≤◌, ◌&&◌, ◌∷◌, ◌++◌, ◌∙◌, ℕ, Bool, true, false, not, List, [], length, map, nat_lt, Option, Some, None, Result, Ok, refl, sym, ap, arith, append_assoc, append-nil, ltb-true, list_any, list_all, and_parts, and_from, not-true, or_parts, or_from, All-head, All-tail, fields_of, TextLine, is_shape, LineFault, Ring, TraceRow, AreRowsOf, IsRowOf, begins_with_ring, has_no_shape, has_used_id, have_new_ids, ids_with, behind_row, clash, may_stand_together, most_of, State, next_number, read_line, read_lines, with_said, Field, are_written, lines_written, ring_fields, trace_row_fields, Said, SaysRow, SaysRing, no_clash, ring_fits, together_with, IsGood, read_from_good, step_from_read}
 
 -- ---- rows
-
--- a row that a line can say in a trace of this version
-abbrev pub IsLineRow : Version → TraceRow → Type 0
-IsLineRow version row = IsTraceRow row × (is_of_version version row ≡ true)
 
 -- a ring with an ID of its field and an allowed shape
 abbrev pub is_line_ring : Ring → Bool
@@ -22,7 +18,7 @@ pub record IsSpelledAs (st end : State) (rings : List Ring) (rows : List TraceRo
   pub size_is : end.size ≡ st.size
   pub version_is : end.version ≡ st.version
   pub count : end.lines ≡ st.lines + (length rings + length rows)
-  pub fit : All (IsLineRow st.version) rows
+  pub fit : AreRowsOf st.version rows
   pub begins : st.begun ≡ false → begins_with_ring rows ≡ false
   pub new_ids : have_new_ids (st.rings ++ rings) st.later rows ≡ true
   pub shapes : list_all is_line_ring rings ≡ true
@@ -101,7 +97,7 @@ pub written_line : (fields : List Field) (line : TextLine) (rest : List (List Fi
     (line.is_ended ≡ true) × (are_written fields (fields_of line.content) ≡ true) × (lines_written rest lines ≡ true)
 written_line fields line rest lines written = search (rules, and_parts)
 
-pub rows_read : (rows : List TraceRow) (lines : List TextLine) (st : State) → 2 ≤ st.lines → All (IsLineRow st.version) rows → (st.begun ≡ false → begins_with_ring rows ≡ false) →
+pub rows_read : (rows : List TraceRow) (lines : List TextLine) (st : State) → 2 ≤ st.lines → AreRowsOf st.version rows → (st.begun ≡ false → begins_with_ring rows ≡ false) →
     have_new_ids st.rings st.later rows ≡ true → lines_written (map trace_row_fields rows) lines ≡ true → st.lines + length rows ≤ most_of st → IsReadAs st lines [] rows
 unfolding read_lines
 rows_read [] [] st behind fit begins new_ids written within = record { end = st; is = refl; rings_are = sym (append-nil st.rings); size_is = refl; version_is = refl; count = omega arith }
@@ -109,7 +105,7 @@ rows_read [] (line ∷ lines) st behind fit begins new_ids written within = cc w
 rows_read (row ∷ rows) [] st behind fit begins new_ids written within = cc written
 rows_read (row ∷ rows) (line ∷ lines) st behind fit begins new_ids written within =
     let w = written_line (trace_row_fields row) line (map trace_row_fields rows) lines written in
-    let is = All-head (IsLineRow st.version) row rows fit in
+    let is = All-head (IsRowOf st.version) row rows fit in
     let ids = and_parts (not (has_used_id st.rings st.later row)) (have_new_ids st.rings (ids_with st.later row) rows) new_ids in
     let good : IsGood st line (SaysRow row) = record {
       ended = w.0;
@@ -119,7 +115,7 @@ rows_read (row ∷ rows) (line ∷ lines) st behind fit begins new_ids written w
       few = search rules;
       placed = or_from (has_no_shape row) (has_used_id st.rings st.later row) (search rules) (not-true (has_used_id st.rings st.later row) ids.0);
     } in
-    let ih = rows_read rows lines (behind_row st row) (omega arith) (All-tail (IsLineRow st.version) row rows fit) (λ e. cc e) ids.1 w.2 (omega (arith, within)) in
+    let ih = rows_read rows lines (behind_row st row) (omega arith) (All-tail (IsRowOf st.version) row rows fit) (λ e. cc e) ids.1 w.2 (omega (arith, within)) in
     record {
       end = ih.end;
       is = read_on st (behind_row st row) line lines (Some row) ih.end rows (read_from_good st line (SaysRow row) behind good) ih.is;
@@ -130,7 +126,7 @@ rows_read (row ∷ rows) (line ∷ lines) st behind fit begins new_ids written w
     }
 
 pub lines_read : (rings : List Ring) (rows : List TraceRow) (lines : List TextLine) (st : State) → 2 ≤ st.lines → st.begun ≡ false → list_all is_line_ring rings ≡ true →
-    may_stand_together (st.rings ++ rings) ≡ true → All (IsLineRow st.version) rows → begins_with_ring rows ≡ false → have_new_ids (st.rings ++ rings) st.later rows ≡ true → lines_written (lines_for rings rows) lines ≡ true → st.lines + (length rings + length rows) ≤ most_of st →
+    may_stand_together (st.rings ++ rings) ≡ true → AreRowsOf st.version rows → begins_with_ring rows ≡ false → have_new_ids (st.rings ++ rings) st.later rows ≡ true → lines_written (lines_for rings rows) lines ≡ true → st.lines + (length rings + length rows) ≤ most_of st →
     IsReadAs st lines rings rows
 lines_read [] rows lines st behind fresh shapes together fit begins new_ids written within = rows_read rows lines st behind fit (λ e. begins) (rw (append-nil st.rings) at new_ids) written (omega (arith, within))
 lines_read (ring ∷ rings) rows [] st behind fresh shapes together fit begins new_ids written within = cc written

@@ -6,5 +6,4 @@ pub mod Openings
 pub mod CallsJoined
 pub mod RowsBefore
 pub mod Streams
-pub mod TextLines
 pub mod RowsFit

@@ -42,8 +42,6 @@ pub use Rattle.std.specs.Prelude.{⊤}
 pub use Rattle.std.specs.Str.{bytes_eq, str_to_ascii_lowercase}
 pub use Rattle.std.specs.declared.cmp.Ordering.{Ordering}
 pub use Rattle.std.specs.declared.cmp.Ordering.TheVariants.{Equal, Greater, Less}
-pub use Rattle.trace_reader.specs.DriverRows.{DriverText, all_plain, driver_row, driver_trace_of, taken, with_taken}
-unfoldable pub use Rattle.trace_reader.specs.DriverRows.{take_lines, text_taken}
 pub use Rattle.trace_reader.specs.Entries.{Answers, AnswersRow, IfBadLine, IfFault, SaysAlone, SaysPlaced, at_line, form_behind, placed, ring_of, row_of, said_alone, said_by, state_of, text_of, took_in, value_of}
 unfoldable pub use Rattle.trace_reader.specs.Entries.{content_fault, said_by_fields, said_by_line, word_named}
 pub use Rattle.trace_reader.specs.Forms.{are_blocks, named}
@@ -57,7 +55,7 @@ unfoldable pub use Rattle.trace_reader.specs.PlanSpelling.{plan_line_fields, pla
 pub use Rattle.trace_reader.specs.Plans.{PlanText, declares_too_much, plan_behind, plan_in, plan_line, plan_line_fault, plan_ring, plan_ring_fault, plan_sub_line, ret_line, ring_alone, with_ring}
 unfoldable pub use Rattle.trace_reader.specs.Plans.{is_plan_version, plan_form_of, plan_of, plan_value, ring_line_form, ring_value}
 pub use Rattle.trace_reader.specs.Printing.{in_a_row, spaced}
-pub use Rattle.trace_reader.specs.Reading.{State, TextOf, TraceText, behind_row, go_on, has_no_shape, is_misplaced, is_too_much, most_of, next_number, start, whole, with_row, with_said}
+pub use Rattle.trace_reader.specs.Reading.{State, TraceText, behind_row, go_on, has_no_shape, is_misplaced, is_too_much, most_of, next_number, start, whole, with_row, with_said}
 unfoldable pub use Rattle.trace_reader.specs.Reading.{after, form_in, is_bad_number, is_bad_row, is_bad_shape, is_past_limit, is_too_long, line_fault, read_line, read_lines, row_fault, said_in, size_of, trace_of, version_of}
 pub use Rattle.trace_reader.specs.RowsAhead.{BeginsWithRow}
 pub use Rattle.trace_reader.specs.ScheduleSpelling.{IsSchedule, schedule_version_fields}
@@ -72,9 +70,8 @@ pub use Rattle.trace_reader.specs.Streaming.Answers.{IsCall, behind_answer, faul
 pub use Rattle.trace_reader.specs.Streaming.ReaderState.{IsOpened, IsSameTrace, IsTold, progress_of}
 pub use Rattle.trace_reader.specs.Streaming.RowByRow.{Call, Progress, behind_line, call_in, call_on, opened_by, with_rows}
 unfoldable pub use Rattle.trace_reader.specs.Streaming.RowByRow.{next_row, opened, opened_in}
-pub use Rattle.trace_reader.specs.Streaming.Streams.{IsBadTaken, IsReadTo, OfStream, read_with}
-pub use Rattle.trace_reader.specs.Streaming.WholeTexts.{AreNumbered, AreOfLines, GivenOf, GivenRows, IsBehind, answered, given_taken, joined, joined_behind, read_by_calls, rows_given, with_given}
-unfoldable pub use Rattle.trace_reader.specs.Streaming.WholeTexts.{taken_by_calls}
+pub use Rattle.trace_reader.specs.Streaming.Streams.{IsReadTo, OfStream, read_with, IsBadLine}
+pub use Rattle.trace_reader.specs.Streaming.WholeTexts.{AreNumbered, AreOfLines, GivenRows, IsBehind, answered, joined, joined_behind, rows_given}
 pub use Rattle.trace_reader.specs.TraceLines.{Form, bell_line, comes_line, driver_lines, event_line, goes_line, reg_line, ring_line, ring_lines, sub_line, withdraws_line, write_line}
 unfoldable pub use Rattle.trace_reader.specs.TraceLines.{form_of, said_of}
 pub use Rattle.trace_reader.specs.Valid.{IsTrace}
@@ -98,7 +95,7 @@ unfoldable pub use Rattle.traces.specs.Limits.{most_lines_of}
 pub use Rattle.traces.specs.PlanLines.{IsPlanLine}
 pub use Rattle.traces.specs.Register.{is_wide, register_name}
 pub use Rattle.traces.specs.Rows.{FitsLine, IsRow, IsStep, IsWordAddress}
-pub use Rattle.traces.specs.TraceRows.{IsTraceRow, begins_with_ring, has_used_id, have_new_ids, ids_with, is_of_version}
+pub use Rattle.traces.specs.TraceRows.{IsTraceRow, begins_with_ring, has_used_id, have_new_ids, ids_with, is_of_version, AreRowsOf, IsRowOf}
 pub use Rattle.traces.specs.Versions.{has_ring_rows}
 pub use Rattle.traces.specs.declared.header.Header.{Header}
 pub use Rattle.traces.specs.declared.plan.PlanLine.{PlanLine}
@@ -120,3 +117,4 @@ pub use Rattle.trb.specs.declared.block.Block.{Block}
 pub use Rattle.trb.specs.declared.ring_kind.RingKind.{RingKind}
 pub use Rattle.trb.specs.declared.ring_kind.RingKind.TheVariants.{Evt, Xfer}
 pub use mir.Val.{bits}
+unfoldable pub use Rattle.trace_reader.specs.Streaming.WholeTexts.{read_by_calls}

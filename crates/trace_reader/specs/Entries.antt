@@ -29,8 +29,7 @@ use Rattle.trace_reader.specs.Grammar.{form_as}
 use Rattle.trace_reader.specs.Grammar as grammar
 use Rattle.trace_reader.specs.TraceLines.{Form, form_of, said_of, sub_line, write_line, reg_line, bell_line, event_line, ring_line, comes_line, goes_line, withdraws_line}
 use Rattle.traces.specs.Limits.{most_bytes}
-use Rattle.trace_reader.specs.DriverRows.{DriverText}
-use Rattle.trace_reader.specs.Reading.{State, behind_row, is_bad_row, is_past_limit, is_misplaced, is_too_long, read_line, said_in, with_said}
+use Rattle.trace_reader.specs.Reading.{State, TraceText, behind_row, is_bad_row, is_past_limit, is_misplaced, is_too_long, read_line, said_in, with_said}
 use Rattle.trace_reader.specs.Values.{Said, SaysRow, SaysRing}
 
 -- a ring as its line says
@@ -136,8 +135,8 @@ said_by_line st line =
     else if is_bad_row st line then Err BadRow
     else option_map_or (λ said. if is_past_limit st line then Err Limit else Ok said) (said_in st line) (Err Number)
 
--- what a trace says all rows of which are the driver's
-abbrev pub text_of : Trace → DriverText
+-- what a trace says
+abbrev pub text_of : Trace → TraceText
 text_of trace = record { header = trace.header; first = trace.first; rows = trace.rows }
 
 -- what the reader holds
@@ -145,7 +144,7 @@ abbrev pub state_of : TraceSoFar → State
 state_of r = record { lines = r.lines; version = r.version; size = r.size; rings = r.rings.items; begun = r.begun; later = r.later.items; keeps = r.keeps }
 
 -- the rows so far, and the row of the next line, if it says one
-abbrev pub took_in : {R : Type 0} → List R → Result (State × Option R) LineFault → Result (State × List R) LineFault
+abbrev pub took_in : List TraceRow → Result (State × Option TraceRow) LineFault → Result (State × List TraceRow) LineFault
 took_in rows (Ok (st, Some row)) = Ok (st, rows ++ row ∷ [])
 took_in rows (Ok (st, None)) = Ok (st, rows)
 took_in rows (Err fault) = Err fault

@@ -4,7 +4,6 @@ pub mod Values
 pub mod Grammar
 pub mod TraceLines
 pub mod Reading
-pub mod DriverRows
 pub mod Spelling
 pub mod Entries
 pub mod RowsAhead

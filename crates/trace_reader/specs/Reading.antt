@@ -151,12 +151,12 @@ after st line =
 unfoldable pub read_line : State → TextLine → Result (State × Option TraceRow) LineFault
 read_line st line = option_map_or Err (line_fault st line) (Ok (after st line))
 
-abbrev pub with_row : {R : Type 0} → Option R → Result (State × List R) (ℕ × LineFault) → Result (State × List R) (ℕ × LineFault)
+abbrev pub with_row : Option TraceRow → Result (State × List TraceRow) (ℕ × LineFault) → Result (State × List TraceRow) (ℕ × LineFault)
 with_row (Some row) (Ok (st, rows)) = Ok (st, row ∷ rows)
 with_row None (Ok (st, rows)) = Ok (st, rows)
 with_row row (Err fault) = Err fault
 
-abbrev pub go_on : {R : Type 0} → ℕ → Result (State × Option R) LineFault → (State → Result (State × List R) (ℕ × LineFault)) → Result (State × List R) (ℕ × LineFault)
+abbrev pub go_on : ℕ → Result (State × Option TraceRow) LineFault → (State → Result (State × List TraceRow) (ℕ × LineFault)) → Result (State × List TraceRow) (ℕ × LineFault)
 go_on number (Ok (st, row)) rest = with_row row (rest st)
 go_on number (Err fault) rest = Err (number, fault)
 
@@ -165,19 +165,15 @@ unfoldable pub read_lines : State → List TextLine → Result (State × List Tr
 read_lines st [] = Ok (st, [])
 read_lines st (line ∷ lines) = go_on (next_number st) (read_line st line) (λ after. read_lines after lines)
 
--- a header, and rows of this sort
-pub record TextOf (R : Type 0) : Type 0 where
+-- what a text of a trace says
+pub record TraceText : Type 0 where
   pub header : Header
   -- the number of the first row's line
   pub first : ℕ
-  pub rows : List R
-
--- what a text of a trace says
-abbrev pub TraceText : Type 0
-TraceText = TextOf TraceRow
+  pub rows : List TraceRow
 
 -- a text ends behind its header at the earliest: the line that isn't there is a bad one
-abbrev pub whole : {R : Type 0} → Result (State × List R) (ℕ × LineFault) → Result (TextOf R) (ℕ × LineFault)
+abbrev pub whole : Result (State × List TraceRow) (ℕ × LineFault) → Result TraceText (ℕ × LineFault)
 whole (Ok (st, rows)) =
     if nat_lt st.lines 2 then Err (next_number st, BadHeader)
     else Ok (record { header = record { version = st.version; context_size = st.size; rings = st.rings }; first = next_number st - length rows; rows = rows })

@@ -5,5 +5,3 @@ pub mod Answers
 pub mod ReaderState
 pub mod WholeTexts
 pub mod Streams
-pub mod TraceRowFacts
-pub mod TextRows

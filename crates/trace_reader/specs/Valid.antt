@@ -1,15 +1,16 @@
 -- Which traces have a text: the limits, the shapes and the IDs that reading keeps
-use Rattle.std.specs.Prelude.{◌≡◌, ◌+◌, ◌≤◌, [], true, false, All, length}
+use Rattle.std.specs.Prelude.{◌≡◌, ◌+◌, ◌≤◌, Bool, [], true, false, length}
 use Rattle.traces.specs.Header.{IsHeader}
-use Rattle.traces.specs.Limits.{most_lines}
-use Rattle.traces.specs.TraceRows.{IsTraceRow, begins_with_ring, have_new_ids, is_of_version}
+use Rattle.traces.specs.Limits.{most_lines_of}
+use Rattle.traces.specs.TraceRows.{AreRowsOf, begins_with_ring, have_new_ids}
 use Rattle.trace_reader.specs.Reading.{TraceText}
 
-pub record IsTrace (trace : TraceText) : Type 0 where
+-- of one whose rows are all kept or not, by which it may have more lines
+pub record IsTrace (keeps : Bool) (trace : TraceText) : Type 0 where
   pub headed : IsHeader trace.header
-  pub rows : All (λ row. IsTraceRow row × (is_of_version trace.header.version row ≡ true)) trace.rows
+  pub rows : AreRowsOf trace.header.version trace.rows
   -- a ring right behind the header's is the header's
   pub begins : begins_with_ring trace.rows ≡ false
   pub new_ids : have_new_ids trace.header.rings [] trace.rows ≡ true
   pub first : trace.first ≡ length trace.header.rings + 3
-  pub within : trace.first + length trace.rows ≤ most_lines + 1
+  pub within : trace.first + length trace.rows ≤ most_lines_of keeps trace.header.version + 1

@@ -2,7 +2,6 @@
 #![tactic(auto)]
 
 mod clashes;
-mod driver_rows;
 mod entry;
 mod fault;
 mod later;
@@ -18,7 +17,6 @@ mod segments_so_far;
 mod so_far;
 mod step_line;
 
-pub use driver_rows::driver_row;
 pub use entry::block_of;
 pub use fault::{LineError, LineFault, ReadFault};
 pub use later::note_id;
@@ -26,8 +24,8 @@ pub use line::{MOST_BYTES, MOST_LINES, MOST_STREAMED_LINES, most_lines_of, row_i
 pub use plans::read_plan;
 pub use print::{print_trace, with_ring, with_row, with_sub, with_write};
 pub use quick::{bell_ahead, declaration_ahead, erdp_ahead, event_ahead, write_ahead};
-pub use read::read_trace;
-pub use row_reader::{Counted, Failed, RowReader, Source, StreamFault, TextRows, read_rows};
+pub use read::{read_long_trace, read_trace};
+pub use row_reader::{Counted, Failed, RowReader, Source, StreamFault};
 pub use schedules::{print_schedule, read_schedule};
 pub use so_far::TraceSoFar;
 pub use traces::{

@@ -1,8 +1,9 @@
-ghost use Rattle.std.specs.Prelude.{◌≡◌, ◌++◌, ◌∷◌, [], Ok, map, OnOk, IfOk};
+ghost use Rattle.std.specs.Prelude.{◌≡◌, ◌+◌, ◌≤◌, ◌++◌, ◌∷◌, [], Bool, Ok, length, map, OnOk, IfOk};
 ghost use Rattle.std.specs.List.{flat_map};
 ghost use Rattle.traces.specs.declared.row.Row.TheVariants.{Sub, Write};
 ghost use Rattle.trace_reader.specs.Entries.{text_of};
-ghost use Rattle.trace_reader.specs.DriverRows.{all_plain, driver_trace_of};
+ghost use Rattle.trace_reader.specs.Reading.{trace_of};
+ghost use Rattle.traces.specs.Limits.{most_lines_of};
 ghost use Rattle.trace_reader.specs.Spelling.{block_fields, printed, printed_line, printed_trace, ring_fields, row_fields, segment_field, size_fields, trace_row_fields, version_fields};
 ghost use Rattle.trace_reader.specs.Printing.{in_a_row, spaced};
 
@@ -16,9 +17,10 @@ use trb::Block;
 
 /// The text of a trace, with its numbers in lower case.
 pub fn print_trace(alloc: Global, trace: &Trace) -> Result<Vec<u8>, AllocError>
-    ensures printed { IfOk result (λ out. out.items ≡ printed_trace (all_plain (text_of trace.now))) }
-    // What is printed is read as the same trace.
-    ensures reread { IfOk result (λ out. driver_trace_of out.items ≡ Ok (text_of trace.now)) }
+    ensures printed { IfOk result (λ out. out.items ≡ printed_trace (text_of trace.now)) }
+    // What is printed is read as the same trace, where one may have so many lines.
+    ensures reread { IfOk result (λ out. (keeps : Bool) → trace.now.first + length trace.now.rows ≤ most_lines_of keeps trace.now.header.version + 1 →
+        trace_of keeps out.items ≡ Ok (text_of trace.now)) }
 {
     let mut out = Vec::new(alloc);
     push_header(&mut out, &trace.header)?;
@@ -101,11 +103,11 @@ fn push_rings(out: &mut Vec<u8>, rings: &[Ring]) -> Result<(), AllocError>
     Ok(())
 }
 
-fn push_rows(out: &mut Vec<u8>, rows: &[Row]) -> Result<(), AllocError>
-    ensures { OnOk result (out.new.items ≡ out.old.items ++ flat_map printed_line (map row_fields rows.now)) }
+fn push_rows(out: &mut Vec<u8>, rows: &[TraceRow]) -> Result<(), AllocError>
+    ensures { OnOk result (out.new.items ≡ out.old.items ++ flat_map printed_line (map trace_row_fields rows.now)) }
 {
     for row in rows {
-        push_row(out, row)?;
+        push_trace_row(out, row)?;
     }
     Ok(())
 }
@@ -160,15 +162,6 @@ fn push_trace_row_fields(out: &mut Vec<u8>, row: &TraceRow) -> Result<(), AllocE
             push_u64(out, *position)
         }
     }
-}
-
-/// Appends the line of a row.
-fn push_row(out: &mut Vec<u8>, row: &Row) -> Result<(), AllocError>
-    ensures { OnOk result (out.new.items ≡ out.old.items ++ printed_line (row_fields row.now)) }
-{
-    push_row_fields(out, row)?;
-    out.extend_from_slice(b"\n")?;
-    Ok(())
 }
 
 /// Appends the line of a declaration.

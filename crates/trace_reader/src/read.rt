@@ -1,17 +1,14 @@
-ghost use Rattle.std.specs.Prelude.{ℕ, List, ◌≡◌, ◌≤◌, ◌+◌, [], Ok, Err, IsTrue, OnOk, IfOk, IfErr, false, None};
+ghost use Rattle.std.specs.Prelude.{ℕ, List, ◌≡◌, ◌≤◌, ◌+◌, Bool, Ok, Err, IsTrue, OnOk, IfOk, IfErr, true, false, None};
 ghost use Rattle.std.specs.Str.{str_to_ascii_lowercase};
-ghost use Rattle.trace_reader.specs.DriverRows.{DriverText, all_plain, driver_row, driver_trace_of, taken};
 ghost use Rattle.trace_reader.specs.Entries.{IfBadLine, IfFault, at_line, placed, ring_of, row_of, state_of, text_of, took_in};
-ghost use Rattle.trace_reader.specs.Reading.{TraceText, read_line, start, whole};
+ghost use Rattle.trace_reader.specs.Reading.{TraceText, read_line, start, trace_of, whole};
 ghost use Rattle.trace_reader.specs.Spelling.{printed_trace, spells};
 ghost use Rattle.trace_reader.specs.Valid.{IsTrace};
 ghost use Rattle.traces.specs.Header.{IsHeader};
 ghost use Rattle.traces.specs.Limits.{most_lines_of};
 ghost use Rattle.trace_reader.specs.Values.{SaysRing, SaysRow};
-ghost use Rattle.traces.specs.declared.row.Row.{Row};
 
 use crate::clashes::clashes_with_one;
-use crate::driver_rows::driver_row;
 use crate::entry::{Entry, RingEntry, RowEntry};
 use crate::fault::{LineError, LineFault, ReadFault};
 use crate::later::{note_id, placed_row, shaped};
@@ -21,32 +18,56 @@ use crate::so_far::TraceSoFar;
 use contexts::ContextSize;
 use line_text::{Line, first_line};
 use std::alloc::Global;
-use traces::{Header, Rings, Row, Rows, Trace, TraceRow, Version};
+use traces::{Header, Rings, Rows, Trace, TraceRow, Version};
 
 /// Reads the text of a trace: `xtrace 1`, `2` or `3`, `ctx 20` or `ctx 40`, the lines of the rings, then the rows. Every byte
-/// sequence is answered, by its trace or by the first bad line and the least of its faults; a row by which a ring comes or goes, or a
-/// descriptor is withdrawn, is a bad line. `Memory` is answered only where a growth was refused.
+/// sequence is answered, by its trace or by the first bad line and the least of its faults. It has at most 2^20 lines. `Memory` is answered
+/// only where a growth was refused.
 pub fn read_trace(alloc: Global, text: &[u8]) -> Result<Trace, ReadFault>
-    ensures read { IfOk result (λ trace. driver_trace_of text.now ≡ Ok (text_of trace)) }
-    ensures refused { IfErr result (λ e. IfBadLine e (λ line code. driver_trace_of text.now ≡ Err (line, code))) }
+    ensures read { IfOk result (λ trace. trace_of true text.now ≡ Ok (text_of trace)) }
+    ensures refused { IfErr result (λ e. IfBadLine e (λ line code. trace_of true text.now ≡ Err (line, code))) }
 
     // In lower case the text is what is printed of the trace.
-    ensures lowered { IfOk result (λ trace. str_to_ascii_lowercase text.now ≡ printed_trace (all_plain (text_of trace))) }
+    ensures lowered { IfOk result (λ trace. str_to_ascii_lowercase text.now ≡ printed_trace (text_of trace)) }
 
     // The text spells the trace, and no other.
-    ensures spelled { IfOk result (λ trace. IsTrue (spells (all_plain (text_of trace)) text.now)) }
-    ensures alone { IfOk result (λ trace. (other : TraceText) → IsTrace other → IsTrue (spells other text.now) → other ≡ all_plain (text_of trace)) }
+    ensures spelled { IfOk result (λ trace. IsTrue (spells (text_of trace) text.now)) }
+    ensures alone { IfOk result (λ trace. (other : TraceText) → IsTrace true other → IsTrue (spells other text.now) → other ≡ text_of trace) }
 
-    // A refused text spells no trace with the driver's rows alone.
-    ensures unspelled { IfErr result (λ e. IfBadLine e (λ line code. (trace : DriverText) → IsTrace (all_plain trace) → spells (all_plain trace) text.now ≡ false)) }
+    // A refused text spells no trace.
+    ensures unspelled { IfErr result (λ e. IfBadLine e (λ line code. (trace : TraceText) → IsTrace true trace → spells trace text.now ≡ false)) }
 {
-    let mut so_far = TraceSoFar::new(alloc, true);
+    read_kept(alloc, true, text)
+}
+
+/// Reads the text of a trace that may have as many lines as one whose rows are read one by one: of version 3 up to 2^32 - 2.
+pub fn read_long_trace(alloc: Global, text: &[u8]) -> Result<Trace, ReadFault>
+    ensures read { IfOk result (λ trace. trace_of false text.now ≡ Ok (text_of trace)) }
+    ensures refused { IfErr result (λ e. IfBadLine e (λ line code. trace_of false text.now ≡ Err (line, code))) }
+    ensures lowered { IfOk result (λ trace. str_to_ascii_lowercase text.now ≡ printed_trace (text_of trace)) }
+    ensures spelled { IfOk result (λ trace. IsTrue (spells (text_of trace) text.now)) }
+    ensures alone { IfOk result (λ trace. (other : TraceText) → IsTrace false other → IsTrue (spells other text.now) → other ≡ text_of trace) }
+    ensures unspelled { IfErr result (λ e. IfBadLine e (λ line code. (trace : TraceText) → IsTrace false trace → spells trace text.now ≡ false)) }
+{
+    read_kept(alloc, false, text)
+}
+
+/// Reads the text of a trace, by whether it may have no more lines than one whose rows are all kept.
+fn read_kept(alloc: Global, keeps: bool, text: &[u8]) -> Result<Trace, ReadFault>
+    ensures read { IfOk result (λ trace. trace_of keeps text.now ≡ Ok (text_of trace)) }
+    ensures refused { IfErr result (λ e. IfBadLine e (λ line code. trace_of keeps text.now ≡ Err (line, code))) }
+    ensures lowered { IfOk result (λ trace. str_to_ascii_lowercase text.now ≡ printed_trace (text_of trace)) }
+    ensures spelled { IfOk result (λ trace. IsTrue (spells (text_of trace) text.now)) }
+    ensures alone { IfOk result (λ trace. (other : TraceText) → IsTrace keeps other → IsTrue (spells other text.now) → other ≡ text_of trace) }
+    ensures unspelled { IfErr result (λ e. IfBadLine e (λ line code. (trace : TraceText) → IsTrace keeps trace → spells trace text.now ≡ false)) }
+{
+    let mut so_far = TraceSoFar::new(alloc, keeps);
     let mut rows = Vec::new(alloc);
     let mut rest = text;
     while !rest.is_empty() {
         let (line, after) = first_line(rest);
         let number = so_far.lines + 1;
-        if let Err(error) = add_driver_line(&mut so_far, &mut rows, &line) {
+        if let Err(error) = add_line(&mut so_far, &mut rows, &line) {
             return Err(at_line(number, error));
         }
         rest = after;
@@ -64,28 +85,24 @@ pub fn at_line(line: u32, error: LineError) -> ReadFault
     }
 }
 
-/// Adds the next line of the text, where it says no row or one of the driver.
-fn add_driver_line(
-    so_far: &mut TraceSoFar,
-    rows: &mut Vec<Row>,
-    line: &Line,
-) -> Result<(), LineError>
-    ensures ok { OnOk result (took_in rows.old.items (taken driver_row (read_line (state_of so_far.old) line.now)) ≡ Ok (state_of so_far.new, rows.new.items)) }
-    ensures err { IfErr result (λ e. IfFault e (λ f. taken driver_row (read_line (state_of so_far.old) line.now) ≡ Err f)) }
+/// Adds the next line of the text, and the row that it says, if it says one.
+fn add_line(so_far: &mut TraceSoFar, rows: &mut Vec<TraceRow>, line: &Line) -> Result<(), LineError>
+    ensures ok { OnOk result (took_in rows.old.items (read_line (state_of so_far.old) line.now) ≡ Ok (state_of so_far.new, rows.new.items)) }
+    ensures err { IfErr result (λ e. IfFault e (λ f. read_line (state_of so_far.old) line.now ≡ Err f)) }
     ensures more { OnOk result (so_far.new.lines ≡ so_far.old.lines + 1) }
 {
     let Some(row) = so_far.add(line)? else {
         return Ok(());
     };
-    rows.push(driver_row(row)?)?;
+    rows.push(row)?;
     Ok(())
 }
 
 /// The trace, where its header is whole.
-fn finish(so_far: TraceSoFar, rows: Vec<Row>) -> Result<Trace, ReadFault>
-    requires { (text : List ℕ) × (driver_trace_of text ≡ whole (Ok (state_of so_far, rows.items))) }
+fn finish(so_far: TraceSoFar, rows: Vec<TraceRow>) -> Result<Trace, ReadFault>
+    requires { (keeps : Bool) × (text : List ℕ) × (trace_of keeps text ≡ whole (Ok (state_of so_far, rows.items))) }
     ensures read { IfOk result (λ trace. whole (Ok (state_of so_far, rows.items)) ≡ Ok (text_of trace)) }
-    ensures refused { IfErr result (λ e. IfBadLine e (λ line code. whole {R = Row} (Ok (state_of so_far, rows.items)) ≡ Err (line, code))) }
+    ensures refused { IfErr result (λ e. IfBadLine e (λ line code. whole (Ok (state_of so_far, rows.items)) ≡ Err (line, code))) }
 {
     if so_far.lines < 2 {
         return Err(ReadFault::Line {
@@ -93,7 +110,7 @@ fn finish(so_far: TraceSoFar, rows: Vec<Row>) -> Result<Trace, ReadFault>
             code: LineFault::Header,
         });
     }
-    let first = so_far.lines + 1 - rows.len() as u32;
+    let first = so_far.lines - rows.len() as u32 + 1;
     Ok(Trace {
         header: so_far.into_header(),
         first,

@@ -43,12 +43,6 @@ line_is_fact (Reg register value) = hlevel props
 line_is_fact (Bell slot target) = hlevel props
 line_is_fact (Read event) = hlevel props
 
-abbrev pub AreRows : List Row → Type 0
-AreRows rows = All (λ row. IsRow row × FitsLine row) rows
-
-pub rows_are_fact : (rows : List Row) → IsProp (AreRows rows)
-rows_are_fact rows = hlevel (props, row_is_fact, line_is_fact)
-
 abbrev pub IsStep : Step → Type 0
 IsStep NextRow = Unit {0}
 IsStep (Look ring) = ring < 256

@@ -1,9 +1,10 @@
 -- Rows whose numbers fit, of a trace in which rings come and go
-use Rattle.std.specs.Prelude.{◌≡◌, ◌<◌, ◌^◌, Bool, true, false, not, ◌||◌, ◌&&◌, ℕ, List, [], ◌∷◌, ◌++◌, ◌==◌}
+use Rattle.std.specs.Prelude.{◌≡◌, ◌<◌, ◌^◌, Bool, true, false, not, ◌||◌, ◌&&◌, ℕ, List, All, [], ◌∷◌, ◌++◌, ◌==◌}
 use Rattle.std.specs.List.{list_any}
+use Rattle.std.proofs.Props.{props}
 use Rattle.segments.specs.Shape.{IsShape}
 use Rattle.trb.specs.declared.ring_kind.RingKind.TheVariants.{Xfer}
-use Rattle.traces.specs.Rows.{IsRow, FitsLine}
+use Rattle.traces.specs.Rows.{IsRow, FitsLine, line_is_fact, row_is_fact}
 use Rattle.traces.specs.Versions.{has_ring_rows}
 use Rattle.traces.specs.declared.ring.Ring.{Ring}
 use Rattle.traces.specs.declared.version.Version.{Version}
@@ -23,6 +24,26 @@ is_of_version version (Plain row) = true
 is_of_version version (Comes ring) = has_ring_rows version
 is_of_version version (Goes ring) = has_ring_rows version
 is_of_version version (Withdraws ring position) = has_ring_rows version
+
+-- what a row of a trace of this version can say
+abbrev pub IsRowOf : Version → TraceRow → Type 0
+IsRowOf version row = IsTraceRow row × (is_of_version version row ≡ true)
+
+abbrev pub AreRowsOf : Version → List TraceRow → Type 0
+AreRowsOf version rows = All (IsRowOf version) rows
+
+-- each is one fact
+pub trace_row_is_fact : (row : TraceRow) → IsProp (IsTraceRow row)
+trace_row_is_fact (Plain row) = hlevel (props, row_is_fact, line_is_fact)
+trace_row_is_fact (Comes ring) = hlevel props
+trace_row_is_fact (Goes ring) = hlevel props
+trace_row_is_fact (Withdraws ring position) = hlevel props
+
+pub trace_rows_are_fact : (rows : List TraceRow) → IsProp (All IsTraceRow rows)
+trace_rows_are_fact rows = hlevel (props, trace_row_is_fact)
+
+pub rows_of_are_fact : (version : Version) (rows : List TraceRow) → IsProp (AreRowsOf version rows)
+rows_of_are_fact version rows = hlevel (props, trace_row_is_fact)
 
 -- the first row is a ring's
 abbrev pub begins_with_ring : List TraceRow → Bool

@@ -2,4 +2,12 @@ pub mod Harm
 pub mod World
 pub mod Takes
 pub mod Harms
+pub mod DriverRows
+pub mod Looks
+pub mod Posts
+pub mod Bindings
+pub mod Finishes
+pub mod Steps
+pub mod RingRows
+pub mod Scenes
 pub mod OnLiterals

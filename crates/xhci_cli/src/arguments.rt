@@ -1,8 +1,8 @@
 //! Arguments that are right one by one, and not together.
 use clap::{ArgMatches, Error};
 use command_line::{
-    is_read_twice, no_page, one_certificate, one_shown, over_the_trace, path, paths, read_twice,
-    subject,
+    Format, format_of, is_read_twice, no_page, no_schedule, no_summary, one_certificate, one_shown,
+    over_the_trace, path, paths, read_twice, subject,
 };
 use std::fs::{self, Metadata};
 use std::io::{self, ErrorKind};
@@ -40,6 +40,12 @@ fn wrong_check(rt: &HostRuntime, check: &ArgMatches) -> io::Result<Option<Error>
     }
     if check.get_flag("show") && traces.len() > 1 {
         return Ok(Some(one_shown(alloc)?));
+    }
+    if check.get_flag("show") && format_of(check) == Format::Sarif {
+        return Ok(Some(no_schedule(alloc)?));
+    }
+    if check.get_flag("summary") && format_of(check) != Format::Text {
+        return Ok(Some(no_summary(alloc)?));
     }
     let Some(certificate) = check.get_str("cert") else {
         return Ok(None);

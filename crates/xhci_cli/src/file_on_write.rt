@@ -11,13 +11,14 @@ pub struct FileOnWrite<'a> {
 }
 
 impl<'a> FileOnWrite<'a> {
-    /// The file of this path, which isn't touched yet.
-    pub fn new(rt: &'a HostRuntime, path: &'a str) -> FileOnWrite<'a> {
-        FileOnWrite {
+    /// The file of a path, which isn't touched yet; of none there is no file.
+    pub fn named(rt: &'a HostRuntime, path: Option<&'a str>) -> Option<FileOnWrite<'a>> {
+        let path = path?;
+        Some(FileOnWrite {
             rt,
             path,
             file: None,
-        }
+        })
     }
 }
 

@@ -9,6 +9,11 @@ pub enum Input {
     File(File),
 }
 
+/// How an input is called in messages, by its path; of none it is standard input.
+pub fn called(path: Option<&str>) -> &str {
+    path.unwrap_or("standard input")
+}
+
 impl Input {
     /// Opens the file of a path; of none it is standard input.
     pub fn open(rt: &HostRuntime, path: Option<&str>) -> io::Result<Input> {

@@ -2,46 +2,35 @@
 #![tactic(auto)]
 
 mod arguments;
-mod check_run;
 mod file_on_write;
-mod harm_run;
+mod formats;
 mod inputs;
-mod judged;
-mod no_note;
-mod plan_run;
-mod read_note;
-mod reading;
-mod recorded;
-mod replay_run;
-mod schedule_run;
-mod several_run;
-mod show_run;
-mod stream_answers;
+mod manner;
+mod progress;
 mod streams;
-mod verify_run;
-mod version_note;
-mod waiting_note;
 
 use answers::{Asked, Status, run_decode, run_explain, tell_failure};
 use arguments::wrong_arguments;
-use check_run::run_check;
 use clap::ArgMatches;
-use command_line::{block_words, path, paths, subject};
+use command_line::{Format, block_words, format_of, path, paths, subject};
+use command_runs::{
+    Outcome, Tally, run_check, run_check_named, run_replay, run_schedule, run_show, run_verify,
+    run_write, tell_summary,
+};
 use file_on_write::FileOnWrite;
-use inputs::Input;
-use plan_run::run_write;
-use replay_run::run_replay;
+use formats::{
+    check_as_json, check_as_sarif, page_as_json, replay_as_json, show_as_json, verify_as_json,
+};
+use inputs::{Input, called};
+use manner::{explains, manner, manner_of_check, tell_waiting, unasked};
+use progress::Watched;
 use replayer::Search;
 use rule_pages::Subject;
-use schedule_run::run_schedule;
-use several_run::run_check_named;
-use show_run::run_show;
 use std::alloc::AllocError;
 use std::env;
 use std::io::{self, ErrorKind, IsTerminal};
 use std::process::ExitCode;
 use streams::{NULL, hold_streams};
-use verify_run::run_verify;
 
 fn main(rt: HostRuntime) -> ExitCode {
     if let Err(error) = hold_streams(&rt) {
@@ -60,13 +49,9 @@ fn ended(status: Status) -> ExitCode {
 
 /// Tells what failed before an input was read, and why.
 fn failed(rt: &HostRuntime, input: &str, error: io::Error) -> Status {
-    let asked = Asked {
-        input,
-        explains: rt.stderr().is_terminal(),
-    };
     tell_failure(
         rt.alloc(),
-        &asked,
+        &unasked(rt).of(input),
         error,
         &mut rt.stdout(),
         &mut rt.stderr(),
@@ -95,7 +80,10 @@ fn obey(rt: &HostRuntime) -> io::Result<ExitCode> {
     match command_line::command(alloc)?.try_get_matches_from(words.as_slice()) {
         Ok(matches) => match wrong_arguments(rt, &matches)? {
             Some(error) => usage(rt, error),
-            None => Ok(ended(status_of(rt, &matches))),
+            None => match matches.subcommand_matches("check") {
+                Some(check) => Ok(check_all(rt, check)),
+                None => Ok(ended(status_of(rt, &matches))),
+            },
         },
         Err(error) => usage(rt, error),
     }
@@ -112,14 +100,49 @@ fn usage(rt: &HostRuntime, error: clap::Error) -> io::Result<ExitCode> {
     }
 }
 
-/// Runs the command that is asked for, by default `check` on standard input.
+/// Runs the command that is asked for, where it isn't `check`; without one checks the trace on standard input.
 fn status_of(rt: &HostRuntime, matches: &ArgMatches) -> Status {
+    match status_in_json(rt, matches) {
+        Ok(Some(status)) => status,
+        Ok(None) => status_in_text(rt, matches),
+        Err(error) => unwritten(rt, error),
+    }
+}
+
+/// Runs a command whose answer is asked for as JSON.
+fn status_in_json(rt: &HostRuntime, matches: &ArgMatches) -> io::Result<Option<Status>> {
+    let Some((command, given)) = matches.subcommand() else {
+        return Ok(None);
+    };
+    if format_of(given) != Format::Json {
+        return Ok(None);
+    }
+    let status = match (command, subject_of(command, given)) {
+        ("verify", _) => verify_as_json(rt, given)?,
+        ("replay", _) => replay_as_json(rt, given)?,
+        ("show", _) => show_as_json(rt, given)?,
+        (_, Some(subject)) => page_as_json(rt, subject)?,
+        _ => return Ok(None),
+    };
+    Ok(Some(status))
+}
+
+/// What `explain` is to tell of; of another command nothing.
+fn subject_of(command: &str, given: &ArgMatches) -> Option<Subject> {
+    if command == "explain" {
+        subject(given)
+    } else {
+        None
+    }
+}
+
+/// Runs a command whose answer is asked for as text.
+fn status_in_text(rt: &HostRuntime, matches: &ArgMatches) -> Status {
     if let Some(decode) = matches.subcommand_matches("decode") {
         if let Some(words) = block_words(decode) {
-            let explains = explains(rt, decode);
             return run_decode(
                 rt.alloc(),
-                explains,
+                explains(rt, decode),
                 &words,
                 &mut rt.stdout(),
                 &mut rt.stderr(),
@@ -132,45 +155,67 @@ fn status_of(rt: &HostRuntime, matches: &ArgMatches) -> Status {
         }
     }
     if let Some(write) = matches.subcommand_matches("write") {
-        return write_at(rt, path(write, "PLAN"), explains(rt, write));
+        return write_at(rt, write, &manner(rt, write));
     }
     if let Some(replay) = matches.subcommand_matches("replay") {
-        return replay_at(rt, replay, explains(rt, replay));
+        return replay_at(rt, replay, &manner(rt, replay));
     }
     if let Some(verify) = matches.subcommand_matches("verify") {
-        return verify_at(rt, verify, explains(rt, verify));
+        return verify_at(rt, verify, &manner(rt, verify));
     }
     if let Some(show) = matches.subcommand_matches("show") {
-        return show_at(rt, show, explains(rt, show));
+        return show_at(rt, show, &manner(rt, show));
     }
     if let Some(schedule) = matches.subcommand_matches("schedule") {
-        return schedule_at(rt, path(schedule, "TRACE"), explains(rt, schedule));
+        return schedule_at(rt, schedule, &manner(rt, schedule));
     }
-    match matches.subcommand_matches("check") {
-        Some(check) => check_all(rt, check, explains(rt, check)),
-        None => check_at(rt, None, None, None, rt.stderr().is_terminal()),
+    tell_waiting(rt, "trace");
+    check_at(rt, None, None, None, &unasked(rt)).status
+}
+
+/// Checks a trace, or each of several ones: how the process ends.
+fn check_all(rt: &HostRuntime, check: &ArgMatches) -> ExitCode {
+    let mut tally = Tally::new();
+    match check_in_format(rt, check, &mut tally) {
+        Ok(()) => {
+            let unjudged = check.get_one::<u8>("unjudged");
+            ExitCode::from(tally.number(unjudged.unwrap_or(Status::Unclean.number())))
+        }
+        Err(error) => ended(unwritten(rt, error)),
     }
 }
 
-/// What is wrong is told in plain words too: where that is asked for, or a person reads it.
-fn explains(rt: &HostRuntime, matches: &ArgMatches) -> bool {
-    matches.get_flag("explain") || rt.stderr().is_terminal()
+/// Checks traces, counts the answers and tells them in the form that is asked for.
+fn check_in_format(rt: &HostRuntime, check: &ArgMatches, tally: &mut Tally) -> io::Result<()> {
+    if paths(check).is_empty() {
+        tell_waiting(rt, "trace");
+    }
+    match format_of(check) {
+        Format::Text => check_as_text(rt, check, tally)?,
+        Format::Json => check_as_json(rt, check, search(check), tally)?,
+        Format::Sarif => check_as_sarif(rt, check, tally)?,
+    }
+    if check.get_flag("summary") {
+        tell_summary(rt.alloc(), tally, &mut rt.stdout())?;
+    }
+    Ok(())
 }
 
-/// Checks a trace, or each of several ones.
-fn check_all(rt: &HostRuntime, check: &ArgMatches, explains: bool) -> Status {
+/// Checks traces, and tells the answers as text.
+fn check_as_text(rt: &HostRuntime, check: &ArgMatches, tally: &mut Tally) -> io::Result<()> {
     let paths = paths(check);
+    let asked = manner_of_check(rt, check);
     if paths.len() > 1 {
-        check_each(rt, paths, explains)
-    } else {
-        check_at(
-            rt,
-            path(check, "TRACE"),
-            check.get_str("cert"),
-            search(check),
-            explains,
-        )
+        return check_each(rt, paths, &asked, tally);
     }
+    tally.add(check_at(
+        rt,
+        path(check, "TRACE"),
+        check.get_str("cert"),
+        search(check),
+        &asked,
+    ));
+    Ok(())
 }
 
 /// How far a run that does harm is looked for, where one is asked for.
@@ -184,29 +229,26 @@ fn search(check: &ArgMatches) -> Option<Search> {
     }
 }
 
-/// Checks the traces in these files one after the other. How that ends is the worst of them.
-fn check_each(rt: &HostRuntime, paths: &[&str], explains: bool) -> Status {
-    let mut worst = Status::Clean;
+/// Checks the traces in these files one after the other, and counts them.
+fn check_each(
+    rt: &HostRuntime,
+    paths: &[&str],
+    asked: &Asked,
+    tally: &mut Tally,
+) -> io::Result<()> {
     for path in paths {
-        match check_named(rt, path, explains) {
-            Ok(status) => worst = worst.worse(status),
-            Err(error) => return unwritten(rt, error),
-        }
+        tally.add(check_named(rt, path, asked)?);
     }
-    worst
+    Ok(())
 }
 
 /// Checks the trace in one of several files, where `-` is standard input.
-fn check_named(rt: &HostRuntime, path: &str, explains: bool) -> io::Result<Status> {
-    let asked = Asked {
-        input: path,
-        explains,
-    };
+fn check_named(rt: &HostRuntime, path: &str, asked: &Asked) -> io::Result<Outcome> {
     let file = if path == "-" { None } else { Some(path) };
     run_check_named(
         rt.alloc(),
-        &asked,
-        Input::open(rt, file),
+        &asked.of(path),
+        Watched::open(rt, file),
         &mut rt.stdout(),
         &mut rt.stderr(),
     )
@@ -218,17 +260,14 @@ fn check_at(
     path: Option<&str>,
     certificate: Option<&str>,
     shows: Option<Search>,
-    explains: bool,
-) -> Status {
-    let mut kept = match certificate {
-        Some(path) => Some(FileOnWrite::new(rt, path)),
-        None => None,
-    };
+    asked: &Asked,
+) -> Outcome {
+    let mut kept = FileOnWrite::named(rt, certificate);
     run_check(
         rt.alloc(),
-        &asked(path, explains),
+        &asked.of(called(path)),
         shows,
-        Input::open(rt, path),
+        Watched::open(rt, path),
         &mut kept,
         &mut rt.stdout(),
         &mut rt.stderr(),
@@ -248,10 +287,14 @@ fn page_at(rt: &HostRuntime, subject: Subject) -> Status {
 }
 
 /// Writes the trace of the plan in a file, or on standard input.
-fn write_at(rt: &HostRuntime, path: Option<&str>, explains: bool) -> Status {
+fn write_at(rt: &HostRuntime, matches: &ArgMatches, asked: &Asked) -> Status {
+    let path = path(matches, "PLAN");
+    if matches.get_str("PLAN").is_none() {
+        tell_waiting(rt, "plan");
+    }
     run_write(
         rt.alloc(),
-        &asked(path, explains),
+        &asked.of(called(path)),
         Input::open(rt, path),
         &mut rt.stdout(),
         &mut rt.stderr(),
@@ -259,10 +302,14 @@ fn write_at(rt: &HostRuntime, path: Option<&str>, explains: bool) -> Status {
 }
 
 /// Writes the lazy schedule of the trace in a file, or on standard input.
-fn schedule_at(rt: &HostRuntime, path: Option<&str>, explains: bool) -> Status {
+fn schedule_at(rt: &HostRuntime, matches: &ArgMatches, asked: &Asked) -> Status {
+    let path = path(matches, "TRACE");
+    if matches.get_str("TRACE").is_none() {
+        tell_waiting(rt, "trace");
+    }
     run_schedule(
         rt.alloc(),
-        &asked(path, explains),
+        &asked.of(called(path)),
         Input::open(rt, path),
         &mut rt.stdout(),
         &mut rt.stderr(),
@@ -270,11 +317,11 @@ fn schedule_at(rt: &HostRuntime, path: Option<&str>, explains: bool) -> Status {
 }
 
 /// Shows what stands before a row of the trace in a file, or on standard input.
-fn show_at(rt: &HostRuntime, matches: &ArgMatches, explains: bool) -> Status {
+fn show_at(rt: &HostRuntime, matches: &ArgMatches, asked: &Asked) -> Status {
     let trace = path(matches, "TRACE");
     run_show(
         rt.alloc(),
-        &asked(trace, explains),
+        &asked.of(called(trace)),
         matches.get_one::<u32>("ROW"),
         Input::open(rt, trace),
         &mut rt.stdout(),
@@ -283,44 +330,31 @@ fn show_at(rt: &HostRuntime, matches: &ArgMatches, explains: bool) -> Status {
 }
 
 /// Verifies the certificate in one file, which is opened first, beside the trace in another; one of them may be standard input.
-fn verify_at(rt: &HostRuntime, matches: &ArgMatches, explains: bool) -> Status {
+fn verify_at(rt: &HostRuntime, matches: &ArgMatches, asked: &Asked) -> Status {
     let certificate = path(matches, "CERT");
     let trace = path(matches, "TRACE");
     run_verify(
         rt.alloc(),
-        &asked(trace, explains),
+        &asked.of(called(trace)),
         called(certificate),
         Input::open(rt, certificate),
-        || Input::open(rt, trace),
+        || Watched::open(rt, trace),
         &mut rt.stdout(),
         &mut rt.stderr(),
     )
 }
 
 /// Replays the schedule in one file beside the trace in another, which is opened first; one of them may be standard input.
-fn replay_at(rt: &HostRuntime, matches: &ArgMatches, explains: bool) -> Status {
+fn replay_at(rt: &HostRuntime, matches: &ArgMatches, asked: &Asked) -> Status {
     let trace = path(matches, "TRACE");
     let schedule = path(matches, "SCHEDULE");
     run_replay(
         rt.alloc(),
-        &asked(trace, explains),
+        &asked.of(called(trace)),
         called(schedule),
         Input::open(rt, trace),
         || Input::open(rt, schedule),
         &mut rt.stdout(),
         &mut rt.stderr(),
     )
-}
-
-/// How an input is called in messages, and whether a command explains.
-fn asked(path: Option<&str>, explains: bool) -> Asked<'_> {
-    Asked {
-        input: called(path),
-        explains,
-    }
-}
-
-/// How an input is called in messages.
-fn called(path: Option<&str>) -> &str {
-    path.unwrap_or("standard input")
 }

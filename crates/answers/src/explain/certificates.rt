@@ -1,15 +1,56 @@
 //! What is said of the bytes of a certificate: why they are none, or which lease isn't the trace's.
 use super::words::lease_words;
 use certificate::{BadLease, CertFault, first_bad_lease};
+use diagnostics::{Colors, error_line, help_line, note_line};
 use ring_knowledge::Lease;
 use std::alloc::{AllocError, Global};
 
 /// How a certificate is made.
 const HELP: &str = "`xhcitrace check --cert CERT TRACE` writes the trace's certificate";
 
+/// What is said where there is no line to quote.
+#[derive(Debug, Drop)]
+pub struct Remarks {
+    /// What is wrong.
+    pub head: String,
+    /// What was found, and what was expected.
+    pub notes: Vec<String>,
+    /// What helps.
+    pub help: String,
+}
+
+impl Remarks {
+    /// The lines of the remarks, on what is called so.
+    fn lines(&self, alloc: Global, colors: Colors, matter: &str) -> Result<String, AllocError> {
+        let mut lines = error_line(alloc, colors, matter, &self.head)?;
+        for note in &self.notes {
+            lines.push_str(&note_line(alloc, colors, 0, note)?)?;
+        }
+        lines.push_str(&help_line(alloc, colors, 0, &self.help)?)?;
+        Ok(lines)
+    }
+}
+
 /// What a person is told of bytes that are no certificate.
-pub fn no_certificate(alloc: Global, bytes: &[u8], fault: CertFault) -> Result<String, AllocError> {
+pub fn no_certificate(
+    alloc: Global,
+    colors: Colors,
+    bytes: &[u8],
+    fault: CertFault,
+) -> Result<String, AllocError> {
     let (number, name) = (fault.number(), fault.name());
+    match remarks_on_certificate(alloc, bytes, fault)? {
+        Some(remarks) => remarks.lines(alloc, colors, &format!(in alloc; "{number} {name}")?),
+        None => Ok(String::new(alloc)),
+    }
+}
+
+/// What is said of bytes that are no certificate; nothing where these are one.
+pub fn remarks_on_certificate(
+    alloc: Global,
+    bytes: &[u8],
+    fault: CertFault,
+) -> Result<Option<Remarks>, AllocError> {
     let (head, note) = match fault {
         CertFault::Magic => (
             String::from_str(alloc, "the file isn't a certificate")?,
@@ -24,10 +65,13 @@ pub fn no_certificate(alloc: Global, bytes: &[u8], fault: CertFault) -> Result<S
         ),
         CertFault::Field | CertFault::Memory => match first_bad_lease(bytes) {
             Some(bad) => (lease_head(alloc, bad)?, lease_fault(alloc, bad.lease)?),
-            None => return Ok(String::new(alloc)),
+            None => return Ok(None),
         },
     };
-    format!(in alloc; "error[{number} {name}]: {head}\n = note: {note}\n = help: {HELP}\n")
+    let mut notes = Vec::new(alloc);
+    notes.push(note)?;
+    let help = String::from_str(alloc, HELP)?;
+    Ok(Some(Remarks { head, notes, help }))
 }
 
 /// What stands where a certificate's first bytes must.
@@ -83,7 +127,21 @@ fn lease_fault(alloc: Global, lease: Lease) -> Result<String, AllocError> {
 }
 
 /// What a person is told of a certificate that isn't the list of its trace's leases: the first that differs.
-pub fn other_lease(alloc: Global, given: &[Lease], own: &[Lease]) -> Result<String, AllocError> {
+pub fn other_lease(
+    alloc: Global,
+    colors: Colors,
+    given: &[Lease],
+    own: &[Lease],
+) -> Result<String, AllocError> {
+    remarks_on_leases(alloc, given, own)?.lines(alloc, colors, "no")
+}
+
+/// What is said of a certificate that isn't the list of its trace's leases: the first that differs.
+pub fn remarks_on_leases(
+    alloc: Global,
+    given: &[Lease],
+    own: &[Lease],
+) -> Result<Remarks, AllocError> {
     let same = given
         .iter()
         .zip(own.iter())
@@ -92,7 +150,13 @@ pub fn other_lease(alloc: Global, given: &[Lease], own: &[Lease]) -> Result<Stri
     let number = same.saturating_add(1);
     let there = lease_words(alloc, given.get(same).copied())?;
     let wanted = lease_words(alloc, own.get(same).copied())?;
-    format!(in alloc;
-        "error[no]: the certificate isn't the list of the trace's leases\n = note: lease {number} of the certificate: {there}\n = note: lease {number} of the trace: {wanted}\n = help: no row breaks a rule; {HELP}\n"
-    )
+    let mut notes = Vec::new(alloc);
+    notes.push(format!(in alloc; "lease {number} of the certificate: {there}")?)?;
+    notes.push(format!(in alloc; "lease {number} of the trace: {wanted}")?)?;
+    let head = String::from_str(
+        alloc,
+        "the certificate isn't the list of the trace's leases",
+    )?;
+    let help = format!(in alloc; "no row breaks a rule; {HELP}")?;
+    Ok(Remarks { head, notes, help })
 }

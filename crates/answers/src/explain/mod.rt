@@ -1,8 +1,7 @@
 //! Second lines on standard error: in plain words what is wrong, for a person.
-ghost use Rattle.std.specs.Prelude.{IfOk, string_bytes};
-ghost use Rattle.traces.specs.Header.{IsHeader};
+ghost use Rattle.std.specs.Prelude.{◌≡◌, ◌||◌, ◌&&◌, true, IfOk, string_bytes};
 ghost use Rattle.std.specs.IoError.{error_kind};
-ghost use Rattle.answers.specs.Answers.{answer_of_kind};
+ghost use Rattle.answers.specs.Answers.{answer_of_kind, is_refused};
 ghost use Rattle.answers.specs.Telling.{IsNote, IsNoteOnFailure, IsPlainNote, IsReason};
 
 mod certificates;
@@ -10,21 +9,24 @@ mod harms;
 mod words;
 
 use crate::answer::Answer;
-use crate::decode::BlockWords;
 use crate::replay_lines::ReplayEnd;
+use block_text::BlockWords;
 use certificates::{no_certificate, other_lease};
+pub use certificates::{Remarks, remarks_on_certificate, remarks_on_leases};
 use controller_findings::{notes_on_harm, notes_on_stuck};
 use diagnostics::{
-    Matter, explain_bad_line, explain_plan_line, explain_schedule_line, explain_step,
+    Class, Colors, Diagnostic, Explanation, Matter, View, diagnostic_of_schedule_line,
+    diagnostic_of_step, explain_bad_line, explain_plan_line,
 };
 use explanations::{explain_refused, explain_unfollowed};
+pub use harms::harm_note;
 use harms::harm_words;
 use ownership_rules::Refusal;
 use plan_writer::PlanRefusal;
 use ring_knowledge::Lease;
 use std::alloc::{AllocError, Global};
 use std::io;
-use traces::{Header, TraceRow};
+use traces::Trace;
 
 /// What a command is asked for beside its answer.
 #[derive(Clone, Copy)]
@@ -33,6 +35,82 @@ pub struct Asked<'a> {
     pub input: &'a str,
     /// Whether what is wrong is told in plain words too.
     pub explains: bool,
+    /// Whether these words are coloured.
+    pub colors: Colors,
+    /// Whether the class of a refusal is looked for, which what explains it alone tells.
+    pub classifies: bool,
+}
+
+impl<'a> Asked<'a> {
+    /// How a diagnostic of the input is shown.
+    pub fn view(&self) -> View<'a>
+        ensures path { result.path.now ≡ self.now.input.now }
+        ensures colors { result.colors ≡ self.now.colors }
+    {
+        View {
+            path: self.input,
+            colors: self.colors,
+        }
+    }
+
+    /// The same of another input.
+    pub fn of<'b>(&self, input: &'b str) -> Asked<'b>
+        ensures input { result.input.now ≡ input.now }
+        ensures explains { result.explains ≡ self.now.explains }
+        ensures colors { result.colors ≡ self.now.colors }
+        ensures classifies { result.classifies ≡ self.now.classifies }
+    {
+        Asked {
+            input,
+            explains: self.explains,
+            colors: self.colors,
+            classifies: self.classifies,
+        }
+    }
+
+    /// The same, where what is wrong is told.
+    pub fn explaining(&self) -> Asked<'a>
+        ensures input { result.input.now ≡ self.now.input.now }
+        ensures explains { result.explains ≡ true }
+        ensures colors { result.colors ≡ self.now.colors }
+        ensures classifies { result.classifies ≡ self.now.classifies }
+    {
+        Asked {
+            input: self.input,
+            explains: true,
+            colors: self.colors,
+            classifies: self.classifies,
+        }
+    }
+
+    /// Whether an answer may have to be explained.
+    pub fn may_explain(&self) -> bool
+        ensures { result ≡ self.now.explains || self.now.classifies }
+    {
+        self.explains || self.classifies
+    }
+
+    /// Whether this answer is explained, to be told or for its class.
+    pub fn is_explained(&self, answer: &Answer) -> bool
+        ensures { result ≡ self.now.explains || (self.now.classifies && is_refused answer.now) }
+    {
+        let is_refused = matches!(answer, Answer::Refused { .. } | Answer::HarmShown { .. });
+        self.explains || (self.classifies && is_refused)
+    }
+
+    /// What explains an answer, as far as it is told: where it was looked for its class, nothing but that.
+    pub fn as_told(&self, alloc: Global, explained: Explanation) -> Explanation
+        ensures note { (answer : Answer) → IsNote self.now.explains answer (string_bytes result.text) }
+        ensures class { result.class ≡ explained.class }
+    {
+        if self.explains {
+            return explained;
+        }
+        Explanation {
+            text: String::new(alloc),
+            class: explained.class,
+        }
+    }
 }
 
 /// What a person is told of an answer to a trace, beside its line.
@@ -44,22 +122,48 @@ pub fn note_on_trace(
 ) -> Result<String, AllocError>
     ensures { IfOk result (λ note. IsNote asked.now.explains answer.now (string_bytes note)) }
 {
+    let told = explain_trace(alloc, asked, text, answer)?;
+    Ok(told.text)
+}
+
+/// The same, with the class of a refusal.
+pub fn explain_trace(
+    alloc: Global,
+    asked: &Asked,
+    text: &[u8],
+    answer: &Answer,
+) -> Result<Explanation, AllocError>
+    ensures { IfOk result (λ note. IsNote asked.now.explains answer.now (string_bytes note.text)) }
+{
     if !asked.explains {
-        return Ok(String::new(alloc));
+        return Ok(broken(String::new(alloc)));
     }
     match answer {
         Answer::BadLine { line, fault } => {
-            explain_bad_line(alloc, asked.input, text, *line, *fault)
+            let told = explain_bad_line(alloc, &asked.view(), text, *line, *fault)?;
+            Ok(broken(told))
         }
         Answer::Refused { row, refusal } => {
-            explain_refused(alloc, asked.input, text, *row, *refusal)
+            explain_refused(alloc, &asked.view(), text, *row, *refusal)
         }
         Answer::HarmShown { row, refusal, harm } => {
-            let mut note = explain_refused(alloc, asked.input, text, *row, *refusal)?;
-            note.push_str(&harm_words(alloc, *row, harm)?)?;
+            let mut note = explain_refused(alloc, &asked.view(), text, *row, *refusal)?;
+            let words = harm_words(alloc, asked.colors, *row, harm)?;
+            note.text.push_str(&words)?;
             Ok(note)
         }
-        _ => Ok(String::new(alloc)),
+        _ => Ok(broken(String::new(alloc))),
+    }
+}
+
+/// What is told of a line that isn't left unjudged.
+pub fn broken(text: String) -> Explanation
+    ensures text { result.text ≡ text }
+    ensures class { result.class ≡ Class.Broken }
+{
+    Explanation {
+        text,
+        class: Class::Broken,
     }
 }
 
@@ -77,10 +181,10 @@ pub fn note_on_plan(
     }
     match answer {
         Answer::BadLine { line, fault } => {
-            explain_plan_line(alloc, asked.input, text, *line, *fault)
+            explain_plan_line(alloc, &asked.view(), text, *line, *fault)
         }
         Answer::Unfollowed { line, refusal } => {
-            explain_unfollowed(alloc, asked.input, text, *line, matter_of(*refusal))
+            explain_unfollowed(alloc, &asked.view(), text, *line, matter_of(*refusal))
         }
         _ => Ok(String::new(alloc)),
     }
@@ -97,42 +201,53 @@ fn matter_of(refusal: PlanRefusal) -> Matter {
     }
 }
 
-/// What a person is told of an answer to a schedule beside the rows of a trace from the line `first` on, beside its line.
+/// What a person is told of an answer to a schedule beside a trace, beside its line.
 pub fn note_on_schedule(
     alloc: Global,
     asked: &Asked,
-    header: &Header,
-    first: u32,
-    rows: &[TraceRow],
+    trace: &Trace,
     text: &[u8],
     answer: &Answer,
 ) -> Result<String, AllocError>
-    requires { IsHeader header.now }
     ensures { IfOk result (λ note. IsNote asked.now.explains answer.now (string_bytes note)) }
 {
     if !asked.explains {
         return Ok(String::new(alloc));
     }
-    match answer {
+    match diagnostic_on_schedule(alloc, trace, text, answer)? {
+        Some(diagnostic) => diagnostic.told(alloc, &asked.view()),
+        None => Ok(String::new(alloc)),
+    }
+}
+
+/// What is wrong with a line of a schedule beside a trace, or with a step, where an answer says that one is.
+pub fn diagnostic_on_schedule(
+    alloc: Global,
+    trace: &Trace,
+    text: &[u8],
+    answer: &Answer,
+) -> Result<Option<Diagnostic>, AllocError> {
+    let diagnostic = match answer {
         Answer::BadLine { line, fault } => {
-            explain_schedule_line(alloc, asked.input, text, *line, *fault)
+            diagnostic_of_schedule_line(alloc, text, *line, *fault)?
         }
         Answer::Replayed {
             ending: ReplayEnd::Harmful { step, harm },
             seen,
         } => {
-            let found = notes_on_harm(alloc, header, first, rows, *harm, seen.as_slice())?;
-            explain_step(alloc, asked.input, text, *step, Some(*harm), found)
+            let found = notes_on_harm(alloc, trace, *harm, seen.as_slice())?;
+            diagnostic_of_step(alloc, text, *step, Some(*harm), found)?
         }
         Answer::Replayed {
             ending: ReplayEnd::NotPossible { step },
             seen,
         } => {
-            let found = notes_on_stuck(alloc, first, rows, seen.as_slice())?;
-            explain_step(alloc, asked.input, text, *step, None, found)
+            let found = notes_on_stuck(alloc, trace, seen.as_slice())?;
+            diagnostic_of_step(alloc, text, *step, None, found)?
         }
-        _ => Ok(String::new(alloc)),
-    }
+        _ => return Ok(None),
+    };
+    Ok(Some(diagnostic))
 }
 
 /// What a person is told of an answer to the bytes of a certificate, beside its line.
@@ -148,7 +263,7 @@ pub fn note_on_certificate(
         return Ok(String::new(alloc));
     }
     match answer {
-        Answer::BadCertificate { fault } => no_certificate(alloc, bytes, *fault),
+        Answer::BadCertificate { fault } => no_certificate(alloc, asked.colors, bytes, *fault),
         _ => Ok(String::new(alloc)),
     }
 }
@@ -166,7 +281,7 @@ pub fn note_on_leases(
     if !asked.explains {
         return Ok(String::new(alloc));
     }
-    other_lease(alloc, given, own)
+    other_lease(alloc, asked.colors, given, own)
 }
 
 /// What a person is told of an answer to words, where these make no block.

@@ -1,5 +1,5 @@
 -- A row more of a pass
-use Rattle.ownership_checker.proofs.LowerLaws.{◌≡◌, ◌+◌, ◌++◌, ◌∷◌, ◌∙◌, ℕ, true, false, List, [], All, Option, Some, None, Result, IfErr, suc, length, reverse, arith, refl, sym, ap, subst, inl, inr, reverse-append, All-cons, All-head, All-nil, All-tail, Header, Known, Ring, IsHeader, DriverKeeps, nothing, on_ring, false≢true, lenient_row, nothing_kept, clean_tests, EventState, Xfer, Row, TraceRow, Plain, Comes, Goes, id_below, IsAmong, TraceRecord, FollowsTrace, IsWithin, IsLeast, IsRowStep, Refusal, IsTracked, ContextsFit, IsComing, forgotten, is_bad_free, is_bad_ring, with_ring, without_ring, AreKept, FitsFields, header_now, known_now, is_left, restored, restored_on, ring_restored, some_flips, row_comes, stopped_still, BadFree, BadRing, BadWithdraw, withdraws_badly, restored_same, IsLeastOfRow, DoNoHarm, IsRingPassed, NothingFree, RingPass, kept_driver, Withdraws, IsFinder, contexts_fit, EntriesFit, nothing_fits, still_fit, row_keeps, withdraw_keeps, gone_ring_kept, comes_keeps, rings_headline, IsRingStep, least_broken, none_broken, reversed_twice, rules}
+use Rattle.ownership_checker.proofs.LowerLaws.{◌≡◌, ◌+◌, ◌++◌, ◌∷◌, ◌∙◌, ℕ, headline, true, false, List, [], All, Option, Some, None, Result, IfErr, suc, length, reverse, arith, refl, sym, ap, subst, inl, inr, reverse-append, All-cons, All-head, All-nil, All-tail, Header, Known, Ring, IsHeader, DriverKeeps, nothing, on_ring, false≢true, lenient_row, nothing_kept, clean_tests, EventState, Xfer, Row, TraceRow, Plain, Comes, Goes, id_below, IsAmong, TraceRecord, FollowsTrace, IsWithin, IsLeast, IsRowStep, Refusal, IsTracked, ContextsFit, IsComing, forgotten, is_bad_free, is_bad_ring, with_ring, without_ring, AreKept, FitsFields, header_now, known_now, is_left, restored, restored_on, ring_restored, some_flips, row_comes, stopped_still, BadFree, BadRing, BadWithdraw, withdraws_badly, restored_same, IsLeastOfRow, DoNoHarm, IsRingPassed, NothingFree, RingPass, kept_driver, Withdraws, IsFinder, contexts_fit, EntriesFit, nothing_fits, still_fit, row_keeps, withdraw_keeps, gone_ring_kept, comes_keeps, IsRingStep, least_broken, none_broken, reversed_twice, rules}
 use Rattle.trace_record.proofs.RingFinder.HeaderRings.{shape_allowed}
 use Rattle.leases.proofs.LeaseRows.EntriesFit.{row_fits}
 use Rattle.ownership_checker.proofs.RingPasses.Histories.{comes_free, driver_same, flips_none_restored, goes_free, kept_now, no_rule_broken, nothing_free, plain_free, stands_where_restored}
@@ -187,7 +187,7 @@ module _ {B M : Type 0} (words : M → ℕ → ℕ) where
 
     -- no run beside the rows, in their order, does harm
     pub no_harm : All FitsFields past → DoNoHarm h (reverse past)
-    no_harm are = rings_headline h (reverse past) p.opening (all_reversed past are) (subst (AreKept h) (sym (reversed_twice past)) (kept_now h past p.clean))
+    no_harm are = headline h (reverse past) p.opening (all_reversed past are) (subst (AreKept h) (sym (reversed_twice past)) (kept_now h past p.clean))
 
   -- ---- a ring that is refused, whatever rows were passed before it
 

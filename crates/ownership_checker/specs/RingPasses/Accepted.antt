@@ -11,7 +11,7 @@ use Rattle.safety.specs.RingsKeep.{IsDriverRing}
 use Rattle.leases.specs.LeaseBooks.Lents.{lease_of}
 use Rattle.safety.specs.RingChanges.Histories.{header_now, known_now}
 use Rattle.leases.specs.RingLeases.RingLents.{ring_lents}
-use Rattle.ownership_checker.specs.RingPasses.Passing.{DoNoHarm}
+use Rattle.safety.specs.Harmless.{DoNoHarm}
 use Rattle.ownership_checker.specs.RingPasses.Rules.{ring_verdict}
 
 -- the leases of the rows, as they begin: by their first row, then kind, ring and position; first is the number of the first row

@@ -9,7 +9,8 @@ use Rattle.leases.specs.LeaseBooks.Lents.{Lent, lents}
 use Rattle.safety.specs.RingChanges.Histories.{header_now, known_now}
 use Rattle.ownership_checker.specs.RingPasses.Accepted.{WalksRead}
 use Rattle.ownership_checker.specs.RingPasses.Clean.{AreClean}
-use Rattle.ownership_checker.specs.RingPasses.Passing.{DoNoHarm, IsRingLogged, IsRingPassed}
+use Rattle.safety.specs.Harmless.{DoNoHarm}
+use Rattle.ownership_checker.specs.RingPasses.Passing.{IsRingLogged, IsRingPassed}
 use Rattle.ownership_checker.specs.RingPasses.Rules.{ring_verdict}
 use Rattle.ownership_checker.specs.declared.pass.behind.Behind.{Behind}
 use Rattle.ownership_checker.specs.declared.pass.ring_pass.RingPass.{RingPass}

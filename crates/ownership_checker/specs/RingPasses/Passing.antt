@@ -1,15 +1,12 @@
--- How far a pass has come over rows between which rings come and go, and descriptors are withdrawn, and what that comes to
-use Rattle.std.specs.Prelude.{◌≡◌, ℕ, false, List, All, Some, length}
+-- How far a pass has come over rows between which rings come and go, and descriptors are withdrawn
+use Rattle.std.specs.Prelude.{◌≡◌, ℕ, false, List, length}
 use Rattle.segments.specs.RingKeeps.{IsRestored}
 use Rattle.traces.specs.declared.header.Header.{Header}
-use Rattle.traces.specs.declared.step.Step.{Step}
 use Rattle.traces.specs.declared.trace_row.TraceRow.{TraceRow}
 use Rattle.traces.specs.Header.{IsHeader}
-use Rattle.traces.specs.Rows.{IsStep}
-use Rattle.world_state.specs.Harms.{IsSafe}
 use Rattle.ring_knowledge.specs.Known.{Known}
 use Rattle.trace_record.specs.RingFinder.Finding.{IsFinder}
-use Rattle.safety.specs.RingChanges.Histories.{Scene, header_now, known_now, scene_reached}
+use Rattle.safety.specs.RingChanges.Histories.{header_now, known_now}
 use Rattle.trace_record.specs.Fresh.{IsWithin}
 use Rattle.ownership_checker.specs.JudgedRows.Tracking.{IsTracked}
 use Rattle.leases.specs.LeaseBooks.Lents.{Lent}
@@ -40,7 +37,3 @@ pub record IsRingPassed {B M : Type 0} (words : M → ℕ → ℕ) (h : Header) 
 -- oldest row
 abbrev pub IsRingLogged : {B M : Type 0} → (Header → List Lent → B → Type 0) → Header → ℕ → List TraceRow → RingPass B M → Type 0
 IsRingLogged Holds h first past pass = HoldsAll Holds (header_now h past) (ring_lents h first past) pass.log pass.ranges
-
--- behind each step of each run of the controller's model beside the rows, in their order, the world is safe
-abbrev pub DoNoHarm : Header → List TraceRow → Type 0
-DoNoHarm h rows = (steps : List Step) (x : Scene) → All IsStep steps → scene_reached h rows steps ≡ Some x → IsSafe x.header x.world

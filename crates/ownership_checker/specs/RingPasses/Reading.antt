@@ -2,29 +2,22 @@
 use Rattle.std.specs.Prelude.{◌≡◌, ℕ, Bool, List, [], Option, None, Ok, reverse}
 use Rattle.traces.specs.declared.header.Header.{Header}
 use Rattle.traces.specs.declared.trace_row.TraceRow.{TraceRow}
-use Rattle.trace_reader.specs.DriverRows.{text_taken}
-use Rattle.trace_reader.specs.Reading.{TraceText}
-use Rattle.trace_reader.specs.declared.fault.LineFault.{LineFault}
-use Rattle.trace_reader.specs.Streaming.Streams.{IsBadTaken, OfStream}
+use Rattle.trace_reader.specs.Reading.{TraceText, trace_of}
+use Rattle.trace_reader.specs.Streaming.Streams.{OfStream}
 use Rattle.trace_reader.specs.declared.row_reader.reader.RowReader.{RowReader}
 use Rattle.ownership_rules.specs.declared.refusal.Refusal.{Refusal}
 use Rattle.leases.specs.LeaseBooks.Lents.{Lent, lents}
 use Rattle.safety.specs.RingChanges.Histories.{header_now}
 use Rattle.leases.specs.RingLeases.RingLents.{ring_lents}
 use Rattle.ownership_checker.specs.RingPasses.Accepted.{WalksRead}
-use Rattle.ownership_checker.specs.RingPasses.Passing.{DoNoHarm}
-use Rattle.ownership_checker.specs.RingPasses.RingRows.{ring_row}
+use Rattle.safety.specs.Harmless.{DoNoHarm}
 use Rattle.ownership_checker.specs.RingPasses.Rules.{ring_verdict}
 use Rattle.ownership_checker.specs.declared.pass.reading.Passed.{Passed}
 use Rattle.ownership_checker.specs.declared.pass.reading.Passed.TheVariants.{Whole, Refused}
 
 -- so it is of a trace that this text says, whose rows are all kept or not
 abbrev pub OfTrace : Bool → Option (List ℕ) → Option (List ℕ) → (TraceText → Type 0) → Type 0
-OfTrace keeps held held' P = (trace : TraceText) × OfStream held held' (λ text. text_taken keeps ring_row text ≡ Ok trace) × P trace
-
--- this is the first bad line of this text, and its least fault
-abbrev pub IsBadLine : Bool → Option (List ℕ) → Option (List ℕ) → ℕ → LineFault → Type 0
-IsBadLine keeps held held' line fault = IsBadTaken keeps ring_row held held' line fault
+OfTrace keeps held held' P = (trace : TraceText) × OfStream held held' (λ text. trace_of keeps text ≡ Ok trace) × P trace
 
 -- the log keeps the leases that stand before the first row
 abbrev pub Begins : {B : Type 0} → (Header → List Lent → B → Type 0) → RowReader → B → Type 0

@@ -4,10 +4,9 @@ ghost use Rattle.traces.specs.declared.trace_row.TraceRow.{TraceRow};
 ghost use Rattle.ring_knowledge.specs.declared.lease.Lease.{Lease};
 ghost use Rattle.trace_reader.specs.Streaming.Answers.{told_failures};
 ghost use Rattle.trace_reader.specs.Streaming.ReaderState.{IsOpened, keeps_rows};
-ghost use Rattle.trace_reader.specs.Streaming.Streams.{HasRead, IfBadLine, OfStream};
-ghost use Rattle.trace_reader.specs.DriverRows.{text_taken};
-ghost use Rattle.ownership_checker.specs.RingPasses.Reading.{Begins, IfRefusedRow, IfWhole, IsBadLine, IsWholeLog, OfTrace, with_rows};
-ghost use Rattle.ownership_checker.specs.RingPasses.RingRows.{ring_row};
+ghost use Rattle.trace_reader.specs.Streaming.Streams.{HasRead, IfBadLine, IsBadLine, OfStream};
+ghost use Rattle.trace_reader.specs.Reading.{trace_of};
+ghost use Rattle.ownership_checker.specs.RingPasses.Reading.{Begins, IfRefusedRow, IfWhole, IsWholeLog, OfTrace, with_rows};
 ghost use Rattle.ownership_checker.specs.RingPasses.Rules.{ring_verdict};
 
 use crate::pass::ring_pass::RingPass;
@@ -84,9 +83,9 @@ fn ended_at<S: Source, B: Drop>(
 ) -> Result<Passed<B>, StreamFault>
     ensures whole { IfOk result (λ passed. IfWhole passed (λ kept. ⊥)) }
     ensures refused { IfOk result (λ passed. IfRefusedRow passed (λ row c. (row ≡ number) × (fault ≡ Refused c) ×
-        ((held : Option (List ℕ)) (first : ℕ) (done : List TraceRow) → HasRead ring_row held (S.held source.old) first done reader.old →
-        (more : List TraceRow) × OfStream held (S.held source.new) (λ text. text_taken (keeps_rows reader.old) ring_row text ≡ Ok (with_rows reader.old first (done ++ more)))))) }
-    ensures line { IfErr result (λ e. IfBadLine e (λ line fault. (held : Option (List ℕ)) (first : ℕ) (done : List TraceRow) → HasRead ring_row held (S.held source.old) first done reader.old →
+        ((held : Option (List ℕ)) (first : ℕ) (done : List TraceRow) → HasRead held (S.held source.old) first done reader.old →
+        (more : List TraceRow) × OfStream held (S.held source.new) (λ text. trace_of (keeps_rows reader.old) text ≡ Ok (with_rows reader.old first (done ++ more)))))) }
+    ensures line { IfErr result (λ e. IfBadLine e (λ line fault. (held : Option (List ℕ)) (first : ℕ) (done : List TraceRow) → HasRead held (S.held source.old) first done reader.old →
         IsBadLine (keeps_rows reader.old) held (S.held source.new) line fault)) }
     ensures failures { S.failed source.new ≡ told_failures (S.failed source.old) result }
 {
@@ -104,9 +103,9 @@ fn ended_at<S: Source, B: Drop>(
 
 /// Reads the rows that are left, for a bad line among theirs.
 fn read_on<S: Source>(reader: &mut RowReader, source: &mut S) -> Result<(), StreamFault>
-    ensures rows { OnOk result ((held : Option (List ℕ)) (first : ℕ) (done : List TraceRow) → HasRead ring_row held (S.held source.old) first done reader.old →
-        (more : List TraceRow) × OfStream held (S.held source.new) (λ text. text_taken (keeps_rows reader.old) ring_row text ≡ Ok (with_rows reader.old first (done ++ more)))) }
-    ensures line { IfErr result (λ e. IfBadLine e (λ line fault. (held : Option (List ℕ)) (first : ℕ) (done : List TraceRow) → HasRead ring_row held (S.held source.old) first done reader.old →
+    ensures rows { OnOk result ((held : Option (List ℕ)) (first : ℕ) (done : List TraceRow) → HasRead held (S.held source.old) first done reader.old →
+        (more : List TraceRow) × OfStream held (S.held source.new) (λ text. trace_of (keeps_rows reader.old) text ≡ Ok (with_rows reader.old first (done ++ more)))) }
+    ensures line { IfErr result (λ e. IfBadLine e (λ line fault. (held : Option (List ℕ)) (first : ℕ) (done : List TraceRow) → HasRead held (S.held source.old) first done reader.old →
         IsBadLine (keeps_rows reader.old) held (S.held source.new) line fault)) }
     ensures failures { S.failed source.new ≡ told_failures (S.failed source.old) result }
 {

@@ -17,12 +17,13 @@ ghost use Rattle.leases.specs.LeaseBooks.InStep.{AreOpen};
 ghost use Rattle.leases.specs.LeaseBooks.Lents.{Lent, ended_where, lents};
 ghost use Rattle.leases.specs.RingLeases.RingLents.{is_of_ring, ring_lents};
 ghost use Rattle.trace_record.specs.FollowsTrace.{FollowsTrace};
+ghost use Rattle.safety.specs.Harmless.{DoNoHarm};
 ghost use Rattle.safety.specs.RingChanges.Histories.{FitsFields, header_now, known_now};
 ghost use Rattle.trace_record.specs.Steps.{IfRefused};
 ghost use Rattle.trace_record.specs.RowPlaces.{IsPlaced};
 ghost use Rattle.ownership_checker.specs.RingPasses.Clean.{IsLeastOfRow};
 ghost use Rattle.ownership_checker.specs.RingPasses.KeptRows.{IsBehind};
-ghost use Rattle.ownership_checker.specs.RingPasses.Passing.{DoNoHarm, IsRingLogged, IsRingPassed};
+ghost use Rattle.ownership_checker.specs.RingPasses.Passing.{IsRingLogged, IsRingPassed};
 
 mod withdrawals;
 

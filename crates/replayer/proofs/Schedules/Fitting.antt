@@ -1,83 +1,7 @@
--- The lazy schedule of a clean trace names rings and blocks that there are
-use Rattle.replayer.proofs.Words.{rules, ◌≡◌, ℕ, ◌+◌, ◌<◌, ◌-◌, List, [], ◌∷◌, ◌++◌, Option, Some, arith, append-nil, subst, sym, ◌==◌, reverse, nat_lt, All, option_map, and_parts, cond_both, eqb-true, ltb-true, none-some, same_Some, get_or-reverse, length-reverse, All-append, All-cons, All-head, All-map, All-nil, All-tail, All-weaker, Block, BlockKind, CommandCompletion, TransferEvent, IsBlock, Spot, number, Header, Row, Read, Step, Look, IsHeader, command_id, shape_of, AreSteps, IsRow, IsStep, IsTraceRow, TraceRow, Comes, Goes, Plain, Withdraws, Known, RingSpot, event_at, spot_on, lenient, DriverKeeps, IsDriverRing, event_facts, header_parts, transfer_driver, found_allowed, found_passes, command_is_ring, AreKept, FitsFields, IsKept, header_now, known_now, gone_ring_header, row_keeps, comes_header, Keeps, now_keeps, kept_on, later_kept, one_more, KeepHeaders, command_taken, goals, lazy_run, lazy_steps, looks_to, open_goals, pointers_at, post_of, report_goals, spots_before, steps_before, steps_for, stop_goal, stopped_goals, taken_up_to, flat_map}
-
-all_reverse : {X : Type 0} (P : X → Type 0) (xs : List X) → All P xs → All P (reverse xs)
-all_reverse P xs are = grind (arith, length-reverse, get_or-reverse)
-
-abbrev IsLow : RingSpot → Type 0
-IsLow goal = goal.ring < 256
+-- Rows that break no rule: the rings behind each may stand in a header, and each fits its fields
+use Rattle.replayer.proofs.Words.{List, [], ◌∷◌, ◌++◌, arith, append-nil, subst, sym, reverse, All, All-cons, All-head, All-nil, All-tail, All-weaker, Header, IsHeader, IsTraceRow, IsRowOf, AreRowsOf, TraceRow, Version, Comes, Goes, Plain, Withdraws, AreKept, FitsFields, header_now, known_now, gone_ring_header, comes_header, now_keeps, kept_on, later_kept, one_more, KeepHeaders}
 
 module _ (h : Header) (headed : IsHeader h) where
-  low : (r : ℕ) → IsDriverRing h r → r < 256
-  low r is = grind (arith, eqb-true, found_passes, found_allowed, nat_lt, header_parts, ltb-true, and_parts)
-
-  looks_are : (p : ℕ → Spot) (goal : RingSpot) → IsLow goal → AreSteps (looks_to h p goal)
-  unfolding looks_to
-  looks_are p goal is_low = All-map IsStep (λ (t : Spot). Look goal.ring) (spots_before (shape_of h goal.ring) (p goal.ring) goal.spot) (λ k d inside. is_low)
-
-  all_looks : (p : ℕ → Spot) (list : List RingSpot) → All IsLow list → AreSteps (flat_map (looks_to h p) list)
-  all_looks p [] are = All-nil IsStep
-  all_looks p (goal ∷ rest) are = search (rules, All-append, looks_are, All-head, All-tail, all_looks p rest (All-tail IsLow goal rest are))
-
-  post_is : (k : BlockKind) (b : Block) → IsBlock b → IsStep (post_of h k b)
-  unfolding post_of
-  post_is k b is = grind arith
-
-  one : (goal : RingSpot) → IsLow goal → All IsLow (goal ∷ [])
-  one goal is_low = All-cons IsLow goal [] is_low (All-nil IsLow)
-
-  stop_low : (at : RingSpot) (n : ℕ) → IsLow at → IsLow (stop_goal h at n)
-  unfolding stop_goal taken_up_to
-  stop_low at n is_low = cond_both (n == number at.spot + 1) (taken_up_to h at.ring n) at IsLow (λ _. is_low) (λ _. is_low)
-
-  module _ (k : Known) (d : DriverKeeps h k) (later : List TraceRow) (b : Block) (command_low : command_id h < 256) where
-    command_goal_low : IsLow (command_taken h k)
-    unfolding command_taken taken_up_to
-    command_goal_low = command_low
-
-    bound_low : (s i r : ℕ) → k.ring_of s i ≡ Some r → r < 256
-    bound_low s i r bound = low r (transfer_driver h r (d.states.transfer s i r bound))
-
-    open_low : (o : Option ℕ) → ((r : ℕ) → o ≡ Some r → r < 256) → All IsLow (open_goals h k later b o)
-    unfolding open_goals taken_up_to
-    open_low o are = grind (arith, All-nil, cond_both)
-
-    goals_low : (of : BlockKind) → All IsLow (goals h k later of b)
-    unfolding goals event_at spot_on report_goals taken_up_to stopped_goals
-    goals_low TransferEvent = search (rules, All-nil, cond_both, All-cons, command_goal_low, stop_low, none-some, Option, option_map, same_Some, bound_low)
-    goals_low CommandCompletion = search (rules, All-cons, command_goal_low, cond_both, open_low, bound_low, All-nil)
-    goals_low _ = All-nil IsLow
-
-  row_steps_are : (k : Known) (p : ℕ → Spot) (row : Row) (later : List TraceRow) → DriverKeeps h k → IsRow row → lenient h k row ≡ [] → AreSteps (steps_before h k p row later)
-  unfolding steps_before
-  row_steps_are k p (Read b) later d is clean =
-      let command_low : command_id h < 256 = low (command_id h) (command_is_ring h k d (event_facts h k b clean).started) in
-      search (rules, All-append, all_looks, goals_low, All-cons, post_is, All-nil)
-  row_steps_are k p _ later d is clean = All-nil IsStep
-
-module _ (h : Header) (headed : IsHeader h) where
-  for_row : (past later : List TraceRow) (row : TraceRow) (p : ℕ → Spot) → Keeps h headed past → FitsFields row → IsKept (header_now h past) (known_now h past) row →
-      AreSteps (steps_for (header_now h past) (known_now h past) p row later)
-  unfolding steps_for
-  for_row past later (Plain row) p keeps is kept = search (rules, row_steps_are, row_keeps)
-  for_row past later _ p keeps is kept = All-nil IsStep
-
-  run_is : (past later : List TraceRow) → All FitsFields past → AreKept h past → AreSteps (lazy_run h past later)
-  unfolding lazy_run
-  run_is [] later are kept = All-nil IsStep
-  run_is (row ∷ past) later are kept =
-      let g : Header = header_now h past in
-      let k : Known = known_now h past in
-      let made : All FitsFields past = All-tail FitsFields row past are in
-      let keeps : Keeps h headed past = now_keeps h headed past made kept.0 (kept_on g k row kept.1) in
-      let p : ℕ → Spot = pointers_at h past (row ∷ later) in
-      let before : List Step = steps_for g k p row later in
-      search (rules, All-cons, All-append, all_reverse, for_row, All-head, run_is past (row ∷ later) made kept.0)
-
-  pub lazy_steps_are : (rows : List TraceRow) → All FitsFields rows → AreKept h (reverse rows) → AreSteps (lazy_steps h rows)
-  unfolding lazy_steps
-  lazy_steps_are rows are kept = all_reverse IsStep (lazy_run h (reverse rows) []) (run_is (reverse rows) [] (all_reverse FitsFields rows are) kept)
-
   -- the rings behind each row may stand in a header
   keep_headers : (rows past : List TraceRow) → All FitsFields past → All FitsFields rows → AreKept h (reverse rows ++ past) → KeepHeaders (header_now h past) rows
   keep_headers [] past made left kept = tt
@@ -103,7 +27,11 @@ module _ (h : Header) (headed : IsHeader h) where
 
 -- what a row's line can say fits its fields
 row_fits : (row : TraceRow) → IsTraceRow row → FitsFields row
-row_fits row is = grind (arith, low)
+row_fits row is = grind arith
 
 pub rows_fit : (rows : List TraceRow) → All IsTraceRow rows → All FitsFields rows
 rows_fit rows are = All-weaker IsTraceRow FitsFields row_fits rows are
+
+-- each row of a version fits its line
+pub rows_of_fit : (version : Version) (rows : List TraceRow) → AreRowsOf version rows → All IsTraceRow rows
+rows_of_fit version rows are = All-weaker (IsRowOf version) IsTraceRow (λ row is. is.0) rows are

@@ -6,8 +6,9 @@ use Rattle.traces.specs.declared.step.Step.{Step}
 use Rattle.traces.specs.declared.step.Step.TheVariants.{NextRow}
 use Rattle.world_state.specs.declared.harm.Harm.{Harm}
 use Rattle.world_state.specs.Harms.{harm_of}
-use Rattle.controller_model.specs.Scenes.{Scene, scene_reached, scene_replayed}
-use Rattle.controller_model.specs.Steps.{Harmful}
+use Rattle.world_state.specs.Scenes.{Scene, scene_reached}
+use Rattle.controller_model.specs.Showing.{scene_replayed}
+use Rattle.world_state.specs.Steps.{Harmful}
 
 abbrev pub makes_row : Step → Bool
 makes_row NextRow = true
@@ -17,8 +18,8 @@ makes_row _ = false
 abbrev pub rows_made : List Step → ℕ
 rows_made steps = length (filter makes_row steps)
 
--- these steps are a run beside the rows, of which it makes no more than the first n, and the world after the last step isn't safe, by the rings
--- that are there then, with this as its least harm; before that step it was safe, so the replay ends there
+-- these steps are a run beside the rows, of which it makes no more than the first n, and the world after the last step isn't safe, with this as
+-- the least harm of the rings that were declared by then; before that step it was safe, so the replay ends there
 pub record DoesHarm (h : Header) (rows : List TraceRow) (n : ℕ) (steps : List Step) (harm : Harm) : Type 0 where
   pub scene : Scene
   pub run : scene_reached h rows (reverse steps) ≡ Some scene

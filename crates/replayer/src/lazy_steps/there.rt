@@ -3,7 +3,7 @@ ghost use Rattle.traces.specs.Header.{IsHeader};
 ghost use Rattle.traces.specs.TraceRows.{IsTraceRow};
 ghost use Rattle.trb.specs.declared.ring_kind.RingKind.TheVariants.{Xfer};
 ghost use Rattle.trace_record.specs.RingFinder.Finding.{IsFinder};
-ghost use Rattle.controller_model.specs.RingRows.{header_after, with_ring, without_ring};
+ghost use Rattle.world_state.specs.RingRows.{header_after, with_ring, without_ring};
 
 use std::alloc::{AllocError, Global};
 use trace_record::Finder;

@@ -1,14 +1,16 @@
 //! Schedules that are made step by step, as the controller's model shows what each step does.
-ghost use Rattle.std.specs.Prelude.{◌≡◌, ◌+◌, ◌≤◌, All, length};
+ghost use Rattle.std.specs.Prelude.{◌≡◌, ◌+◌, ◌≤◌, ◌++◌, ◌∷◌, [], length, OnOk};
 ghost use Rattle.traces.specs.Limits.{most_schedule_lines};
 ghost use Rattle.traces.specs.Rows.{AreSteps, IsRow, IsStep, steps_are_fact};
 ghost use Rattle.traces.specs.TraceRows.{IsTraceRow};
-ghost use Rattle.trb.specs.Block.{IsBlock};
+ghost use Rattle.trb.specs.Block.{IsBlock, kind};
+ghost use Rattle.replayer.specs.Schedules.Making.{is_command_kind, is_waited, post_by_kind, rings_at};
 
+use crate::scheduler::rings::add_ring;
 use controller_model::{Seen, StepFault, World};
 use guest_memory::PageMemory;
 use std::alloc::{AllocError, Global};
-use traces::{Header, Ring, Row, Schedule, Step, Steps, TraceRow};
+use traces::{Ring, Row, Schedule, Step, Steps, Trace, TraceRow};
 use trb::{Block, BlockKind, RingKind};
 
 /// The most steps that a schedule has.
@@ -43,15 +45,19 @@ pub(crate) struct Attempt<'t> {
 }
 
 impl<'t> Attempt<'t> {
+    ghost use Rattle.std.specs.Prelude.{IfOk, List, option_map};
+    ghost use Rattle.traces.specs.declared.row.Row.TheVariants.{Read};
+    ghost use Rattle.traces.specs.declared.step.Step.TheVariants.{Look as LookAt};
+    ghost use Rattle.traces.specs.declared.trace_row.TraceRow.TheVariants.{Plain};
+    ghost use Rattle.replayer.specs.Schedules.Making.{IsMade, Making, blocks_of_ring, looked_at, looked_at_each, made_before, made_behind_looks, made_step, made_steps, tried_step};
+    ghost use Rattle.replayer.specs.Schedules.Eager.{nothing_made};
+    ghost use Rattle.replayer.specs.Schedules.Attempts.{HasMade};
+
     /// No steps yet.
-    pub(crate) fn new(
-        alloc: Global,
-        header: &Header,
-        rows: &'t [TraceRow],
-    ) -> Result<Attempt<'t>, AllocError>
-        requires { All IsTraceRow rows.now }
+    pub(crate) fn new(alloc: Global, trace: &'t Trace) -> Result<Attempt<'t>, AllocError>
+        ensures { IfOk result (λ attempt. HasMade attempt (nothing_made trace.now.header trace.now.rows)) }
     {
-        let world = World::new(alloc, header, rows, PageMemory::new(alloc))?;
+        let world = World::new(alloc, trace, PageMemory::new(alloc))?;
         Ok(Attempt {
             world,
             steps: Vec::new(alloc),
@@ -59,7 +65,9 @@ impl<'t> Attempt<'t> {
     }
 
     /// The schedule of the steps so far.
-    pub(crate) fn into_schedule(self) -> Schedule {
+    pub(crate) fn into_schedule(self) -> Schedule
+        ensures { result.steps ≡ self.entry.steps.items }
+    {
         Schedule {
             steps: Steps::new(self.steps),
         }
@@ -68,6 +76,7 @@ impl<'t> Attempt<'t> {
     /// Makes one more step, if it is possible; what it shows.
     fn attempt(&mut self, step: Step) -> Result<Option<Seen>, Unmade>
         requires { IsStep step }
+        ensures { (m : Making) → HasMade self.old m → IsMade result (tried_step m step) (λ seen p. (seen ≡ p.0) × HasMade self.new p.1) }
     {
         if self.steps.len() >= MOST_STEPS {
             return Err(Unmade::Dropped);
@@ -85,6 +94,7 @@ impl<'t> Attempt<'t> {
     /// Makes one more step.
     pub(crate) fn make(&mut self, step: Step) -> Result<(), Unmade>
         requires { IsStep step }
+        ensures { (m : Making) → HasMade self.old m → IsMade result (made_step m step) (λ done n. HasMade self.new n) }
     {
         match self.attempt(step)? {
             Some(_) => Ok(()),
@@ -95,6 +105,7 @@ impl<'t> Attempt<'t> {
     /// Makes these steps.
     pub(crate) fn make_all(&mut self, steps: &[Step]) -> Result<(), Unmade>
         requires { AreSteps steps.now }
+        ensures { (m : Making) → HasMade self.old m → IsMade result (made_steps m steps.now) (λ done n. HasMade self.new n) }
     {
         for step in steps {
             self.make(*step)?;
@@ -105,6 +116,8 @@ impl<'t> Attempt<'t> {
     /// Posts the event that a row reads, if it reads one. Where a ring is late, it is looked at until the event is possible.
     pub(crate) fn post_before(&mut self, row: &TraceRow, late: Option<&Ring>) -> Result<(), Unmade>
         requires { IsTraceRow row.now }
+        ensures { (m : Making) → HasMade self.old m →
+            IsMade result (made_before m row.now (option_map (λ ring. ring.now) late.entry)) (λ done n. HasMade self.new n) }
     {
         match row {
             TraceRow::Plain(row) => self.post(row, late),
@@ -112,8 +125,11 @@ impl<'t> Attempt<'t> {
         }
     }
 
+    /// Posts the event that a row of the driver reads, if it reads one.
     fn post(&mut self, row: &Row, late: Option<&Ring>) -> Result<(), Unmade>
         requires { IsRow row.now }
+        ensures { (m : Making) → HasMade self.old m →
+            IsMade result (made_before m (Plain row.now) (option_map (λ ring. ring.now) late.entry)) (λ done n. HasMade self.new n) }
     {
         match (row, late) {
             (Row::Read { event }, Some(ring)) => self.make_behind_looks(post_of(event), ring),
@@ -125,8 +141,10 @@ impl<'t> Attempt<'t> {
     /// Makes one more step, as soon as looks at a ring make it possible.
     fn make_behind_looks(&mut self, step: Step, ring: &Ring) -> Result<(), Unmade>
         requires { IsStep step }
+        ensures { (m : Making) → HasMade self.old m →
+            IsMade result (made_behind_looks (blocks_of_ring ring.now) m step ring.now.id) (λ done n. HasMade self.new n) }
     {
-        for _ in 0..ring.shape.places() + ring.shape.links() {
+        for _looks in 0..ring.shape.places() + ring.shape.links() {
             if self.attempt(step)?.is_some() {
                 return Ok(());
             }
@@ -138,17 +156,24 @@ impl<'t> Attempt<'t> {
     }
 
     /// Looks at a ring, if that is possible; what the look shows.
-    fn look(&mut self, ring: u8) -> Result<Option<Seen>, Unmade> {
+    fn look(&mut self, ring: u8) -> Result<Option<Seen>, Unmade>
+        ensures { (m : Making) → HasMade self.old m → IsMade result (tried_step m (LookAt ring)) (λ seen p. (seen ≡ p.0) × HasMade self.new p.1) }
+    {
         self.attempt(Step::Look { ring })
     }
 
     /// Looks at a ring until it waits or a look isn't possible, at most so often as it has blocks; whether the ring may be active.
-    fn look_at(&mut self, ring: &Ring) -> Result<bool, Unmade> {
+    fn look_at(&mut self, ring: &Ring) -> Result<bool, Unmade>
+        ensures { (m : Making) → HasMade self.old m → IsMade result (looked_at m ring.now) (λ active p. (active ≡ p.0) × HasMade self.new p.1) }
+    {
         for looks in 0..ring.shape.places() + ring.shape.links() {
             match self.look(ring.id)? {
-                None => return Ok(looks > 0 || ring.shape.kind() == RingKind::Cmd),
-                Some(Seen::Waited) => return Ok(true),
-                Some(_) => {}
+                None => return Ok(looks > 0 || is_command(ring.shape.kind())),
+                Some(seen) => {
+                    if has_waited(seen) {
+                        return Ok(true);
+                    }
+                }
             }
         }
         Ok(true)
@@ -159,21 +184,39 @@ impl<'t> Attempt<'t> {
         &mut self,
         alloc: Global,
         rings: &[&'r Ring],
-    ) -> Result<Vec<&'r Ring>, Unmade> {
+    ) -> Result<Vec<&'r Ring>, Unmade>
+        ensures { (m : Making) → HasMade self.old m →
+            IsMade result (looked_at_each [] m (rings_at rings.now)) (λ active p. (rings_at active.items ≡ p.0) × HasMade self.new p.1) }
+    {
         let mut active = Vec::new(alloc);
         for ring in rings {
             if self.look_at(ring)? {
-                active.push(*ring).map_err(AllocError::from)?;
+                add_ring(&mut active, ring)?;
             }
         }
         Ok(active)
     }
 }
 
+/// Whether it is the Command Ring's kind.
+fn is_command(kind: RingKind) -> bool
+    ensures { result ≡ is_command_kind kind }
+{
+    matches!(kind, RingKind::Cmd)
+}
+
+/// Whether a look showed that the controller waits.
+fn has_waited(seen: Seen) -> bool
+    ensures { result ≡ is_waited seen }
+{
+    matches!(seen, Seen::Waited)
+}
+
 /// How an event is posted, by its type (xHCI 6.4.2).
 fn post_of(event: &Block) -> Step
     requires { IsBlock event.now }
-    ensures { IsStep result }
+    ensures fits { IsStep result }
+    ensures step { result ≡ post_by_kind (kind event.now) event.now }
 {
     match event.kind() {
         BlockKind::TransferEvent => Step::Report { event: *event },

@@ -2,13 +2,14 @@ ghost use Rattle.std.specs.Prelude.{◌≡◌, ◌≤◌, ◌+◌, ◌*◌, ℕ,
 ghost use Rattle.traces.specs.Header.{IsHeader};
 ghost use Rattle.traces.specs.Limits.{most_lines};
 ghost use Rattle.traces.specs.TraceRows.{IsTraceRow};
-ghost use Rattle.controller_model.specs.Steps.{NoHarm};
-ghost use Rattle.controller_model.specs.Scenes.{scene_replayed};
+ghost use Rattle.world_state.specs.Steps.{NoHarm};
+ghost use Rattle.controller_model.specs.Showing.{scene_replayed};
 ghost use Rattle.ownership_checker.specs.RingPasses.Clean.{AreClean};
 ghost use Rattle.ownership_checker.specs.RingPasses.Rules.{ring_verdict};
 ghost use Rattle.safety.specs.LazyRuns.LateEvents.{IsTimely};
 ghost use Rattle.safety.specs.LazyRuns.Law.{ContainsAll};
 ghost use Rattle.safety.specs.LazyRuns.Lazy.{lazy_steps};
+ghost use Rattle.replayer.specs.Schedules.Floors.{StandsAtFloors};
 ghost use Rattle.replayer.specs.Schedules.Verdicts.{IfRefusedAt};
 
 use crate::lazy_steps::steps_of_notes;
@@ -16,24 +17,26 @@ use crate::scheduler::fault::ScheduleFault;
 use crate::scheduler::notes::notes_of;
 use guest_memory::{PageMemory, WordMemory};
 use std::alloc::Global;
-use trace_reader::TextRows;
-use traces::{Header, Schedule, Step, Steps, TraceRow};
+use traces::{Header, Schedule, Step, Steps, Trace, TraceRow};
 
 /// Checks a trace in one pass, and makes its lazy schedule: all rows in their order, and directly before each event that is read the steps
 /// of the controller that it needs; a ring that comes or goes and a descriptor that is withdrawn need none. Where no success is read while
-/// its ring is held, it is a run of the controller's model that contains all rows, and its replay does no harm. A schedule has room for it:
-/// no trace has so many rows that it would not. Where a row breaks a rule, the first such row is told, and the least of the rules that it
-/// breaks.
-pub fn lazy_schedule(alloc: Global, trace: &TextRows) -> Result<Schedule, ScheduleFault>
-    ensures clean { OnOk result (AreClean trace.now.header (reverse trace.now.rows.items)) }
-    ensures steps { IfOk result (λ schedule. schedule.steps ≡ lazy_steps trace.now.header trace.now.rows.items) }
-    ensures runs { IfOk result (λ schedule. IsTimely trace.now.header (reverse trace.now.rows.items) →
-        ContainsAll trace.now.header trace.now.rows.items (reverse schedule.steps)) }
-    ensures replays { IfOk result (λ schedule. IsTimely trace.now.header (reverse trace.now.rows.items) →
-        (scene_replayed trace.now.header trace.now.rows.items schedule.steps).ending ≡ NoHarm) }
-    ensures few { IfOk result (λ schedule. length schedule.steps ≤ 3 * length trace.now.rows.items + 3) }
+/// its ring is held, it is a run of the controller's model that contains all rows, its replay does no harm, and behind each row the dequeue
+/// pointer of each ring that an endpoint has is that ring's floor. A schedule has room for it: a trace of at most 2^20 lines has not so
+/// many rows that it would not. Where a row breaks a rule, the first such row is told, and the least of the rules that it breaks.
+pub fn lazy_schedule(alloc: Global, trace: &Trace) -> Result<Schedule, ScheduleFault>
+    requires { trace.now.first + length trace.now.rows ≤ most_lines + 1 }
+    ensures clean { OnOk result (AreClean trace.now.header (reverse trace.now.rows)) }
+    ensures steps { IfOk result (λ schedule. schedule.steps ≡ lazy_steps trace.now.header trace.now.rows) }
+    ensures runs { IfOk result (λ schedule. IsTimely trace.now.header (reverse trace.now.rows) →
+        ContainsAll trace.now.header trace.now.rows (reverse schedule.steps)) }
+    ensures replays { IfOk result (λ schedule. IsTimely trace.now.header (reverse trace.now.rows) →
+        (scene_replayed trace.now.header trace.now.rows schedule.steps).ending ≡ NoHarm) }
+    ensures floors { IfOk result (λ schedule. IsTimely trace.now.header (reverse trace.now.rows) →
+        StandsAtFloors trace.now.header trace.now.rows schedule.steps) }
+    ensures few { IfOk result (λ schedule. length schedule.steps ≤ 3 * length trace.now.rows + 3) }
     ensures refused { IfErr result (λ e. IfRefusedAt e (λ row c.
-        ring_verdict trace.now.header trace.now.first trace.now.rows.items ≡ Some (row, c))) }
+        ring_verdict trace.now.header trace.now.first trace.now.rows ≡ Some (row, c))) }
 {
     let steps = steps_of(
         alloc,

@@ -1,5 +1,6 @@
 -- Where all events are read, the controller can post an event that is possible
-use Rattle.safety.proofs.LowerLaws.{rules, [], ◌≡◌, ◌++◌, ◌∙◌, List, All, reverse, refl, sym, ap, subst, append-nil, reverse-reverse, Header, TraceRow, scene_reached, scene_with, FitsFields, header_now, ContainsAll, GoesSoFar, LazyLaw, AllAreRead, lazy_run, lazy_steps, ◌+◌, ◌∷◌, length, arith, Block, World, Known, Agrees, Runs, all_read, ◌-◌, ◌<◌, ◌≤◌, ◌==◌, ◌&&◌, ◌||◌, ℕ, nat_lt, not, true, false, ne_eqb, lt-ltb, ltb-false, and_from, or_parts, not-false, not_from_false, cycle, kind, is_event, cycle_of, same_in_lap, shape_facts, has_room, Read, IsHeader, event_shape, event_size, can_post, is_past_room, is_impossible_by_kind, is_impossible, event_tests, lenient_tests, lenient, DriverKeeps, EventFacts, event_facts, event_ring_is, size_is, AllFail, tests_fail}
+use Rattle.safety.proofs.LowerLaws.{rules, [], ◌≡◌, ◌++◌, ◌∙◌, List, All, reverse, refl, sym, ap, subst, append-nil, reverse-reverse, Header, TraceRow, FitsFields, ContainsAll, GoesSoFar, LazyLaw, AllAreRead, lazy_run, lazy_steps, ◌+◌, ◌∷◌, length, arith, Block, World, Known, Agrees, Runs, all_read, ◌-◌, ◌<◌, ◌≤◌, ◌==◌, ◌&&◌, ◌||◌, ℕ, nat_lt, not, true, false, ne_eqb, lt-ltb, ltb-false, and_from, or_parts, not-false, not_from_false, cycle, kind, is_event, cycle_of, same_in_lap, shape_facts, has_room, Read, IsHeader, event_shape, event_size, can_post, is_past_room, is_impossible_by_kind, is_impossible, event_tests, lenient_tests, lenient, DriverKeeps, EventFacts, event_facts, event_ring_is, size_is, AllFail, tests_fail}
+use Rattle.safety.proofs.Words.{scene_reached}
 
 -- Behind all rows of a trace nothing is left to read: from the law of the lazy run behind each row
 
@@ -14,9 +15,9 @@ module _ (h : Header) where
 
   contains : (rows : List TraceRow) → GoesSoFar h (reverse rows) [] → ContainsAll h rows (reverse (lazy_steps h rows))
   contains rows goes = record {
-    scene = scene_with (header_now h (reverse rows)) [] goes.world;
+    scene = goes.scene;
     run = ap (λ steps. scene_reached h rows steps) (steps_are rows) ∙ ap (λ l. scene_reached h l (lazy_run h (reverse rows) [])) (sym (whole rows)) ∙ goes.run;
-    all = refl;
+    all = goes.left;
   }
 
   pub all_are_read : LazyLaw h → AllAreRead h

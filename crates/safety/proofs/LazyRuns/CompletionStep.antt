@@ -225,7 +225,7 @@ module _ (h : Header) where
 
   -- it can be posted, with what its code does
   pub finish_posted : (past : Past h) (later : List TraceRow) (b : Block) (v : World) → is_command_completion (kind b) ≡ true → (ready : ReadyToFinish past later b) →
-      ended_with h ready.world b ready.taken ≡ Some v → finish_finished h ready.world b ≡ Some v
+      ended_with h h ready.world b ready.taken ≡ Some v → finish_finished h h ready.world b ≡ Some v
   unfolding finish_finished finished_as
   finish_posted past later b v completion ready ends = search (rules, cond-true, and_from, not_from_false, eq-eqb)
 
@@ -257,7 +257,7 @@ module _ (h : Header) where
       (now : ℕ → Spot) (brought : (q : ℕ) → lazy_brought h past.pointers (goals h past.known later (kind b) b) q ≡ now q) (w u x : World) (m : Known) (trace : Traced h past.known now w)
       (stay : (s i r : ℕ) → past.known.ring_of s i ≡ Some r → now r ≡ (past.known.ring r).floor)
       (started : past.known.started ≡ true) (opened : is_open (past.known.ring (command_id h)) ≡ true)
-      (at : finish_finished h w b ≡ Some u) (leaves : FinishLeaves w u x b) (learns : CompletionLearns past.known (learned h past.known (Read b)) m)
+      (at : finish_finished h h w b ≡ Some u) (leaves : FinishLeaves w u x b) (learns : CompletionLearns past.known (learned h past.known (Read b)) m)
       (goes : RingsGo h past.known m x (λ r. is_placed h past.known r b)) where
     abbrev l : Known
     l = learned h past.known (Read b)
@@ -327,5 +327,5 @@ module _ (h : Header) where
     pub completion_step : Leads h past (reverse (looks_for h past later b) ++ past.made) (Plain (Read b) ∷ later) w → Carries h past (Read b) later
     unfolding post_of made
     completion_step run =
-        event_step h is past later b block w trace.runs trace.all_read u posted (Finish b) (reverse (looks_for h past later b) ++ past.made) (finish_finished h w b) (λ e. cc) refl at
+        event_step h is past later b block w trace.runs trace.all_read u posted (Finish b) (reverse (looks_for h past later b) ++ past.made) (finish_finished h h w b) (λ e. cc) refl at
         (posts_last h b past later (Finish b) (ap (λ t. post_of h t b) (completion_kind (kind b) completion))) follows run

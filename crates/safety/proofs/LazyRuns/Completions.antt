@@ -163,7 +163,7 @@ module _ (h : Header) where
       subst (λ l. CompletionLearns h k l k) (sym same) (record { started = refl; ring_of = λ s i. refl; rings = λ q other. put_off k.ring (command_id h) _ q other })
 
   module _ (past : Past h) (later : List TraceRow) (b : Block) (completion : is_command_completion (kind b) ≡ true) (fails : (code b == 1) ≡ false) (ready : ReadyToFinish h past later b) where
-    fails_so : ended_with h ready.world b ready.taken ≡ Some (let_go (posted h ready.world b))
+    fails_so : ended_with h h ready.world b ready.taken ≡ Some (let_go (posted h ready.world b))
     unfolding ended_with ended
     fails_so = search (rules, cond-false, code, option_map, ended, finish_succeeded, slot, command_of, let_go, posted, not-true, was_stop_seen, not)
 

@@ -165,9 +165,6 @@ module _ (h : Header) (k : Known) (b : Block) (clean : lenient h k (Read b) ≡ 
             (λ _. both_few (stop_goal h (at transfer f) (need h l f.ring later)) (stop_on (need h l f.ring later)))
             (λ _. ring_few (taken_up_to h f.ring (number f.spot + 1)) (taken_on f.ring (number f.spot + 1) on_ring))
 
-      abbrev AreFewThen : List RingSpot → Type 0
-      AreFewThen goals = AreFew h pointers (command_taken h k ∷ goals)
-
       kind_few : (n : BlockKind) → kind b ≡ n → AreFew h pointers (lazy_goals h k later n b)
       unfolding lazy_goals stopped_goals open_goals
       kind_few TransferEvent is_kind =

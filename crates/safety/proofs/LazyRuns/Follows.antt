@@ -1,5 +1,5 @@
 -- What the induction over the rows follows: where rings stand in the world, what is known of them there, and what looks may be made
-use Rattle.safety.proofs.MiddleLaws.{rules, [], ◌≡◌, ◌⊎◌, ◌∷◌, ◌++◌, ℕ, true, false, List, reverse, Some, Block, IsBlock, Spot, Data, is_open, IsSpot, number, spot_address, spot_cycle, Header, Row, Read, Step, NextRow, TraceRow, Plain, IsHeader, shape_of, command_id, World, next_take, Known, learned, lenient, DriverKeeps, Runs, scene_reached, scene_with, steps_before, pointers_after, AreAtFloors, ◌∙◌, option_and_then, sym, ap, subst, IsDriverRow, step_made, Option, cond-false, row_done, counted, steps_made, while_running, ◌≢◌, ◌+◌, ◌<◌, ◌≤◌, rank, MayReach, RingSpot, next_command, state_of, further, looks_to, flat_map, kind, goals, Bool, inl, inr, cases_Bool, cases_eq, false≢true, Shape, IsShape, data_not_link, IsDriverRing, RingMatches, Unreported, UnderWayMatches, Agrees, transfer_driver, ring_shape, command_is_ring, arith}
+use Rattle.safety.proofs.MiddleLaws.{rules, [], ◌≡◌, ◌⊎◌, ◌∷◌, ◌++◌, ℕ, true, false, List, reverse, Some, Block, IsBlock, Spot, Data, is_open, IsSpot, number, spot_address, spot_cycle, Header, Row, Read, Step, NextRow, TraceRow, Plain, IsHeader, shape_of, command_id, World, next_take, Known, learned, lenient, DriverKeeps, Runs, live_reached, live_with, steps_before, pointers_after, AreAtFloors, ◌∙◌, option_and_then, sym, ap, subst, IsDriverRow, live_step, Option, cond-false, row_done, counted, steps_made, while_running, ◌≢◌, ◌+◌, ◌<◌, ◌≤◌, rank, MayReach, RingSpot, next_command, state_of, further, looks_to, flat_map, kind, goals, Bool, inl, inr, cases_Bool, cases_eq, false≢true, Shape, IsShape, data_not_link, IsDriverRing, RingMatches, Unreported, UnderWayMatches, Agrees, transfer_driver, ring_shape, command_is_ring, arith}
 use Rattle.std.proofs.Common.{option_map}
 use Rattle.safety.proofs.LazyRuns.NeedsOfHeld.{AreTimely}
 
@@ -42,7 +42,7 @@ module _ (h : Header) where
 
   -- steps of that run lead to world w, with these rows to come
   abbrev pub Leads : Past → List Step → List TraceRow → World → Type 0
-  Leads past steps later w = scene_reached past.first past.rows steps ≡ Some (scene_with h later w)
+  Leads past steps later w = live_reached past.first past.rows steps ≡ Some (live_with h later w)
 
   -- a row that a driver makes or reads, with the controller's steps before it; after a stop no clean row comes
   pub record Carries (past : Past) (row : Row) (later : List TraceRow) : Type 0 where
@@ -75,11 +75,11 @@ module _ (h : Header) where
   next_reached past made w v row later run at = search rules
 
   -- a step of the controller is made
-  pub step_reached : (past : Past h) (to_come : List TraceRow) (made : List Step) (w u : World) (s : Step) (o : Option World) → (s ≡ NextRow → ⊥) → steps_made h w s ≡ while_running h w o →
+  pub step_reached : (past : Past h) (to_come : List TraceRow) (made : List Step) (w u : World) (s : Step) (o : Option World) → (s ≡ NextRow → ⊥) → steps_made h h w s ≡ while_running h w o →
       Leads h past made to_come w → w.stopped ≡ false → o ≡ Some u → Leads h past (s ∷ made) to_come (counted h u)
   unfolding while_running
   step_reached past to_come made w u s o other same run running at =
-      grind (arith, option_and_then, step_made, option_map, scene_with, counted, cond-false, w.stopped)
+      grind (arith, option_and_then, live_step, option_map, live_with, counted, cond-false, w.stopped)
 
   pub driver_reached : (past : Past h) (w v : World) (row : Row) (later : List TraceRow) → IsDriverRow row → Leads h past past.made (Plain row ∷ later) w →
       row_done h w row ≡ Some v → Leads h past (NextRow ∷ reverse (steps_before h past.known past.pointers row later) ++ past.made) later (counted h v)
@@ -95,7 +95,6 @@ pub record LooksLeave (h : Header) (w v : World) (r : ℕ) : Type 0 where
   pub active : v.is_active r ≡ w.is_active r
   pub reported : v.reported r ≡ w.reported r
   pub under_way : r ≢ command_id h → v.under_way ≡ w.under_way
-  pub rows : v.rows ≡ w.rows
   pub started : v.started ≡ w.started
   pub stopped : v.stopped ≡ w.stopped
   pub memory : v.memory ≡ w.memory

@@ -4,7 +4,7 @@ use Rattle.traces.specs.declared.trace_row.TraceRow.TheVariants.{Withdraws}
 use Rattle.safety.proofs.DriverRows.{nothing_keeps}
 use Rattle.safety.proofs.Histories.{row_keeps}
 use Rattle.safety.proofs.RingChanges.Restored.{row_comes, row_keeps as kept_row}
-use Rattle.safety.proofs.RingChanges.RingsHeadline.{Keeps, kept_on, now_keeps}
+use Rattle.safety.proofs.RingChanges.LiveHeadline.{Keeps, kept_on, now_keeps}
 use Rattle.safety.proofs.LazyRuns.Progress.{none_given}
 use Rattle.safety.proofs.LazyRuns.RingRows.{OthersStay, comes_stay, goes_stay}
 use Rattle.safety.proofs.RingChanges.GoneRings as rings_gone

@@ -1,14 +1,17 @@
 -- The lazy law by induction over the rows, from the step of a row that reads an event
-use Rattle.safety.proofs.UpperLaws.{[], ◌≡◌, ◌≢◌, ◌⊎◌, ◌∷◌, ◌∙◌, ℕ, true, false, List, Some, sym, ap, subst, inl, inr, rules, cases_Bool, false≢true, Spot, Data, Header, Row, TraceRow, Plain, IsHeader, command_id, IsRow, World, next_take, counted, Known, learned, MayCome, DriverKeeps, IsDriverRow, Agrees, Runs, transfer_not_command, more_law, pointers_after, AreAtFloors, ◌++◌, All, reverse, option_and_then, refl, All-cons, All-head, All-nil, All-tail, Read, Comes, Goes, NextRow, opening, with_ring, without_ring, scene_reached, step_made, scene_with, AreKept, FitsFields, IsKept, header_after, header_now, known_now, restored, restored_on, ring_restored, IsTimely, lazy_run, pointers_at, pointers_for, steps_for, LazyLaw, AllAreRead, none-some, is_open, nothing, opens, agrees_now, pointers_same, driver_reached, StandsAt, IsActiveIfOpen, Follows, Carries, Leads, Past, RowLearns, row_learns, row_active, row_starts, all_are_read, EventLaw, AreTimely, PointerStays, RowLeaves, row_leaves, done, row_is_done}
+use Rattle.safety.proofs.UpperLaws.{[], ◌≡◌, ◌≢◌, ◌⊎◌, ◌∷◌, ◌∙◌, ℕ, true, false, List, None, Option, Some, sym, ap, subst, inl, inr, rules, cases_Bool, false≢true, Spot, Data, Header, Row, TraceRow, Plain, IsHeader, command_id, IsRow, World, next_take, counted, Known, learned, MayCome, DriverKeeps, IsDriverRow, Agrees, Runs, transfer_not_command, more_law, pointers_after, AreAtFloors, ◌++◌, All, reverse, option_and_then, refl, All-cons, All-head, All-nil, All-tail, Read, Comes, Goes, NextRow, opening, with_ring, without_ring, LiveScene, live_reached, live_step, live_with, IsStep, reverse-append, AreKept, FitsFields, IsKept, header_after, header_now, known_now, restored, restored_on, ring_restored, IsTimely, lazy_run, pointers_at, pointers_for, steps_for, LazyLaw, AllAreRead, none-some, is_open, nothing, opens, agrees_now, pointers_same, driver_reached, StandsAt, IsActiveIfOpen, Follows, Carries, Leads, Past, RowLearns, row_learns, row_active, row_starts, all_are_read, EventLaw, AreTimely, PointerStays, RowLeaves, row_leaves, done, row_is_done}
 use Rattle.safety.proofs.DriverHistories.{kept_driver}
 use Rattle.safety.proofs.RowRuns.{row_runs}
 use Rattle.safety.proofs.Squares.{square_law}
 use Rattle.safety.proofs.StillRings.{still_rings}
+use Rattle.safety.proofs.Words.{GoesSoFar, Scene, scene_reached, reverse-reverse}
 use Rattle.traces.specs.declared.trace_row.TraceRow.TheVariants.{Withdraws}
-use Rattle.safety.proofs.RingChanges.RingsHeadline.{Keeps, now_keeps}
+use Rattle.safety.proofs.RingChanges.LiveHeadline.{Keeps, now_keeps}
+use Rattle.safety.proofs.RingChanges.Headline.{Alike, AreAlike, reached_alike}
+use Rattle.safety.proofs.LazyRuns.LazySteps.{run_is}
 use Rattle.safety.proofs.LazyRuns.RingRows.{comes_follows, comes_stay, goes_follows, goes_stay, restored_follows, withdrawn_follows}
 use Rattle.safety.proofs.RingChanges.Restored.{row_comes, row_keeps}
-pub use Rattle.safety.proofs.RingChanges.RingsHeadline.{kept_on, later_kept, one_more}
+pub use Rattle.safety.proofs.RingChanges.LiveHeadline.{kept_on, later_kept, one_more}
 
 -- The induction's step for a row of the driver
 
@@ -144,7 +147,7 @@ module _ (h : Header) where
     -- after a stop no clean row comes
     pub record Carried (past later : List TraceRow) : Type 0 where
       pub world : World
-      pub run : scene_reached h (reverse past ++ later) (lazy_run h past later) ≡ Some (scene_with (header_now h past) later world)
+      pub run : live_reached h (reverse past ++ later) (lazy_run h past later) ≡ Some (live_with (header_now h past) later world)
       pub goes : Follows (header_now h past) (known_now h past) (pointers_at h past later) world
           ⊎ (((known_now h past).stopped ≡ true) × AreAtFloors (header_now h past) (known_now h past) world)
 
@@ -170,7 +173,7 @@ module _ (h : Header) where
         -- ---- a row of the driver, or one that reads an event
 
         module _ (row : Row) (is_row : IsRow row) (kept : IsKept g k (Plain row)) (timely : AreTimely g k (Plain row ∷ later))
-            (run : scene_reached h (reverse past ++ (Plain row ∷ later)) (lazy_run h past (Plain row ∷ later)) ≡ Some (scene_with g (Plain row ∷ later) w))
+            (run : live_reached h (reverse past ++ (Plain row ∷ later)) (lazy_run h past (Plain row ∷ later)) ≡ Some (live_with g (Plain row ∷ later) w))
             (f : Follows g k (pointers_at h past (Plain row ∷ later)) w) where
           keeps : DriverKeeps g (restored g k row)
           keeps = row_keeps g p.headed k p.keeps row kept.1
@@ -183,17 +186,17 @@ module _ (h : Header) where
 
           carried : Carries g (past_of past later row keeps) row later → Carried (Plain row ∷ past) later
           unfolding lazy_run pointers_at steps_for pointers_for
-          carried c = search (rules, scene_reached, lazy_run, one_more, goes)
+          carried c = search (rules, live_reached, lazy_run, one_more, goes)
 
         drives : (row : Row) → IsDriverRow row → IsRow row → IsKept g k (Plain row) → AreTimely g k (Plain row ∷ later) →
-            scene_reached h (reverse past ++ (Plain row ∷ later)) (lazy_run h past (Plain row ∷ later)) ≡ Some (scene_with g (Plain row ∷ later) w) →
+            live_reached h (reverse past ++ (Plain row ∷ later)) (lazy_run h past (Plain row ∷ later)) ≡ Some (live_with g (Plain row ∷ later) w) →
             Follows g k (pointers_at h past (Plain row ∷ later)) w → Carried (Plain row ∷ past) later
         drives row driver_row is_row kept timely run f =
             carried row is_row kept timely run f
             (driver_step g p.headed row (past_of past later row (keeps row is_row kept timely run f)) later w driver_row is_row (may row is_row kept timely run f) (follows row is_row kept timely run f) run)
 
         plain : (row : Row) → IsRow row → IsKept g k (Plain row) → AreTimely g k (Plain row ∷ later) →
-            scene_reached h (reverse past ++ (Plain row ∷ later)) (lazy_run h past (Plain row ∷ later)) ≡ Some (scene_with g (Plain row ∷ later) w) →
+            live_reached h (reverse past ++ (Plain row ∷ later)) (lazy_run h past (Plain row ∷ later)) ≡ Some (live_with g (Plain row ∷ later) w) →
             Follows g k (pointers_at h past (Plain row ∷ later)) w → Carried (Plain row ∷ past) later
         unfolding ring_restored restored_on
         plain (Read b) is_row kept timely run f =
@@ -204,13 +207,13 @@ module _ (h : Header) where
         -- ---- a row of another kind
 
         -- no step of the controller is made before it
-        made : (row : TraceRow) (v : World) (x : Header) → scene_reached h (reverse past ++ (row ∷ later)) (lazy_run h past (row ∷ later)) ≡ Some (scene_with g (row ∷ later) w) →
-            step_made (scene_with g (row ∷ later) w) NextRow ≡ Some (scene_with x later v) →
-            scene_reached h (reverse (row ∷ past) ++ later) (NextRow ∷ lazy_run h past (row ∷ later)) ≡ Some (scene_with x later v)
-        made row v x run at = search (rules, scene_reached, lazy_run, one_more, option_and_then, step_made)
+        made : (row : TraceRow) (v : World) (x : Header) → live_reached h (reverse past ++ (row ∷ later)) (lazy_run h past (row ∷ later)) ≡ Some (live_with g (row ∷ later) w) →
+            live_step (live_with g (row ∷ later) w) NextRow ≡ Some (live_with x later v) →
+            live_reached h (reverse (row ∷ past) ++ later) (NextRow ∷ lazy_run h past (row ∷ later)) ≡ Some (live_with x later v)
+        made row v x run at = search (rules, live_reached, lazy_run, one_more, option_and_then, live_step)
 
         step : (row : TraceRow) → FitsFields row → IsKept g k row → AreTimely g k (row ∷ later) →
-            scene_reached h (reverse past ++ (row ∷ later)) (lazy_run h past (row ∷ later)) ≡ Some (scene_with g (row ∷ later) w) →
+            live_reached h (reverse past ++ (row ∷ later)) (lazy_run h past (row ∷ later)) ≡ Some (live_with g (row ∷ later) w) →
             Follows g k (pointers_at h past (row ∷ later)) w → Carried (row ∷ past) later
         unfolding lazy_run pointers_at steps_for pointers_for
         step (Plain row) is_row kept timely run f = plain row is_row kept timely run f
@@ -239,14 +242,37 @@ module _ (h : Header) where
             | inr over ↦ absurd (false≢true (sym on ∙ over.0))
           ]
 
-      -- the lazy law is part of it
-      at_floors : (past later : List TraceRow) (c : Carried past later) → AreAtFloors (header_now h past) (known_now h past) c.world
-      at_floors past later c = elim c.goes [ inl f ↦ λ s i r at. assumption (f.floors s i r at) | inr over ↦ over.1 ]
+    -- ---- the lazy law is part of it, by the run of the model beside this one
+
+    at_floors : (past later : List TraceRow) (c : Carried past later) → AreAtFloors (header_now h past) (known_now h past) c.world
+    at_floors past later c = elim c.goes [ inl f ↦ λ s i r at. assumption (f.floors s i r at) | inr over ↦ over.1 ]
+
+    -- a run that the rings that live see has one of the model beside it
+    beside : (x : LiveScene) (o : Option LiveScene) (u : Option Scene) → o ≡ Some x → AreAlike o u → (y : Scene) × (u ≡ Some y) × Alike x y
+    beside x o None at alike = absurd (subst (λ p. AreAlike p None) at alike)
+    beside x o (Some y) at alike = (y, refl, subst (λ p. AreAlike p (Some y)) at alike)
+
+    goes_so_far : (past later : List TraceRow) → All FitsFields (reverse past ++ later) → AreKept h (reverse later ++ past) → Carried past later → GoesSoFar h past later
+    goes_so_far past later rows kept c =
+        let turned : reverse (reverse past ++ later) ≡ reverse later ++ past = reverse-append (reverse past) later ∙ ap (λ l. reverse later ++ l) (reverse-reverse past) in
+        let made : All IsStep (lazy_run h past later) = run_is h is past later (rows_of past later rows).0 (later_kept h (reverse later) past kept) in
+        let alike = reached_alike h is (reverse past ++ later) rows (subst (AreKept h) (sym turned) kept) (lazy_run h past later) made in
+        let y = beside (live_with (header_now h past) later c.world) (live_reached h (reverse past ++ later) (lazy_run h past later)) (scene_reached h (reverse past ++ later) (lazy_run h past later)) c.run alike in
+        let a = y.2 in
+        let floors = at_floors past later c in
+        record {
+          scene = y.0;
+          run = y.1;
+          live = ap (λ (z : Scene). z.live) a.same;
+          left = ap (λ (z : Scene). z.rows) a.same;
+          floors = λ s i r at. record {
+            pointer = ap (λ (z : Scene). z.world.pointer_of r) a.same ∙ (floors s i r at).pointer;
+            cycle = ap (λ (z : Scene). z.world.cycle_state r) a.same ∙ (floors s i r at).cycle;
+          };
+        }
 
   pub lazy_from_events : ((g : Header) → EventLaw g) → LazyLaw h
-  lazy_from_events events past later is rows kept timely =
-      let c = carries is events past later rows kept timely in
-      record { world = c.world; run = c.run; floors = at_floors is events past later c }
+  lazy_from_events events past later is rows kept timely = goes_so_far is past later rows kept (carries is events past later rows kept timely)
 
   pub all_read_from_events : ((g : Header) → EventLaw g) → AllAreRead h
   all_read_from_events events = all_are_read h (lazy_from_events events)

@@ -1,5 +1,5 @@
 -- The looks for an event, at one ring after the other, are a run: each ring comes to its goal
-use Rattle.safety.proofs.UpperLaws.{[], ◌≡◌, ◌+◌, ◌-◌, ◌*◌, ◌<◌, ◌≤◌, ◌∷◌, ◌++◌, ◌∙◌, ℕ, suc, zero, List, filter, map, nat_lt, reverse, arith, refl, sym, ap, subst, inl, inr, lt-ltb, le-ltb, append_assoc, rules, cases_lt, cond-true, cond-false, reverse-append, Spot, Shape, IsSpot, number, rank, next, spots_from, rank_least, rank_most, same_rank, next_later, next_least, Header, TraceRow, Step, Look, IsHeader, shape_of, World, counted, Known, DriverKeeps, Agrees, Runs, look_runs, false, Some, ◌≢◌, ◌==◌, ◌&&◌, if◌then◌else◌, Bool, true, is_some, ne_eqb, cases_Bool, cases_eq, and_left, and_right, Block, cycle, kind, is_link, Data, Link, after, command_id, RingState, RingMatches, state_of, Takeable, Crossable, takeable, crossable, ring_shape, seen, only_crossed, only_taken, only_begun, behind_link, behind_block, TakeDone, CrossDone, take_done, cross_done, block_no_link, link_is, OnlyRing, looked_left, stands_at, block_found, not, eq-eqb, IsDriverRing, Stands, further, looks_to, spots_before, crossed, looked, looked_at, seen_by_look, looks_taken, taken_on, steps_made, flat_map, put, RingSpot, put_at, put_off, lazy_brought, lazy_further, step_reached, agrees_now, StandsAt, Leads, Past, MayBring, Looked, LooksLeave, LooksLaw, RingStands, ring_stands, commands_stand, Traced}
+use Rattle.safety.proofs.UpperLaws.{[], ◌≡◌, ◌+◌, ◌-◌, ◌*◌, ◌<◌, ◌≤◌, ◌∷◌, ◌++◌, ◌∙◌, ℕ, suc, zero, List, filter, map, nat_lt, reverse, arith, refl, sym, ap, subst, inl, inr, lt-ltb, le-ltb, append_assoc, rules, cases_lt, cond-true, cond-false, reverse-append, Spot, Shape, IsSpot, number, rank, next, spots_from, rank_least, rank_most, same_rank, next_later, next_least, Header, TraceRow, Step, Look, IsHeader, shape_of, World, counted, Known, DriverKeeps, Agrees, Runs, look_runs, false, Some, ◌≢◌, ◌==◌, ◌&&◌, if◌then◌else◌, Bool, true, is_some, ne_eqb, cases_Bool, cases_eq, and_left, and_right, Block, cycle, kind, is_link, Data, Link, after, command_id, RingState, RingMatches, state_of, Takeable, Crossable, takeable, crossable, ring_shape, seen, only_crossed, only_taken, only_begun, behind_link, behind_block, TakeDone, CrossDone, take_done, cross_done, block_no_link, link_is, OnlyRing, stands_at, block_found, not, eq-eqb, IsDriverRing, Stands, further, looks_to, spots_before, crossed, looked, looked_at, seen_by_look, looks_taken, taken_on, steps_made, flat_map, put, RingSpot, put_at, put_off, lazy_brought, lazy_further, step_reached, agrees_now, StandsAt, Leads, Past, MayBring, Looked, LooksLeave, LooksLaw, RingStands, ring_stands, commands_stand, Traced}
 use Rattle.safety.proofs.DriverHistories.{run_keeps}
 
 -- The looks of the lazy schedule at one ring are a run: by induction over the spots on the way
@@ -12,14 +12,14 @@ module _ (h : Header) (is : IsHeader h) (k : Known) (w : World) (d : DriverKeeps
   shows_cycle same = ap not (eq-eqb (cycle (seen w r)) (w.cycle_state r) same)
 
   pub block_taken : (q : ℕ) → RingMatches (shape_of h r) (k.ring r) (state_of w r) (Data q) → (k.ring r).given q ≡ true → (r == command_id h && is_some w.under_way) ≡ false →
-      looked h w r ≡ Some (looks_taken h (seen_by_look h w r) r (seen w r))
+      looked h h w r ≡ Some (looks_taken h (seen_by_look h w r) r (seen w r))
   unfolding looked looked_at
   block_taken q m given free =
       let t = takeable (shape_of h r) (ring_shape h is r ring).is k.memory (k.ring r) (d.rings r ring) q (stands_at h is k w d s r (Data q) ring m) given ((d.rings r ring).open_restored (m.opened on) q) in
       simp (on, shows_cycle (ap (λ b. cycle b) (block_found h is k w d s r (Data q) ring m) ∙ t.cycle_is ∙ sym m.cycle), block_no_link h is k w d s r ring q m t, free)
 
   pub link_followed : (q : ℕ) → RingMatches (shape_of h r) (k.ring r) (state_of w r) (Link q) → (k.ring r).crossed q ≡ true →
-      looked h w r ≡ Some (crossed h (seen_by_look h w r) r (seen w r))
+      looked h h w r ≡ Some (crossed h (seen_by_look h w r) r (seen w r))
   unfolding looked looked_at
   link_followed q m given =
       let c = crossable (shape_of h r) (ring_shape h is r ring).is k.memory (k.ring r) (d.rings r ring) q (stands_at h is k w d s r (Link q) ring m) given in
@@ -39,14 +39,14 @@ module _ (h : Header) where
   taken_elsewhere w r b other = ap (λ (x : World). x.under_way) (cond-false (r == command_id h) _ _ (ne_eqb r (command_id h) other))
 
   -- what a look leaves, from what its ring is then
-  leaves_from : (w v : World) (r : ℕ) (s : RingState) → OnlyRing w v r s → s.active ≡ w.is_active r → s.reported ≡ w.reported r → v.rows ≡ w.rows →
+  leaves_from : (w v : World) (r : ℕ) (s : RingState) → OnlyRing w v r s → s.active ≡ w.is_active r → s.reported ≡ w.reported r →
       (r ≢ command_id h → v.under_way ≡ w.under_way) → LooksLeave h w (counted h v) r
   unfolding counted
-  leaves_from w v r s o active reported rows under_way = search rules
+  leaves_from w v r s o active reported under_way = search rules
 
   pub record LookDone (w : World) (r : ℕ) (s : Spot) : Type 0 where
     pub world : World
-    pub made : looked h w r ≡ Some world
+    pub made : looked h h w r ≡ Some world
     pub stands : StandsAt h (counted h world) r (next (shape_of h r) s)
     pub leaves : LooksLeave h w (counted h world) r
 
@@ -69,12 +69,12 @@ module _ (h : Header) where
         let here : done.number ≡ q = ap number (sym done.was) in
         let v : World = looks_taken h (seen_by_look h w r) r b in
         let o : OnlyRing w v r (behind_block h w r b) = only_taken_any w r b in
-        let made : looked h w r ≡ Some v = block_taken h is k w d g.stands r m.ring may.active q m.matches given (search (rules, arith, cases_eq, command_id, and_left, is_some, ne_eqb, cases_Bool, commands_stand, and_right)) in
+        let made : looked h h w r ≡ Some v = block_taken h is k w d g.stands r m.ring may.active q m.matches given (search (rules, arith, cases_eq, command_id, and_left, is_some, ne_eqb, cases_Bool, commands_stand, and_right)) in
         record {
           world = v;
           made = made;
           stands = stands_from k w v r (behind_block h w r b) (after (shape_of h r) q) o (subst (λ n. RingMatches (shape_of h r) (k.ring r) (behind_block h w r b) (after (shape_of h r) n)) here done.matches);
-          leaves = leaves_from w v r (behind_block h w r b) o refl refl ((looked_left h w r).left v made) (taken_elsewhere w r b);
+          leaves = leaves_from w v r (behind_block h w r b) o refl refl (taken_elsewhere w r b);
         }
 
     link_look : (q : ℕ) (t : Spot) → rank (Link q) < rank t → StandsAt h w r (Link q) → MayBring h k w r t → LookDone w r (Link q)
@@ -91,12 +91,12 @@ module _ (h : Header) where
         let here : done.number ≡ q = ap number (sym done.was) in
         let v : World = crossed h (seen_by_look h w r) r b in
         let o : OnlyRing w v r (behind_link h w r b) = only_crossed h w r b in
-        let made : looked h w r ≡ Some v = link_followed h is k w d g.stands r m.ring may.active q m.matches given in
+        let made : looked h h w r ≡ Some v = link_followed h is k w d g.stands r m.ring may.active q m.matches given in
         record {
           world = v;
           made = made;
           stands = stands_from k w v r (behind_link h w r b) (Data q) o (subst (λ n. RingMatches (shape_of h r) (k.ring r) (behind_link h w r b) (Data n)) here done.matches);
-          leaves = leaves_from w v r (behind_link h w r b) o refl refl ((looked_left h w r).left v made) (λ other. refl);
+          leaves = leaves_from w v r (behind_link h w r b) o refl refl (λ other. refl);
         }
 
     pub one_look : (s t : Spot) → rank s < rank t → StandsAt h w r s → MayBring h k w r t → LookDone w r s
@@ -164,7 +164,7 @@ module _ (h : Header) where
               let g : Agrees h k [] w = agrees_now h past.known w runs read in
               let one : LookDone h w r s = one_look h is k w d g r s t before at (may before) in
               let v : World = counted h one.world in
-              let then_run : Leads h past (Look r ∷ made) to_come v = step_reached h past to_come made w one.world (Look r) (looked h w r) (λ e. cc) refl run (g.stands.stopped ∙ runs.on) one.made in
+              let then_run : Leads h past (Look r ∷ made) to_come v = step_reached h past to_come made w one.world (Look r) (looked h h w r) (λ e. cc) refl run (g.stands.stopped ∙ runs.on) one.made in
               let then_runs : Runs h past.known v = look_runs h is past.known w one.world r runs (run_keeps h is k w d runs) one.made in
               let later : rank s < rank (next (shape_of h r) s) = next_later (shape_of h r) s in
               let rest : Looked h past to_come (Look r ∷ made) v r t (looks_on r t (next (shape_of h r) s) n) =

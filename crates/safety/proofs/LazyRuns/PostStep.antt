@@ -46,7 +46,7 @@ module _ (h : Header) where
       unfolding counted
       all_read_behind = omega (arith, all_read, p.posted, p.reads)
 
-      pub event_step : (s : Step) (mid : List Step) (o : Option World) → (s ≡ NextRow → ⊥) → steps_made h w s ≡ while_running h w o → o ≡ Some u →
+      pub event_step : (s : Step) (mid : List Step) (o : Option World) → (s ≡ NextRow → ⊥) → steps_made h h w s ≡ while_running h w o → o ≡ Some u →
           NextRow ∷ reverse (steps_before h past.known past.pointers (Read b) later) ++ past.made ≡ NextRow ∷ s ∷ mid →
           Follows h (learned h past.known (Read b)) (pointers_after h past.known past.pointers (Read b) later) (behind_read u) →
           Leads h past mid (Plain (Read b) ∷ later) w → Carries h past (Read b) later

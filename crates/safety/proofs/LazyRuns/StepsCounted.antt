@@ -4,7 +4,7 @@ use Rattle.traces.specs.declared.trace_row.TraceRow.TheVariants.{Withdraws}
 use Rattle.safety.specs.LazyRuns.Needs.{is_placed}
 use Rattle.safety.proofs.RingChanges.RingRuns.{no_ring}
 use Rattle.safety.proofs.LazyRuns.RingRows.{OthersStay, comes_stay, goes_stay, restored_learns, withdrawn_learns}
-use Rattle.safety.proofs.RingChanges.RingsHeadline.{Keeps, kept_on, now_keeps}
+use Rattle.safety.proofs.RingChanges.LiveHeadline.{Keeps, kept_on, now_keeps}
 use Rattle.safety.proofs.LazyRuns.EventGoals.{goals_few, AreWithin, top, reported_most, goals_within}
 use Rattle.safety.proofs.LazyRuns.GivenCounted.{events, floors, floors_most, gone, kept_before}
 use Rattle.safety.proofs.LazyRuns.Induction.{rows_of}

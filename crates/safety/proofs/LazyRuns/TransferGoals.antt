@@ -121,7 +121,6 @@ module _ (h : Header) where
     pub world : World
     pub at : reported h w b ≡ Some world
     pub leaves : ReportLeaves h w world b r
-    pub rows : world.rows ≡ w.rows
 
   module _ (is : IsHeader h) (k : Known) (w : World) (b : Block) (block : IsBlock b) (d : DriverKeeps h k) (g : Agrees h k [] w) (clean : lenient h k (Read b) ≡ []) (transfer : is_transfer_event (kind b) ≡ true)
       (f : TransferFacts h k b) where
@@ -205,7 +204,6 @@ module _ (h : Header) where
             world = v;
             at = report_at v (cond-true (is_success (code b)) _ _ success ∙ found);
             leaves = record { memory = refl; posted = refl; reads = refl; pointers = refl; cycles = refl; events = refl; active = λ q other. refl };
-            rows = refl;
           } in
           (x, refl)
 

@@ -52,7 +52,6 @@ module _ (h : Header) where
         at = report_at h is k w b block d g clean transfer f (stopped n)
             (cond-false _ _ _ stop.success ∙ cond-false _ _ _ stop.halting ∙ cond-false _ _ _ stop.error ∙ cond-true _ _ _ stop.stopping ∙ made);
         leaves = record { memory = refl; posted = refl; reads = refl; pointers = refl; cycles = refl; events = refl; active = λ q other. put_off w.is_active f.ring false q other };
-        rows = refl;
       }
 
       may_stop : not (is_stop_under_way h (slot b) (endpoint b) u.under_way && is_running (u.endpoint_state (slot b) (endpoint b)) && u.is_active f.ring) ≡ false

@@ -1,5 +1,5 @@
 -- Lazy schedules of two traces, and how they end, by evaluation; tests/schedules has more for the program
-use Rattle.safety.proofs.Words.{[], ◌≡◌, ◌∷◌, ◌++◌, ℕ, suc, zero, List, map, refl, Cmd, Evt, Xfer, Block, Bytes32, Header, Row, Sub, Write, Reg, Bell, Read, TraceRow, Usbcmd, Crcr, Dcbaap, Config, Erstsz, Erstba, Erdp, Step, NextRow, Look, Report, Finish, Plain, lazy_steps, One, scene_replayed, NoHarm, model_on_literals, lazy_on_literals}
+use Rattle.safety.proofs.Words.{[], ◌≡◌, ◌∷◌, ◌++◌, ℕ, suc, zero, List, map, refl, Cmd, Evt, Xfer, Block, Bytes32, Header, Row, Sub, Write, Reg, Bell, Read, TraceRow, Usbcmd, Crcr, Dcbaap, Config, Erstsz, Erstba, Erdp, Step, NextRow, Look, Report, Finish, Plain, lazy_steps, One, scene_ending, NoHarm, world_on_literals, lazy_on_literals}
 
 abbrev block : ℕ → ℕ → ℕ → Block
 block at status control = record { w = at ∷ 0 ∷ status ∷ control ∷ [] }
@@ -50,8 +50,8 @@ pub schedule_of_a_late_event_steps : lazy_steps schedule_header schedule_of_a_la
 unfolding lazy_on_literals
 schedule_of_a_late_event_steps = refl
 
-pub schedule_of_a_late_event_ending : (scene_replayed schedule_header schedule_of_a_late_event_rows (lazy_steps schedule_header schedule_of_a_late_event_rows)).ending ≡ NoHarm
-unfolding lazy_on_literals model_on_literals
+pub schedule_of_a_late_event_ending : scene_ending schedule_header schedule_of_a_late_event_rows (lazy_steps schedule_header schedule_of_a_late_event_rows) ≡ NoHarm
+unfolding lazy_on_literals world_on_literals
 schedule_of_a_late_event_ending = refl
 
 abbrev pub schedule_with_an_event_rows : List TraceRow
@@ -61,6 +61,6 @@ pub schedule_with_an_event_steps : lazy_steps schedule_header schedule_with_an_e
 unfolding lazy_on_literals
 schedule_with_an_event_steps = refl
 
-pub schedule_with_an_event_ending : (scene_replayed schedule_header schedule_with_an_event_rows (lazy_steps schedule_header schedule_with_an_event_rows)).ending ≡ NoHarm
-unfolding lazy_on_literals model_on_literals
+pub schedule_with_an_event_ending : scene_ending schedule_header schedule_with_an_event_rows (lazy_steps schedule_header schedule_with_an_event_rows) ≡ NoHarm
+unfolding lazy_on_literals world_on_literals
 schedule_with_an_event_ending = refl

@@ -7,12 +7,12 @@ use Rattle.safety.proofs.RingChanges.ListedRings.{none_kept, all_kept, together_
 
 module _ (p keep : Ring → Bool) where
   -- what passes is among them, so the same one is found
-  find_kept : (rs : List Ring) → ((q : Ring) → IsIn q rs → p q ≡ true → keep q ≡ true) → find p (filter keep rs) ≡ find p rs
+  pub find_kept : (rs : List Ring) → ((q : Ring) → IsIn q rs → p q ≡ true → keep q ≡ true) → find p (filter keep rs) ≡ find p rs
   find_kept [] kept = refl
   find_kept (y ∷ ys) kept = grind (arith, cases_Bool (p y), cases_Bool (keep y), kept y (inl refl), find_kept ys (λ q at. kept q (inr at)))
 
   -- the one that is found is among them
-  found_kept : (rs : List Ring) (q : Ring) → find p rs ≡ Some q → keep q ≡ true → find p (filter keep rs) ≡ Some q
+  pub found_kept : (rs : List Ring) (q : Ring) → find p rs ≡ Some q → keep q ≡ true → find p (filter keep rs) ≡ Some q
   found_kept [] q found kept = absurd (none-some q found)
   found_kept (y ∷ ys) q found kept = grind (arith, cases_Bool (p y), cases_Bool (keep y), found_kept ys q, same_Some)
 
@@ -69,7 +69,7 @@ module _ (h : Header) (is : IsHeader h) (k : Known) (d : DriverKeeps h k) (id : 
   shape_same s other = ap (λ o. shape_or Xfer o) (ring_same s other)
 
   -- it isn't there any more
-  not_there : (s : ℕ) (q : Ring) → ring_with g s ≡ Some q → s ≢ id
+  pub not_there : (s : ℕ) (q : Ring) → ring_with g s ≡ Some q → s ≢ id
   not_there s q found same =
       let there = found_in (λ x. x.id == s) (filter keep h.rings) q found in
       false≢true (sym (not-true (q.id == id) ((from_filter keep h.rings q there.0).1)) ∙ eq-eqb q.id id (eqb-true q.id s there.1 ∙ same))

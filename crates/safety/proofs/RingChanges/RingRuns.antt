@@ -102,13 +102,13 @@ module _ (h : Header) (is : IsHeader h) (r : Ring) (coming : IsComing r) where
 -- ---- a ring that goes
 
 module _ (h : Header) (is : IsHeader h) (id : ℕ) where
-  record Gone (k : Known) (unread : List Block) : Type 0 where
+  pub record Gone (k : Known) (unread : List Block) : Type 0 where
     pub possible : ArePossible (without_ring h id) (forgotten k id) unread
     pub same : all_read (without_ring h id) (forgotten k id) unread ≡ forgotten (all_read h k unread) id
     pub keeps : DriverKeeps h (all_read h k unread)
     pub good : is_bad_free h (all_read h k unread) id ≡ false
 
-  gone : (unread : List Block) (k : Known) → DriverKeeps h k → is_bad_free h k id ≡ false → ArePossible h k unread → k.stopped ≡ false → Gone k unread
+  pub gone : (unread : List Block) (k : Known) → DriverKeeps h k → is_bad_free h k id ≡ false → ArePossible h k unread → k.stopped ≡ false → Gone k unread
   gone [] k d good possible on = record { possible = tt; same = refl; keeps = d; good = good }
   gone (e ∷ rest) k d good possible on =
       let l : Known = learned h k (Read e) in

@@ -6,15 +6,11 @@ use Rattle.traces.specs.declared.step.Step.{Step}
 use Rattle.traces.specs.declared.trace_row.TraceRow.{TraceRow}
 use Rattle.traces.specs.Header.{IsHeader, shape_of}
 use Rattle.world_state.specs.World.{World}
-use Rattle.controller_model.specs.Scenes.{Scene, scene_reached}
+use Rattle.world_state.specs.Scenes.{Scene, scene_reached}
 use Rattle.ring_knowledge.specs.Known.{Known}
 use Rattle.safety.specs.RingChanges.Histories.{AreKept, FitsFields, header_now, known_now}
 use Rattle.safety.specs.LazyRuns.LateEvents.{IsTimely}
 use Rattle.safety.specs.LazyRuns.Lazy.{lazy_run, lazy_steps}
-
--- the world, with the rings that are there and the rows still to come
-abbrev pub scene_with : Header → List TraceRow → World → Scene
-scene_with h rows w = record { header = h; rows = rows; world = w }
 
 module _ (h : Header) where
   -- the steps, the newest first, are a run beside the rows that contains them all
@@ -35,9 +31,11 @@ module _ (h : Header) where
 module _ (h : Header) where
   -- the lazy run behind the rows so far, the newest first, with the others to come
   pub record GoesSoFar (past later : List TraceRow) : Type 0 where
-    pub world : World
-    pub run : scene_reached h (reverse past ++ later) (lazy_run h past later) ≡ Some (scene_with (header_now h past) later world)
-    pub floors : AreAtFloors (header_now h past) (known_now h past) world
+    pub scene : Scene
+    pub run : scene_reached h (reverse past ++ later) (lazy_run h past later) ≡ Some scene
+    pub live : scene.live ≡ header_now h past
+    pub left : scene.rows ≡ later
+    pub floors : AreAtFloors (header_now h past) (known_now h past) scene.world
 
   -- a clean trace without late events, behind each of its rows
   abbrev pub LazyLaw : Type 0

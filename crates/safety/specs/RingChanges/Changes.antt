@@ -13,7 +13,7 @@ use Rattle.ring_knowledge.specs.Known.{Known}
 use Rattle.ownership_rules.specs.Areas.{is_in_range_lease, is_soiled}
 use Rattle.ownership_rules.specs.Moves.{is_being_bound}
 use Rattle.safety.specs.EndpointsKeep.{is_transfer_ring}
-unfoldable pub use Rattle.controller_model.specs.RingRows.{emptied, with_ring, without_ring}
+unfoldable pub use Rattle.world_state.specs.RingRows.{emptied, with_ring, without_ring}
 
 unfoldable pub forgotten : Known → ℕ → Known
 forgotten k id = record k { ring = put k.ring id new_ring }

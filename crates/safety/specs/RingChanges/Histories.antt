@@ -1,13 +1,10 @@
 -- Traces in which rings come and go between the rows, and descriptors are withdrawn: what is known behind each row, by the rings that are
 -- there, and when a history is clean
-use Rattle.std.specs.Prelude.{◌≡◌, ◌<◌, ◌^◌, false, List, [], ◌∷◌, All, reverse, Some}
+use Rattle.std.specs.Prelude.{◌≡◌, ◌<◌, ◌^◌, false, List, [], ◌∷◌}
 use Rattle.traces.specs.declared.header.Header.{Header}
 use Rattle.traces.specs.declared.trace_row.TraceRow.{TraceRow}
 use Rattle.traces.specs.declared.trace_row.TraceRow.TheVariants.{Plain, Comes, Goes, Withdraws}
-use Rattle.traces.specs.declared.step.Step.{Step}
-use Rattle.traces.specs.Header.{IsHeader}
-use Rattle.traces.specs.Rows.{IsRow, IsStep}
-use Rattle.world_state.specs.Harms.{IsSafe}
+use Rattle.traces.specs.Rows.{IsRow}
 use Rattle.ring_knowledge.specs.Known.{Known, nothing}
 use Rattle.ring_knowledge.specs.Learned.{learned}
 use Rattle.ownership_rules.specs.Rules.{lenient}
@@ -15,8 +12,8 @@ use Rattle.segments.specs.RingView as changes
 use Rattle.ring_knowledge.specs.Rings.{on_ring}
 use Rattle.safety.specs.RingChanges.Withdrawals.{is_bad_withdraw, is_left, restored, ring_restored, some_flips}
 use Rattle.safety.specs.RingChanges.Changes.{IsComing, forgotten, is_bad_free, is_bad_ring}
-pub use Rattle.controller_model.specs.RingRows.{header_after, row_made}
-pub use Rattle.controller_model.specs.Scenes.{Scene, row_next, scene_reached, step_made}
+pub use Rattle.world_state.specs.RingRows.{header_after}
+pub use Rattle.world_state.specs.Scenes.{Scene, row_made, row_next, scene_reached, step_made}
 
 -- what the type of a row keeps
 abbrev pub FitsFields : TraceRow → Type 0
@@ -53,9 +50,3 @@ module _ (h : Header) where
   abbrev pub AreKept : List TraceRow → Type 0
   AreKept [] = Unit {0}
   AreKept (row ∷ past) = AreKept past × IsKept (header_now past) (known_now past) row
-
-  -- behind each step of each run beside rows that break no rule the world is safe
-  abbrev pub RingsHeadline : Type 0
-  RingsHeadline =
-      (rows : List TraceRow) → IsHeader h → All FitsFields rows → AreKept (reverse rows) →
-      (made : List Step) (x : Scene) → All IsStep made → scene_reached h rows made ≡ Some x → IsSafe x.header x.world

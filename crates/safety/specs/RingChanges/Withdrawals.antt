@@ -15,7 +15,7 @@ use Rattle.ring_knowledge.specs.Known.{Known}
 use Rattle.ring_knowledge.specs.Rings.{on_ring}
 use Rattle.ring_knowledge.specs.Writes.{command_given}
 use Rattle.ownership_rules.specs.Doorbells.{is_touched}
-unfoldable pub use Rattle.controller_model.specs.RingRows.{without_descriptor}
+unfoldable pub use Rattle.world_state.specs.RingRows.{without_descriptor}
 
 -- the ring that a command moves
 unfoldable pub ring_moved : Known → Option Command → Option ℕ

@@ -1,10 +1,10 @@
 -- A row that is answered fits the fields of its type
-use Rattle.trace_reader.proofs.UpperLaws.{rules, ◌≡◌, ◌≤◌, ◌∷◌, ◌++◌, ℕ, Bool, true, false, List, [], Option, Some, None, Result, Ok, Err, refl, ap, All-head, IfOk, IfSome, TraceRow, IsTraceRow, TextLine, lines_of, State, read_line, read_lines, ahead_of, IsCall, has_ended, progress_of, Call, Progress, next_row, StreamFault, RowReader, IsLineRow, read_on, spells_from_read, call_of}
+use Rattle.trace_reader.proofs.UpperLaws.{rules, ◌≡◌, ◌≤◌, ◌∷◌, ◌++◌, ℕ, Bool, true, false, List, [], Option, Some, None, Result, Ok, Err, refl, ap, All-head, IfOk, IfSome, TraceRow, IsTraceRow, TextLine, lines_of, State, read_line, read_lines, ahead_of, IsCall, has_ended, progress_of, Call, Progress, next_row, StreamFault, RowReader, IsRowOf, read_on, spells_from_read, call_of}
 
 line_says : (st next : State) (line : TextLine) (row : TraceRow) → 2 ≤ st.lines → read_line st line ≡ Ok (next, Some row) → IsTraceRow row
 unfolding read_lines
 line_says st next line row behind is =
-    (All-head (IsLineRow st.version) row [] (spells_from_read (line ∷ []) st (next, row ∷ []) behind (read_on st next line [] (Some row) next [] is refl)).are.fit).0
+    (All-head (IsRowOf st.version) row [] (spells_from_read (line ∷ []) st (next, row ∷ []) behind (read_on st next line [] (Some row) next [] is refl)).are.fit).0
 
 module _ (st : State) (behind : 2 ≤ st.lines) (p' : Progress) (text left : List ℕ) (row : ℕ × TraceRow) where
   abbrev GivesRow : Call → Type 0

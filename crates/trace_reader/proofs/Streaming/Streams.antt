@@ -1,7 +1,7 @@
 -- The rows so far and what further calls give are what the whole text says
-use Rattle.trace_reader.proofs.UpperLaws.{arith, common_steps, rules, ◌≡◌, ◌+◌, ◌∷◌, ◌++◌, ◌∙◌, ℕ, List, [], Bool, true, false, Option, Some, None, Result, Ok, Err, refl, ap, sym, subst, append-nil, append_assoc, Consumes-trans, Header, TraceRow, TextLine, lines_of, LineFault, text_taken, State, TextOf, next_number, RowReader, OfLater, OfText, ahead_of, IsCall, IsSameTrace, IsOpened, progress_of, Call, Progress, opened, next_row, IsBadTaken, IsReadTo, OfStream, read_with, GivenRows, answered, given_taken, joined_behind, rows_given, with_given, taken_by_calls, Line, call_of, ended_if_read}
+use Rattle.trace_reader.proofs.UpperLaws.{arith, common_steps, rules, ◌≡◌, ◌+◌, ◌∷◌, ◌++◌, ◌∙◌, ℕ, List, [], Bool, true, false, Option, Some, None, Result, Ok, Err, refl, ap, sym, subst, append-nil, append_assoc, Consumes-trans, Header, TraceRow, TextLine, lines_of, LineFault, trace_of, State, TraceText, next_number, RowReader, OfLater, OfText, ahead_of, IsCall, IsSameTrace, IsOpened, progress_of, Call, Progress, opened, next_row, IsBadLine, IsReadTo, OfStream, read_with, GivenRows, answered, joined_behind, rows_given, read_by_calls, Line, call_of, ended_if_read}
 use Rattle.trace_reader.specs.Streaming.Streams.{HasRead}
-use Rattle.trace_reader.proofs.Streaming.CallsJoined.{calls_say_what_is_taken, lines_left}
+use Rattle.trace_reader.proofs.Streaming.CallsJoined.{calls_say_the_text, lines_left}
 use Rattle.trace_reader.proofs.Streaming.Openings.{step_of}
 
 -- ---- of a text, what follows of it
@@ -69,105 +69,103 @@ module _ (st : State) (p' : Progress) (left left' : List ℕ) (row : ℕ × Trac
       rows_given (lines_of left) (record { read = st; ended = false }) left ≡ answered (Ok (Some row)) (rows_given (lines_of left') p' left')
   row_given gives = grind (arith, row_line, Ok, row_line (lines_of left) refl gives)
 
-module _ {R : Type 0} (take : TraceRow → Result R LineFault) where
-  -- ---- the rows so far
+-- ---- the rows so far
 
-  module _ (h : Header) (first : ℕ) (done : List R) where
-    -- the row is taken
-    row_taken : (row : ℕ × TraceRow) (one : R) (given : GivenRows) → take row.1 ≡ Ok one →
-        read_with h first done (given_taken take (answered (Ok (Some row)) given)) ≡ read_with h first (done ++ one ∷ []) (given_taken take given)
-    row_taken row one given is = ap (λ o. read_with h first done (with_given row.0 o (given_taken take given))) is ∙ (grind (arith, common_steps))
+module _ (h : Header) (first : ℕ) (done : List TraceRow) where
+  -- the row is one of the rows so far
+  row_noted : (row : ℕ × TraceRow) (given : GivenRows) → read_with h first done (answered (Ok (Some row)) given) ≡ read_with h first (done ++ row.1 ∷ []) given
+  row_noted row given = grind (arith, common_steps)
 
-    with_none : read_with h first done ([], None) ≡ Ok (record { header = h; first = first; rows = done })
-    with_none = ap (λ (rs : List R). Ok (record { header = h; first = first; rows = rs })) (append-nil done)
+  with_none : read_with h first done ([], None) ≡ Ok (record { header = h; first = first; rows = done })
+  with_none = ap (λ (rs : List TraceRow). Ok (record { header = h; first = first; rows = rs })) (append-nil done)
 
-  opened_so : (keeps : Bool) (st : State) (ended : Bool) (text left : List ℕ) → opened keeps text ≡ Ok (record { read = st; ended = ended }, left) →
-      text_taken keeps take text ≡ read_with (record { version = st.version; context_size = st.size; rings = st.rings }) (st.lines + 1) [] (given_taken take (rows_given (lines_of left) (record { read = st; ended = ended }) left))
-  unfolding taken_by_calls
-  opened_so keeps st ended text left is =
-      sym (calls_say_what_is_taken take keeps text) ∙ ap (joined_behind take) is ∙ (search rules)
+opened_so : (keeps : Bool) (st : State) (ended : Bool) (text left : List ℕ) → opened keeps text ≡ Ok (record { read = st; ended = ended }, left) →
+    trace_of keeps text ≡ read_with (record { version = st.version; context_size = st.size; rings = st.rings }) (st.lines + 1) [] ((rows_given (lines_of left) (record { read = st; ended = ended }) left))
+unfolding read_by_calls
+opened_so keeps st ended text left is =
+    sym (calls_say_the_text keeps text) ∙ ap (joined_behind) is ∙ (search rules)
 
-  -- where the reading was opened no row was read
-  pub opened_read : (keeps : Bool) (held held' : Option (List ℕ)) (r : RowReader) → IsOpened keeps held held' (Ok r) → HasRead take held held' (r.lines + 1) [] r
-  opened_read keeps held held' r is =
-      subst (λ (k : Bool). IsReadTo k take held held' r.header (r.lines + 1) [] (progress_of r) (ahead_of r.ahead)) (sym is.0)
-      (text_too r.ended held held' [] (ahead_of r.ahead) (λ text left. opened keeps text ≡ Ok (progress_of r, left))
-      (λ text left. text_taken keeps take text ≡ read_with r.header (r.lines + 1) [] (given_taken take (rows_given (lines_of left) (progress_of r) left))) (opened_so keeps (progress_of r).read r.ended) is.1)
+-- where the reading was opened no row was read
+pub opened_read : (keeps : Bool) (held held' : Option (List ℕ)) (r : RowReader) → IsOpened keeps held held' (Ok r) → HasRead held held' (r.lines + 1) [] r
+opened_read keeps held held' r is =
+    subst (λ (k : Bool). IsReadTo k held held' r.header (r.lines + 1) [] (progress_of r) (ahead_of r.ahead)) (sym is.0)
+    (text_too r.ended held held' [] (ahead_of r.ahead) (λ text left. opened keeps text ≡ Ok (progress_of r, left))
+    (λ text left. trace_of keeps text ≡ read_with r.header (r.lines + 1) [] ((rows_given (lines_of left) (progress_of r) left))) (opened_so keeps (progress_of r).read r.ended) is.1)
 
-  module _ (keeps : Bool) (held held' held'' : Option (List ℕ)) (h : Header) (first : ℕ) (done : List R) (st st' : State) (ahead ahead' : List ℕ) where
-    abbrev Stands : Bool → Type 0
-    Stands ended = IsReadTo keeps take held held' h first done (record { read = st; ended = ended }) ahead
+module _ (keeps : Bool) (held held' held'' : Option (List ℕ)) (h : Header) (first : ℕ) (done : List TraceRow) (st st' : State) (ahead ahead' : List ℕ) where
+  abbrev Stands : Bool → Type 0
+  Stands ended = IsReadTo keeps held held' h first done (record { read = st; ended = ended }) ahead
 
-    row_more : (ended : Bool) (row : ℕ × TraceRow) (one : R) → take row.1 ≡ Ok one → Stands ended → IsCall (record { read = st; ended = ended }) (record { read = st'; ended = false }) held' held'' ahead ahead' (Ok (Some row)) →
-        IsReadTo keeps take held held'' h first (done ++ one ∷ []) (record { read = st'; ended = false }) ahead'
-    row_more true row one is stands (came, used, all) = absurd (over_gives st (record { read = st'; ended = false }) (ahead ++ came ++ []) (ahead' ++ []) row (all []))
-    row_more false row one is stands call =
-        let p' : Progress = record { read = st'; ended = false } in
-        text_then false held held' held'' ahead ahead' (λ text left. text_taken keeps take text ≡ read_with h first done (given_taken take (rows_given (lines_of left) (record { read = st; ended = false }) left)))
-        (λ text left. next_row (record { read = st; ended = false }) text ≡ record { answer = Ok (Some row); progress = p'; left = left })
-        (λ text left. text_taken keeps take text ≡ read_with h first (done ++ one ∷ []) (given_taken take (rows_given (lines_of left) p' left)))
-        (λ text left left' told gives. told ∙ ap (λ g. read_with h first done (given_taken take g)) (row_given st p' left left' row gives) ∙ row_taken h first done row one (rows_given (lines_of left') p' left') is) stands call
+  row_more : (ended : Bool) (row : ℕ × TraceRow) → Stands ended → IsCall (record { read = st; ended = ended }) (record { read = st'; ended = false }) held' held'' ahead ahead' (Ok (Some row)) →
+      IsReadTo keeps held held'' h first (done ++ row.1 ∷ []) (record { read = st'; ended = false }) ahead'
+  row_more true row stands (came, used, all) = absurd (over_gives st (record { read = st'; ended = false }) (ahead ++ came ++ []) (ahead' ++ []) row (all []))
+  row_more false row stands call =
+      let p' : Progress = record { read = st'; ended = false } in
+      text_then false held held' held'' ahead ahead' (λ text left. trace_of keeps text ≡ read_with h first done ((rows_given (lines_of left) (record { read = st; ended = false }) left)))
+      (λ text left. next_row (record { read = st; ended = false }) text ≡ record { answer = Ok (Some row); progress = p'; left = left })
+      (λ text left. trace_of keeps text ≡ read_with h first (done ++ row.1 ∷ []) ((rows_given (lines_of left) p' left)))
+      (λ text left left' told gives. told ∙ ap (λ g. read_with h first done (g)) (row_given st p' left left' row gives) ∙ row_noted h first done row (rows_given (lines_of left') p' left')) stands call
 
-    -- the answers that end the reading, and what they say of the whole text
-    end_more : (answer : Result (Option (ℕ × TraceRow)) (ℕ × LineFault)) (said : Result (TextOf R) (ℕ × LineFault)) →
-        ((left left' : List ℕ) → next_row (record { read = st; ended = false }) left ≡ record { answer = answer; progress = record { read = st'; ended = true }; left = left' } →
-        read_with h first done (given_taken take (rows_given (lines_of left) (record { read = st; ended = false }) left)) ≡ said) →
-        Stands false → OfText true held' held'' ahead ahead' (λ text left. next_row (record { read = st; ended = false }) text ≡ record { answer = answer; progress = record { read = st'; ended = true }; left = left }) →
-        OfStream held held'' (λ text. text_taken keeps take text ≡ said)
-    end_more answer said says stands call =
-        text_then true held held' held'' ahead ahead' (λ text left. text_taken keeps take text ≡ read_with h first done (given_taken take (rows_given (lines_of left) (record { read = st; ended = false }) left)))
-        (λ text left. next_row (record { read = st; ended = false }) text ≡ record { answer = answer; progress = record { read = st'; ended = true }; left = left })
-        (λ text left. text_taken keeps take text ≡ said) (λ text left left' told gives. told ∙ says left left' gives) stands call
+  -- the answers that end the reading, and what they say of the whole text
+  end_more : (answer : Result (Option (ℕ × TraceRow)) (ℕ × LineFault)) (said : Result (TraceText) (ℕ × LineFault)) →
+      ((left left' : List ℕ) → next_row (record { read = st; ended = false }) left ≡ record { answer = answer; progress = record { read = st'; ended = true }; left = left' } →
+      read_with h first done ((rows_given (lines_of left) (record { read = st; ended = false }) left)) ≡ said) →
+      Stands false → OfText true held' held'' ahead ahead' (λ text left. next_row (record { read = st; ended = false }) text ≡ record { answer = answer; progress = record { read = st'; ended = true }; left = left }) →
+      OfStream held held'' (λ text. trace_of keeps text ≡ said)
+  end_more answer said says stands call =
+      text_then true held held' held'' ahead ahead' (λ text left. trace_of keeps text ≡ read_with h first done ((rows_given (lines_of left) (record { read = st; ended = false }) left)))
+      (λ text left. next_row (record { read = st; ended = false }) text ≡ record { answer = answer; progress = record { read = st'; ended = true }; left = left })
+      (λ text left. trace_of keeps text ≡ said) (λ text left left' told gives. told ∙ says left left' gives) stands call
 
-    all_read : (ended : Bool) → Stands ended → IsCall (record { read = st; ended = ended }) (record { read = st'; ended = true }) held' held'' ahead ahead' (Ok None) → (ended ≡ true → held'' ≡ held') →
-        OfStream held held'' (λ text. text_taken keeps take text ≡ Ok (record { header = h; first = first; rows = done }))
-    all_read true stands call still = search (rules, text_too, over, with_none)
-    all_read false stands call still =
-        end_more (Ok None) (Ok (record { header = h; first = first; rows = done })) (λ left left' gives.
-        ap (λ g. read_with h first done (given_taken take g)) (none_given (record { read = st; ended = false }) (record { read = st'; ended = true }) left left' (lines_of left) gives) ∙ with_none h first done) stands call
+  all_read : (ended : Bool) → Stands ended → IsCall (record { read = st; ended = ended }) (record { read = st'; ended = true }) held' held'' ahead ahead' (Ok None) → (ended ≡ true → held'' ≡ held') →
+      OfStream held held'' (λ text. trace_of keeps text ≡ Ok (record { header = h; first = first; rows = done }))
+  all_read true stands call still = search (rules, text_too, over, with_none)
+  all_read false stands call still =
+      end_more (Ok None) (Ok (record { header = h; first = first; rows = done })) (λ left left' gives.
+      ap (λ g. read_with h first done (g)) (none_given (record { read = st; ended = false }) (record { read = st'; ended = true }) left left' (lines_of left) gives) ∙ with_none h first done) stands call
 
-    over_bad : (left : List ℕ) (fault : ℕ × LineFault) (c : Call) → next_row (record { read = st; ended = true }) left ≡ record c { answer = Err fault } → ⊥
-    unfolding next_row
-    over_bad left fault c is = let none = ap (λ (d : Call). d.answer) is in cc none
+  over_bad : (left : List ℕ) (fault : ℕ × LineFault) (c : Call) → next_row (record { read = st; ended = true }) left ≡ record c { answer = Err fault } → ⊥
+  unfolding next_row
+  over_bad left fault c is = let none = ap (λ (d : Call). d.answer) is in cc none
 
-    bad_read : (ended : Bool) (line : ℕ) (fault : LineFault) → Stands ended →
-        IsCall (record { read = st; ended = ended }) (record { read = st'; ended = true }) held' held'' ahead ahead' (Err (Line line fault)) → IsBadTaken keeps take held held'' line fault
-    bad_read true line fault stands (came, used, (later, is, call)) =
-        absurd (over_bad (ahead ++ came ++ later) (line, fault) (record { answer = Err (line, fault); progress = record { read = st'; ended = true }; left = ahead' ++ later }) call)
-    bad_read false line fault stands call =
-        end_more (Err (line, fault)) (Err (line, fault)) (λ left left' gives.
-        ap (λ g. read_with h first done (given_taken take g)) (bad_given (record { read = st; ended = false }) (record { read = st'; ended = true }) left left' (line, fault) (lines_of left) gives)) stands call
+  bad_read : (ended : Bool) (line : ℕ) (fault : LineFault) → Stands ended →
+      IsCall (record { read = st; ended = ended }) (record { read = st'; ended = true }) held' held'' ahead ahead' (Err (Line line fault)) → IsBadLine keeps held held'' line fault
+  bad_read true line fault stands (came, used, (later, is, call)) =
+      absurd (over_bad (ahead ++ came ++ later) (line, fault) (record { answer = Err (line, fault); progress = record { read = st'; ended = true }; left = ahead' ++ later }) call)
+  bad_read false line fault stands call =
+      end_more (Err (line, fault)) (Err (line, fault)) (λ left left' gives.
+      ap (λ g. read_with h first done (g)) (bad_given (record { read = st; ended = false }) (record { read = st'; ended = true }) left left' (line, fault) (lines_of left) gives)) stands call
 
-  -- ---- the same of a reader
+-- ---- the same of a reader
 
-  -- a row stands on the next line
-  line_of_row : (held held' : Option (List ℕ)) (ahead ahead' : List ℕ) (st st' : State) (ended : Bool) (row : ℕ × TraceRow) →
-      IsCall (record { read = st; ended = ended }) (record { read = st'; ended = false }) held held' ahead ahead' (Ok (Some row)) → (row.0 ≡ next_number st) × (st'.lines ≡ row.0)
-  line_of_row held held' ahead ahead' st st' true row (came, used, all) = absurd (over_gives st (record { read = st'; ended = false }) (ahead ++ came ++ []) (ahead' ++ []) row (all []))
-  line_of_row held held' ahead ahead' st st' false row (came, used, all) =
-      let l = row_line st (record { read = st'; ended = false }) (ahead ++ came ++ []) (ahead' ++ []) row (lines_of (ahead ++ came ++ [])) refl (all []) in
-      (l.3.number, l.3.behind)
+-- a row stands on the next line
+line_of_row : (held held' : Option (List ℕ)) (ahead ahead' : List ℕ) (st st' : State) (ended : Bool) (row : ℕ × TraceRow) →
+    IsCall (record { read = st; ended = ended }) (record { read = st'; ended = false }) held held' ahead ahead' (Ok (Some row)) → (row.0 ≡ next_number st) × (st'.lines ≡ row.0)
+line_of_row held held' ahead ahead' st st' true row (came, used, all) = absurd (over_gives st (record { read = st'; ended = false }) (ahead ++ came ++ []) (ahead' ++ []) row (all []))
+line_of_row held held' ahead ahead' st st' false row (came, used, all) =
+    let l = row_line st (record { read = st'; ended = false }) (ahead ++ came ++ []) (ahead' ++ []) row (lines_of (ahead ++ came ++ [])) refl (all []) in
+    (l.3.number, l.3.behind)
 
-  pub row_numbered : (held held' : Option (List ℕ)) (r r' : RowReader) (row : ℕ × TraceRow) → r'.ended ≡ false → IsCall (progress_of r) (progress_of r') held held' (ahead_of r.ahead) (ahead_of r'.ahead) (Ok (Some row)) →
-      (row.0 ≡ r.lines + 1) × (r'.lines ≡ row.0)
-  row_numbered held held' r r' row on call =
-      line_of_row held held' (ahead_of r.ahead) (ahead_of r'.ahead) (progress_of r).read (progress_of r').read r.ended row (rw on at call)
+pub row_numbered : (held held' : Option (List ℕ)) (r r' : RowReader) (row : ℕ × TraceRow) → r'.ended ≡ false → IsCall (progress_of r) (progress_of r') held held' (ahead_of r.ahead) (ahead_of r'.ahead) (Ok (Some row)) →
+    (row.0 ≡ r.lines + 1) × (r'.lines ≡ row.0)
+row_numbered held held' r r' row on call =
+    line_of_row held held' (ahead_of r.ahead) (ahead_of r'.ahead) (progress_of r).read (progress_of r').read r.ended row (rw on at call)
 
-  module _ (held held' held'' : Option (List ℕ)) (first : ℕ) (done : List R) (r r' : RowReader) (same : IsSameTrace r r') (read : HasRead take held held' first done r) where
-    pub row_read : (row : ℕ × TraceRow) (one : R) → take row.1 ≡ Ok one → r'.ended ≡ false → IsCall (progress_of r) (progress_of r') held' held'' (ahead_of r.ahead) (ahead_of r'.ahead) (Ok (Some row)) →
-        HasRead take held held'' first (done ++ one ∷ []) r'
-    row_read row one is on call =
-        subst (λ (k : Bool). IsReadTo k take held held'' r'.header first (done ++ one ∷ []) (progress_of r') (ahead_of r'.ahead)) (sym same.1)
-        (subst (λ (h : Header). IsReadTo r.keeps take held held'' h first (done ++ one ∷ []) (progress_of r') (ahead_of r'.ahead)) (sym same.0)
-        (subst (λ (e : Bool). IsReadTo r.keeps take held held'' r.header first (done ++ one ∷ []) (record { read = (progress_of r').read; ended = e }) (ahead_of r'.ahead)) (sym on)
-        (row_more r.keeps held held' held'' r.header first done (progress_of r).read (progress_of r').read (ahead_of r.ahead) (ahead_of r'.ahead) r.ended row one is read (rw on at call))))
+module _ (held held' held'' : Option (List ℕ)) (first : ℕ) (done : List TraceRow) (r r' : RowReader) (same : IsSameTrace r r') (read : HasRead held held' first done r) where
+  pub row_read : (row : ℕ × TraceRow) → r'.ended ≡ false → IsCall (progress_of r) (progress_of r') held' held'' (ahead_of r.ahead) (ahead_of r'.ahead) (Ok (Some row)) →
+      HasRead held held'' first (done ++ row.1 ∷ []) r'
+  row_read row on call =
+      subst (λ (k : Bool). IsReadTo k held held'' r'.header first (done ++ row.1 ∷ []) (progress_of r') (ahead_of r'.ahead)) (sym same.1)
+      (subst (λ (h : Header). IsReadTo r.keeps held held'' h first (done ++ row.1 ∷ []) (progress_of r') (ahead_of r'.ahead)) (sym same.0)
+      (subst (λ (e : Bool). IsReadTo r.keeps held held'' r.header first (done ++ row.1 ∷ []) (record { read = (progress_of r').read; ended = e }) (ahead_of r'.ahead)) (sym on)
+      (row_more r.keeps held held' held'' r.header first done (progress_of r).read (progress_of r').read (ahead_of r.ahead) (ahead_of r'.ahead) r.ended row read (rw on at call))))
 
-    pub end_read : r'.ended ≡ true → IsCall (progress_of r) (progress_of r') held' held'' (ahead_of r.ahead) (ahead_of r'.ahead) (Ok None) → (r.ended ≡ true → held'' ≡ held') →
-        OfStream held held'' (λ text. text_taken r.keeps take text ≡ Ok (record { header = r.header; first = first; rows = done }))
-    end_read ended call still =
-        all_read r.keeps held held' held'' r.header first done (progress_of r).read (progress_of r').read (ahead_of r.ahead) (ahead_of r'.ahead) r.ended read (rw ended at call) still
+  pub end_read : r'.ended ≡ true → IsCall (progress_of r) (progress_of r') held' held'' (ahead_of r.ahead) (ahead_of r'.ahead) (Ok None) → (r.ended ≡ true → held'' ≡ held') →
+      OfStream held held'' (λ text. trace_of r.keeps text ≡ Ok (record { header = r.header; first = first; rows = done }))
+  end_read ended call still =
+      all_read r.keeps held held' held'' r.header first done (progress_of r).read (progress_of r').read (ahead_of r.ahead) (ahead_of r'.ahead) r.ended read (rw ended at call) still
 
-    pub line_read_bad : r'.ended ≡ true → (line : ℕ) (fault : LineFault) → IsCall (progress_of r) (progress_of r') held' held'' (ahead_of r.ahead) (ahead_of r'.ahead) (Err (Line line fault)) →
-        IsBadTaken r.keeps take held held'' line fault
-    line_read_bad ended line fault call =
-        bad_read r.keeps held held' held'' r.header first done (progress_of r).read (progress_of r').read (ahead_of r.ahead) (ahead_of r'.ahead) r.ended line fault read (rw ended at call)
+  pub line_read_bad : r'.ended ≡ true → (line : ℕ) (fault : LineFault) → IsCall (progress_of r) (progress_of r') held' held'' (ahead_of r.ahead) (ahead_of r'.ahead) (Err (Line line fault)) →
+      IsBadLine r.keeps held held'' line fault
+  line_read_bad ended line fault call =
+      bad_read r.keeps held held' held'' r.header first done (progress_of r).read (progress_of r').read (ahead_of r.ahead) (ahead_of r'.ahead) r.ended line fault read (rw ended at call)

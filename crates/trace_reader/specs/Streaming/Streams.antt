@@ -4,23 +4,22 @@ use Rattle.line_text.specs.Lines.{lines_of}
 use Rattle.traces.specs.declared.header.Header.{Header}
 use Rattle.traces.specs.declared.trace_row.TraceRow.{TraceRow}
 use Rattle.trace_reader.specs.declared.fault.LineFault.{LineFault}
-use Rattle.trace_reader.specs.Reading.{TextOf}
-use Rattle.trace_reader.specs.DriverRows.{text_taken}
+use Rattle.trace_reader.specs.Reading.{TraceText, trace_of}
 use Rattle.trace_reader.specs.declared.row_reader.fault.StreamFault.{StreamFault}
 use Rattle.trace_reader.specs.declared.row_reader.fault.StreamFault.TheVariants.{Line, Device, Memory}
 use Rattle.trace_reader.specs.declared.row_reader.reader.RowReader.{RowReader}
 use Rattle.trace_reader.specs.Streaming.Ahead.{OfText, ahead_of}
 use Rattle.trace_reader.specs.Streaming.ReaderState.{progress_of}
 use Rattle.trace_reader.specs.Streaming.RowByRow.{Progress}
-use Rattle.trace_reader.specs.Streaming.WholeTexts.{GivenOf, given_taken, rows_given}
+use Rattle.trace_reader.specs.Streaming.WholeTexts.{GivenRows, rows_given}
 
 -- so it is of the text that came from the device, with what it still holds behind that
 abbrev pub OfStream : Option (List ℕ) → Option (List ℕ) → (List ℕ → Type 0) → Type 0
 OfStream held held' P = OfText true held held' [] [] (λ text left. P text)
 
--- this is the first bad line of this text and its least fault, where rows are taken so
-abbrev pub IsBadTaken : {R : Type 0} → Bool → (TraceRow → Result R LineFault) → Option (List ℕ) → Option (List ℕ) → ℕ → LineFault → Type 0
-IsBadTaken keeps take held held' line fault = OfStream held held' (λ text. text_taken keeps take text ≡ Err (line, fault))
+-- this is the first bad line of this text and its least fault
+abbrev pub IsBadLine : Bool → Option (List ℕ) → Option (List ℕ) → ℕ → LineFault → Type 0
+IsBadLine keeps held held' line fault = OfStream held held' (λ text. trace_of keeps text ≡ Err (line, fault))
 
 -- what a bad line says; want of memory and a failure of the device say nothing
 abbrev pub IfBadLine : StreamFault → (ℕ → LineFault → Type 0) → Type 0
@@ -31,15 +30,15 @@ IfBadLine Memory P = Unit {0}
 -- ---- how far calls have come
 
 -- rows that were read and those that further calls give, as a trace with this header and number of the first row; or the bad line
-abbrev pub read_with : {R : Type 0} → Header → ℕ → List R → GivenOf R → Result (TextOf R) (ℕ × LineFault)
+abbrev pub read_with : Header → ℕ → List TraceRow → GivenRows → Result TraceText (ℕ × LineFault)
 read_with h first done (rows, None) = Ok (record { header = h; first = first; rows = done ++ map (λ r. r.1) rows })
 read_with h first done (rows, Some fault) = Err fault
 
--- the text says the rows that were taken so, and then what further calls give of what is left
-abbrev pub IsReadTo : {R : Type 0} → Bool → (TraceRow → Result R LineFault) → Option (List ℕ) → Option (List ℕ) → Header → ℕ → List R → Progress → List ℕ → Type 0
-IsReadTo keeps take held held' h first done p ahead =
-    OfText p.ended held held' [] ahead (λ text left. text_taken keeps take text ≡ read_with h first done (given_taken take (rows_given (lines_of left) p left)))
+-- the text says these rows, and then what further calls give of what is left
+abbrev pub IsReadTo : Bool → Option (List ℕ) → Option (List ℕ) → Header → ℕ → List TraceRow → Progress → List ℕ → Type 0
+IsReadTo keeps held held' h first done p ahead =
+    OfText p.ended held held' [] ahead (λ text left. trace_of keeps text ≡ read_with h first done (rows_given (lines_of left) p left))
 
--- these rows were read and taken so, and the reader stands behind them
-abbrev pub HasRead : {R : Type 0} → (TraceRow → Result R LineFault) → Option (List ℕ) → Option (List ℕ) → ℕ → List R → RowReader → Type 0
-HasRead take held held' first done r = IsReadTo r.keeps take held held' r.header first done (progress_of r) (ahead_of r.ahead)
+-- these rows were read, and the reader stands behind them
+abbrev pub HasRead : Option (List ℕ) → Option (List ℕ) → ℕ → List TraceRow → RowReader → Type 0
+HasRead held held' first done r = IsReadTo r.keeps held held' r.header first done (progress_of r) (ahead_of r.ahead)

@@ -3,15 +3,12 @@ use Rattle.std.specs.Prelude.{◌≡◌, ℕ, Bool, ◌+◌, List, [], ◌∷◌
 use Rattle.line_text.specs.Lines.{TextLine, lines_of}
 use Rattle.traces.specs.declared.trace_row.TraceRow.{TraceRow}
 use Rattle.trace_reader.specs.declared.fault.LineFault.{LineFault}
-use Rattle.trace_reader.specs.Reading.{State, TextOf, TraceText, next_number, read_lines}
+use Rattle.trace_reader.specs.Reading.{State, TraceText, next_number, read_lines}
 use Rattle.trace_reader.specs.Streaming.RowByRow.{Progress, next_row, opened}
 
 -- rows with the numbers of their lines; and the bad line behind them, where one is why no more came
-abbrev pub GivenOf : Type 0 → Type 0
-GivenOf R = List (ℕ × R) × Option (ℕ × LineFault)
-
 abbrev pub GivenRows : Type 0
-GivenRows = GivenOf TraceRow
+GivenRows = List (ℕ × TraceRow) × Option (ℕ × LineFault)
 
 abbrev pub answered : Result (Option (ℕ × TraceRow)) (ℕ × LineFault) → GivenRows → GivenRows
 answered (Ok (Some row)) later = (row ∷ later.0, later.1)
@@ -23,34 +20,21 @@ abbrev pub rows_given : List TextLine → Progress → List ℕ → GivenRows
 rows_given [] p text = answered (next_row p text).answer ([], None)
 rows_given (line ∷ lines) p text = answered (next_row p text).answer (rows_given lines (next_row p text).progress (next_row p text).left)
 
--- ---- rows as a caller takes them
-
-abbrev pub with_given : {R : Type 0} → ℕ → Result R LineFault → GivenOf R → GivenOf R
-with_given number (Ok row) later = ((number, row) ∷ later.0, later.1)
-with_given number (Err fault) later = ([], Some (number, fault))
-
--- the rows that calls gave, where they are taken so: the first that isn't taken is the bad line
-abbrev pub given_taken : {R : Type 0} → (TraceRow → Result R LineFault) → GivenRows → GivenOf R
-given_taken take ([], bad) = ([], bad)
-given_taken take (row ∷ rows, bad) = with_given row.0 (take row.1) (given_taken take (rows, bad))
+-- ---- the whole text
 
 -- what was read before the rows and the rows, as a trace; or the bad line
-abbrev pub joined : {R : Type 0} → State → GivenOf R → Result (TextOf R) (ℕ × LineFault)
+abbrev pub joined : State → GivenRows → Result TraceText (ℕ × LineFault)
 joined st (rows, None) =
     Ok (record { header = record { version = st.version; context_size = st.size; rings = st.rings }; first = st.lines + 1; rows = map (λ r. r.1) rows })
 joined st (rows, Some fault) = Err fault
 
-abbrev pub joined_behind : {R : Type 0} → (TraceRow → Result R LineFault) → Result (Progress × List ℕ) (ℕ × LineFault) → Result (TextOf R) (ℕ × LineFault)
-joined_behind take (Ok (p, left)) = joined p.read (given_taken take (rows_given (lines_of left) p left))
-joined_behind take (Err fault) = Err fault
+abbrev pub joined_behind : Result (Progress × List ℕ) (ℕ × LineFault) → Result TraceText (ℕ × LineFault)
+joined_behind (Ok (p, left)) = joined p.read (rows_given (lines_of left) p left)
+joined_behind (Err fault) = Err fault
 
--- what opening and the calls behind it say of a text, where rows are taken so
-unfoldable pub taken_by_calls : {R : Type 0} → Bool → (TraceRow → Result R LineFault) → List ℕ → Result (TextOf R) (ℕ × LineFault)
-taken_by_calls keeps take text = joined_behind take (opened keeps text)
-
--- where each row is taken
-abbrev pub read_by_calls : Bool → List ℕ → Result TraceText (ℕ × LineFault)
-read_by_calls keeps text = taken_by_calls keeps (λ row. Ok row) text
+-- what opening and the calls behind it say of a text
+unfoldable pub read_by_calls : Bool → List ℕ → Result TraceText (ℕ × LineFault)
+read_by_calls keeps text = joined_behind (opened keeps text)
 
 -- ---- where a bad line is told
 

@@ -17,4 +17,4 @@ returns-clause-step g c = λ rows w f.
     (read_at c.args.kept.now.rings.items c.from.result c.args.ring c.index-state.result.now c.from.ensures inside c.index-state.ensures) in
     let block : block_at w.memory (w.pointer_of c.args.ring) ≡ c.block_at-block.result =
     (λ i. block_at ((f.held i).memory) (old.pointer i)) ∙ sym c.block_at-block.ensures in
-    simp (old.active ∙ c.if-not-state.false, block) (c.look_at.ensures.step rows (g.M.WordMemory.words c.args.memory.now) w c.ring_with-there.ensures old.pointer old.cycle f)
+    simp (old.active ∙ c.if-not-state.false, block) (c.look_at.ensures.step c.args.live.now rows (g.M.WordMemory.words c.args.memory.now) w c.ring_with-there.ensures old.pointer old.cycle f)

@@ -1,12 +1,25 @@
-use Rattle.controller_model.proofs.Laws.{◌≡◌, ◌≢◌, ◌++◌, ◌∷◌, ◌∙◌, ℕ, [], ap, Header, ring_with, with_ring, with_alike}
+use Rattle.controller_model.proofs.Words.{◌≡◌, ◌≢◌, ◌∙◌, ℕ, true, false, ap, sym, Header, ring_with, listed, may_come, with_coming, cond-true, cond-false}
+use Rattle.controller_model.proofs.RingRowLemmas.{listed_alike, listed_lists}
 use Rattle.controller_model.proofs.ring_rows.add_ring.Goals as goal
 
+pub returns-then-not-may_come : goal.returns-then-not-may_come
+returns-then-not-may_come c = λ rows words x f.
+    let is : may_come x.live c.args.ring.now ≡ false = ap (λ h. may_come h c.args.ring.now) f.live ∙ sym c.may_come.ensures ∙ c.if-not-may_come.true in
+    rw (cond-false (may_come x.live c.args.ring.now) (with_coming x c.args.ring.now) x is) f
+
 pub returns : goal.returns
-unfolding with_ring
-returns c =
-    let h = c.args.header.now in
-    let same : c.push.new.self ≡ h.rings ++ c.args.ring.now ∷ [] = c.in_ok-push.ensures.ok ∙ ap (λ r. h.rings ++ r ∷ []) c.in_ok-copy.ensures in
-    let listed : ◌≡◌ {A = Header} (record h { rings = c.push.new.self }) (with_ring h c.args.ring.now) = (λ i. record h { rings = same i }) in
-    let alike : (r : ℕ) → r ≢ c.args.ring.now.id → ring_with (record h { rings = c.push.new.self }) r ≡ ring_with h r = λ r apart.
-    ap (λ g. ring_with g r) listed ∙ with_alike h c.args.ring.now r apart in
-    record { header = listed; kept = λ rows words w f. c.empty.ensures h (record h { rings = c.push.new.self }) rows words w alike f }
+returns c = λ rows words x f.
+    let r = c.args.ring.now in
+    let is : may_come x.live r ≡ true = ap (λ h. may_come h r) f.live ∙ sym c.may_come.ensures ∙ c.if-not-may_come.false in
+    let declared : c.list.new.header ≡ listed c.args.rings.now.declared r = c.in_ok-list.ensures in
+    let live : c.list-2.new.header ≡ listed c.args.rings.now.live r = c.in_ok-list-2.ensures in
+    let alike : (n : ℕ) → n ≢ r.id → ring_with c.list.new.header n ≡ ring_with c.args.rings.now.declared n = λ n apart.
+    ap (λ (h : Header). ring_with h n) declared ∙ listed_alike c.args.rings.now.declared r n apart in
+    rw (cond-true (may_come x.live r) (with_coming x r) x is)
+    (record {
+      header = ap (λ h. listed h r) f.header ∙ sym declared;
+      live = ap (λ h. listed h r) f.live ∙ sym live;
+      lists = λ n q found. ap (λ (h : Header). ring_with h n) declared ∙ listed_lists c.args.rings.now.declared c.args.rings.now.live r f.lists n q (sym (ap (λ (h : Header). ring_with h n) live) ∙ found);
+      left = f.left;
+      follows = c.empty.ensures c.args.rings.now.declared c.list.new.header _ words x.world alike f.follows;
+    })

@@ -5,8 +5,8 @@ pub returns-in-Look : goal.returns-in-Look
 returns-in-Look g c = λ rows x y before made f.
     let came = look_came x y c.in-Look.ring (sym (ap (λ s. step_made x s) c.in-Look.is) ∙ made) in
     let same = sym f.header ∙ came.0 in
-    let step = ap (λ h. stepped h x.world (Look c.in-Look.ring)) same ∙ came.1 in
-    rw f.header (c.harms_after_look.ensures [] x.world y.world (rw (← same) at before) step f.follows)
+    let step = ap (λ h. stepped h x.live x.world (Look c.in-Look.ring)) same ∙ came.1 in
+    rw f.header (c.harms_after_look.ensures x.live [] x.world y.world (rw (← same) at before) step f.follows)
 
 pub returns-in_default : goal.returns-in_default
 returns-in_default g c = λ rows x y before made f.

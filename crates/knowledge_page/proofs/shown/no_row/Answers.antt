@@ -1,13 +1,17 @@
-use Rattle.knowledge_page.proofs.BaseWords.{◌≡◌, Some, ap, arith, length, long_kept, ring_verdict, IsRange}
+use Rattle.knowledge_page.proofs.BaseWords.{◌≡◌, Some, ap, arith, length, text_of, ring_verdict, IsRange}
+use Rattle.knowledge_page.proofs.RowsFit.{rows_fit}
 use Rattle.knowledge_page.proofs.Verdicts.{range_of_all, range_to}
 use Rattle.knowledge_page.proofs.shown.no_row.Goals.{in-Ok, in-Err-Refused, in-Err-Memory}
 use Rattle.knowledge_page.proofs.shown.no_row.Goals as goal
 
+pub standing_behind-requires-clause-fitting : goal.standing_behind-requires-clause-fitting
+standing_behind-requires-clause-fitting c = rw c.as_slice-rows.ensures (rows_fit c.args.trace.now.header.version c.args.trace.now.rows c.args.trace.now.fitting)
+
 pub returns : goal.returns
 returns c =
-    let trace = long_kept c.args.trace.now in
-    let placed = c.args.trace.now.behind in
-    let same = c.as_slice-rows.ensures.value in
+    let trace = text_of c.args.trace.now in
+    let placed = c.args.trace.now.placed in
+    let same = c.as_slice-rows.ensures in
     let many : length c.as_slice-rows.result.now ≡ length trace.rows = ap (λ xs. length xs) same in
     elim c.match-standing_behind.branch [
       | in-Ok w ↦ rw w.result-is (range_of_all trace _ (rw same at w.in-Ok.ensures.standing.verdict) (omega (arith, placed, many)))

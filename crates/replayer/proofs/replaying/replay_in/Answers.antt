@@ -5,7 +5,7 @@ pub loop-step-init : goal.loop-step-init
 unfolding scene_replayed
 loop-step-init g c = record {
   number = refl;
-  here = (scene_before c.args.header.now c.args.rows.now, c.in_ok-world.ensures, ap (λ xs. xs ++ scene_seen_from (Some (scene_before c.args.header.now c.args.rows.now)) c.args.steps.now) c.new-seen.ensures.items, refl);
+  here = (scene_before c.args.trace.now.header c.args.trace.now.rows, c.in_ok-world.ensures, ap (λ xs. xs ++ scene_seen_from (Some (scene_before c.args.trace.now.header c.args.trace.now.rows)) c.args.steps.now) c.new-seen.ensures.items, refl);
 }
 
 pub loop-step-preserved : goal.loop-step-preserved

@@ -6,6 +6,6 @@ abbrev pub invariant-loop-step : goal.invariant-loop-step
 invariant-loop-step g l = record {
   number : l.number ≡ l.step-index;
   here : (x : Scene) × StandsFor g.M.WordMemory.words l.world x
-      × (l.seen.items ++ scene_seen_from (Some x) (drop l.step-index l.steps) ≡ (scene_replayed l.header l.rows l.steps).seen)
-      × (scene_ending_from l.number (Some x) (drop l.step-index l.steps) ≡ (scene_replayed l.header l.rows l.steps).ending);
+      × (l.seen.items ++ scene_seen_from (Some x) (drop l.step-index l.steps) ≡ (scene_replayed l.trace.header l.trace.rows l.steps).seen)
+      × (scene_ending_from l.number (Some x) (drop l.step-index l.steps) ≡ (scene_replayed l.trace.header l.trace.rows l.steps).ending);
 }

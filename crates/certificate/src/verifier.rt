@@ -1,7 +1,0 @@
-//! The verifier of certificates.
-
-mod stream;
-mod verifying;
-
-pub use stream::verify_stream;
-pub use verifying::verify;

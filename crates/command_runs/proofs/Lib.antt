@@ -1,0 +1,8 @@
+pub mod Words
+mod VersionNotes
+pub mod Certified
+pub mod FewLines
+pub mod HeldAnswers
+pub mod Replayed
+pub mod Streamed
+pub mod Laws

@@ -1,0 +1,11 @@
+pub mod CheckAnswers
+pub mod HarmAnswers
+pub mod Outcomes
+pub mod PlanAnswers
+pub mod ReplayAnswers
+pub mod Reported
+pub mod ScheduleAnswers
+pub mod ShowAnswers
+pub mod TraceTexts
+pub mod VerifyAnswers
+pub mod VersionNotes

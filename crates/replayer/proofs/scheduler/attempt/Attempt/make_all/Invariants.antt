@@ -1,0 +1,8 @@
+use Rattle.std.proofs.Common.{◌≡◌, drop}
+use Rattle.replayer.specs.Schedules.Making.{Making, made_steps}
+use Rattle.replayer.specs.Schedules.Attempts.{HasMade}
+use Rattle.replayer.proofs.scheduler.attempt.Attempt.make_all.Given as goal
+
+-- with the steps that are left as much is made of what was made so far
+abbrev pub invariant-loop-step : goal.invariant-loop-step
+invariant-loop-step l = (m : Making) → HasMade l.fn.self m → (k : Making) × HasMade l.self k × (made_steps m l.steps ≡ made_steps k (drop l.step-index l.steps))

@@ -1,0 +1,7 @@
+use Rattle.std.proofs.Common.{◌≡◌, map, take}
+use Rattle.serde_json.specs.View.{view}
+use Rattle.reports.specs.Objects.{take_data}
+use Rattle.reports.proofs.values.takes.Given as goal
+
+abbrev pub invariant-loop-take : goal.invariant-loop-take
+invariant-loop-take l = map view l.items.items ≡ map take_data (take l.take-index l.takes)

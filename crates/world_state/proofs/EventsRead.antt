@@ -1,0 +1,12 @@
+-- When the driver may read an event
+use Rattle.segments.proofs.Words.{cond-true, Block}
+use Rattle.std.proofs.Common.{◌≡◌, ◌+◌, ◌<◌, ◌&&◌, true, Some, None, nat_lt, lt-ltb}
+use Rattle.traces.specs.declared.header.Header.{Header}
+use Rattle.trb.specs.Block.{same_words}
+use Rattle.world_state.specs.DriverRows.{event_read}
+use Rattle.world_state.specs.World.{World, event_at}
+
+module _ (h : Header) (w : World) (e : Block) where
+  pub read_made : w.reads < w.posted → same_words (event_at h w w.reads) e ≡ true → event_read h w e ≡ Some (record w { reads = w.reads + 1 })
+  unfolding event_read
+  read_made some same = cond-true (nat_lt w.reads w.posted && same_words (event_at h w w.reads) e) _ None (λ i. lt-ltb w.reads w.posted some i && same i)

@@ -1,0 +1,48 @@
+-- Rows by which rings come and go, and descriptors are withdrawn: what they do to lists of rings and to the world: xHCI 4.6.9, 4.9
+use Rattle.std.specs.Prelude.{ℕ, ◌==◌, ◌||◌, ◌++◌, Bool, not, [], ◌∷◌, filter}
+use Rattle.std.specs.List.{list_any}
+use Rattle.guest_memory.specs.Memory.{put}
+use Rattle.segments.specs.Descriptors.{length_from, no_ops, split_at}
+use Rattle.segments.specs.Shape.{rings_overlap}
+use Rattle.traces.specs.declared.header.Header.{Header}
+use Rattle.traces.specs.declared.ring.Ring.{Ring}
+use Rattle.traces.specs.declared.trace_row.TraceRow.{TraceRow}
+use Rattle.traces.specs.declared.trace_row.TraceRow.TheVariants.{Plain, Comes, Goes, Withdraws}
+use Rattle.world_state.specs.World.{World}
+
+-- a header lists one ring more, or the ring with an ID no more
+unfoldable pub with_ring : Header → Ring → Header
+with_ring h r = record h { rings = h.rings ++ r ∷ [] }
+
+unfoldable pub without_ring : Header → ℕ → Header
+without_ring h id = record h { rings = filter (λ r. not (r.id == id)) h.rings }
+
+-- the ring is listed, in place of one that had its ID
+unfoldable pub listed : Header → Ring → Header
+listed h r = with_ring (without_ring h r.id) r
+
+-- both have the ID, or a segment of one overlaps one of the other
+abbrev pub is_in_way : Ring → Ring → Bool
+is_in_way r q = q.id == r.id || rings_overlap q.shape r.shape
+
+-- a ring may come where none of these is in its way
+unfoldable pub may_come : Header → Ring → Bool
+may_come live r = not (list_any (is_in_way r) live.rings)
+
+-- nothing is declared on the ring, and nothing has happened
+unfoldable pub emptied : World → ℕ → World
+emptied w id = record w { queue = put w.queue id []; lengths = put w.lengths id []; events = put w.events id []; reported = put w.reported id 0 }
+
+-- the descriptor that begins at a position is declared as No Ops; what was taken before stays what was declared then
+unfoldable pub without_descriptor : World → ℕ → ℕ → World
+without_descriptor w r p = record w {
+  queue = put w.queue r (no_ops (w.queue r) p (length_from (w.lengths r) 0 p));
+  lengths = put w.lengths r (split_at (w.lengths r) 0 p);
+}
+
+-- the rings that live behind a row that breaks no rule
+abbrev pub header_after : Header → TraceRow → Header
+header_after h (Plain row) = h
+header_after h (Comes ring) = with_ring h ring
+header_after h (Goes id) = without_ring h id
+header_after h (Withdraws r p) = h

@@ -1,0 +1,73 @@
+-- Steps, and the worlds that runs lead to
+use Rattle.std.specs.Prelude.{ℕ, ◌+◌, ◌&&◌, if◌then◌else◌, Bool, List, [], ◌∷◌, Option, Some, None, option_and_then, option_map}
+use Rattle.std.specs.List.{list_any, range_with_len}
+use Rattle.segments.specs.Places.{is_in}
+use Rattle.contexts.specs.Contexts.{device_context, device_context_bytes}
+use Rattle.traces.specs.declared.header.Header.{Header}
+use Rattle.traces.specs.declared.row.Row.{Row}
+use Rattle.traces.specs.declared.step.Step.{Step}
+use Rattle.traces.specs.declared.step.Step.TheVariants.{NextRow, Look, Report, Finish, Other, Scribble}
+use Rattle.traces.specs.declared.register.Register.TheVariants.{Dcbaap}
+use Rattle.traces.specs.Register.{register_or_zero}
+use Rattle.world_state.specs.declared.harm.Harm.{Harm}
+use Rattle.world_state.specs.World.{World, opening, stored}
+use Rattle.world_state.specs.Harms.{harm_of}
+use Rattle.world_state.specs.DriverRows as driver
+use Rattle.world_state.specs.Looks as looks
+use Rattle.world_state.specs.Posts as posts
+use Rattle.world_state.specs.Finishes as finishes
+
+-- how the replay of a schedule ends: without harm, at a step that isn't possible, or at the first harm, told after its step
+pub data Ending : Type 0 where
+  NoHarm : Ending
+  NotPossible : (step : ℕ) → Ending
+  Harmful : (step : ℕ) (harm : Harm) → Ending
+
+unfoldable pub judged : ℕ → Option Harm → Ending → Ending
+judged n None later = later
+judged n (Some kind) later = Harmful n kind
+
+module _ (h : Header) where
+  -- the word belongs to the device context that DCBAA names for a slot, and the controller may write that
+  unfoldable pub is_scribbled : World → ℕ → ℕ → Bool
+  is_scribbled w a s =
+      w.scribbles s && is_in a (device_context w.memory (register_or_zero w.register Dcbaap) s) (device_context_bytes h.context_size)
+
+  unfoldable pub scribbled : World → ℕ → ℕ → Option World
+  scribbled w a x = if list_any (is_scribbled w a) (range_with_len 0 256) then Some (stored w a x) else None
+
+  unfoldable pub counted : World → World
+  counted w = record w { steps = w.steps + 1 }
+
+  -- after the stop only rows are possible
+  unfoldable pub while_running : World → Option World → Option World
+  while_running w v = if w.stopped then None else v
+
+-- beside the rings that were declared and those of them that live
+module _ (h live : Header) where
+  unfoldable pub made : World → Step → Option World
+  made w NextRow = driver.next_row h w w.rows
+  made w (Look r) = while_running h w (looks.looked h live w r)
+  made w (Report b) = while_running h w (posts.reported h w b)
+  made w (Finish b) = while_running h w (finishes.finished h live w b)
+  made w (Other b) = while_running h w (posts.other_posted h w b)
+  made w (Scribble a x) = while_running h w (scribbled h w a x)
+
+  -- the world after a step; None where the step isn't possible
+  unfoldable pub stepped : World → Step → Option World
+  stepped w s = option_map (counted h) (made w s)
+
+-- where all rings live
+module _ (h : Header) where
+  -- the world that steps lead to beside these rows, the newest step first; None where one of them isn't possible
+  unfoldable pub reached : List Row → List Step → Option World
+  reached rows [] = Some (opening rows)
+  reached rows (s ∷ older) = option_and_then (λ w. stepped h h w s) (reached rows older)
+
+  unfoldable pub ending_from : ℕ → Option World → List Step → Ending
+  ending_from n None steps = NotPossible n
+  ending_from n (Some w) [] = judged n (harm_of h w) NoHarm
+  ending_from n (Some w) (s ∷ steps) = judged n (harm_of h w) (ending_from (n + 1) (stepped h h w s) steps)
+
+  unfoldable pub ending_of : List Row → List Step → Ending
+  ending_of rows steps = ending_from 0 (Some (opening rows)) steps

@@ -1,8 +1,0 @@
-pub mod Words
-mod VersionNotes
-pub mod Certified
-pub mod HeldAnswers
-pub mod KeptHeld
-pub mod Replayed
-pub mod Streamed
-pub mod Laws

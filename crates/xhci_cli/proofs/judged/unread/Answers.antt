@@ -1,4 +1,0 @@
-use Rattle.xhci_cli.proofs.judged.unread.Goals as goal
-
-pub returns-clause-noted : goal.returns-clause-noted
-returns-clause-noted c = rw c.from.ensures c.note_on_failure.ensures.answered

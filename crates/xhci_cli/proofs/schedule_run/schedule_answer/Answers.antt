@@ -1,5 +1,0 @@
-use Rattle.xhci_cli.proofs.Words.{inr, trace_kept}
-use Rattle.xhci_cli.proofs.schedule_run.schedule_answer.Goals as goal
-
-pub returns-in-Ok : goal.returns-in-Ok
-returns-in-Ok c = inr (trace_kept c.in-Ok.trace, c.in-Ok.ensures.read, c.scheduled_answer.ensures)
