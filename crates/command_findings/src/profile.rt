@@ -18,7 +18,7 @@ pub fn not_in_profile(case: &Case, row: &Row) -> Result<Finding, AllocError> {
             finding.note(what)?;
         }
         Row::Write { at, word } => note_write(case, &mut finding, at.get(), *word)?,
-        Row::Reg { .. } | Row::Bell { .. } => {}
+        _ => {}
     }
     finding.say(case.alloc, NOT_JUDGED)?;
     finding.help(

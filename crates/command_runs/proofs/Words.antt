@@ -13,7 +13,7 @@ pub use Rattle.certificate.specs.declared.fault.CertFault.{CertFault}
 pub use Rattle.certificate.specs.declared.fault.CertFault.TheVariants.{Memory as NoLeaseMemory}
 pub use Rattle.ownership_checker.specs.RingPasses.Accepted.{IsSound}
 pub use Rattle.ownership_checker.specs.RingPasses.Reading.{OfTrace}
-pub use Rattle.ownership_checker.specs.RingPasses.Rules.{ring_verdict}
+pub use Rattle.ownership_rules.specs.Rules.{trace_verdict}
 pub use Rattle.ownership_checker.specs.Streams.{IfBadLineIn, IfRefusedIn}
 pub use Rattle.ownership_checker.specs.declared.fault.StreamCheckFault.{StreamCheckFault}
 pub use Rattle.ownership_checker.specs.declared.fault.StreamCheckFault.TheVariants.{Refused as RefusedRow, Unread}

@@ -8,7 +8,7 @@ use row_history::{
 };
 use segments::Place;
 use std::alloc::{AllocError, Global};
-use traces::{Ring, Trace, TraceRow};
+use traces::{Ring, Row, Trace};
 use trb::Block;
 use world_state::Harm;
 
@@ -52,7 +52,7 @@ pub fn notes_on_harm(
 }
 
 /// How many of the rows tell of a ring: all of them, or those before it went.
-fn rows_of_ring(rows: &[TraceRow], id: u8) -> usize
+fn rows_of_ring(rows: &[Row], id: u8) -> usize
     ensures { result ≤ length rows.now }
 {
     match going(rows, id) {

@@ -3,7 +3,7 @@ use crate::harms::rows_made;
 use controller_model::Seen;
 use row_history::{line_of, start, stop};
 use std::alloc::{AllocError, Global};
-use traces::{Row, Trace, TraceRow};
+use traces::{Row, Trace};
 
 /// Notes on where a replay stands that can't go on, beside a trace.
 pub fn notes_on_stuck(
@@ -34,12 +34,12 @@ pub fn notes_on_stuck(
 fn next_row(
     alloc: Global,
     first: u32,
-    row: Option<&TraceRow>,
+    row: Option<&Row>,
     made: usize,
 ) -> Result<String, AllocError> {
     let line = line_of(first, made);
     match row {
-        Some(TraceRow::Plain(Row::Read { event })) => {
+        Some(Row::Read { event }) => {
             let [w0, w1, w2, w3] = event.w;
             format!(in alloc;
                 "its next row is row {line}, which reads the event {w0:08x} {w1:08x} {w2:08x} {w3:08x}"

@@ -20,7 +20,7 @@ use row_history::{
     Case, Finding, NOT_JUDGED, command_at, general_head, known_after, line_of, why_refused,
 };
 use std::alloc::{AllocError, Global};
-use traces::{Row, Trace, TraceRow};
+use traces::{Row, Trace};
 
 /// What is told of a refused row of a text, of which the lines up to that row are read again.
 pub fn explain_refused(
@@ -148,16 +148,15 @@ fn diagnosed(
 }
 
 /// What is found of a row that breaks a rule.
-fn finding_of(case: &Case, row: &TraceRow, refusal: Refusal) -> Result<Finding, AllocError> {
+fn finding_of(case: &Case, row: &Row, refusal: Refusal) -> Result<Finding, AllocError> {
     match (refusal, row) {
         (Refusal::AfterStop, _) => after_stop(case),
-        (_, TraceRow::Plain(row)) => found_of_driver(case, row, refusal),
-        (Refusal::BadRing, TraceRow::Comes(ring)) => bad_ring(case, ring.as_ring()),
-        (Refusal::BadFree, TraceRow::Goes(id)) => bad_free(case, *id),
-        (Refusal::BadWithdraw, TraceRow::Withdraws { ring, position }) => {
+        (Refusal::BadRing, Row::Ring { ring }) => bad_ring(case, ring.as_ring()),
+        (Refusal::BadFree, Row::Free { ring: id }) => bad_free(case, *id),
+        (Refusal::BadWithdraw, Row::Nop { ring, position }) => {
             bad_withdraw(case, *ring, *position)
         }
-        _ => general(case, refusal),
+        _ => found_of_driver(case, row, refusal),
     }
 }
 

@@ -9,7 +9,7 @@ use row_history::{
 };
 use segments::Place;
 use std::alloc::AllocError;
-use traces::{Ring, Row, TraceRow};
+use traces::{Ring, Row};
 use trb::{Block, BlockKind, RingKind};
 
 /// A write to memory that the controller owns.
@@ -181,9 +181,9 @@ fn note_stopped(case: &Case, finding: &mut Finding, base: u64) -> Result<(), All
 }
 
 /// Whether a row reads a Stopped event.
-fn reads_stop(row: Option<&TraceRow>) -> bool {
+fn reads_stop(row: Option<&Row>) -> bool {
     match row {
-        Some(TraceRow::Plain(Row::Read { event })) => matches!(event.code(), 26..=28),
+        Some(Row::Read { event }) => matches!(event.code(), 26..=28),
         _ => false,
     }
 }

@@ -7,7 +7,7 @@ use row_history::{
     submission, trb_named, unfinished_on, unfinished_touching,
 };
 use std::alloc::AllocError;
-use traces::{Row, TraceRow};
+use traces::Row;
 use trb::{BlockKind, RingKind};
 
 /// Why a TD may not be withdrawn.
@@ -387,13 +387,13 @@ fn note_begun(case: &Case, finding: &mut Finding, id: u8, had: Endpoint) -> Resu
 }
 
 /// The last of the rows that reads a Stopped event of an endpoint.
-fn last_stop(rows: &[TraceRow], had: Endpoint) -> Option<usize> {
+fn last_stop(rows: &[Row], had: Endpoint) -> Option<usize> {
     rows.iter().rposition(|row| is_stop(row, had))
 }
 
-fn is_stop(row: &TraceRow, had: Endpoint) -> bool {
+fn is_stop(row: &Row, had: Endpoint) -> bool {
     match row {
-        TraceRow::Plain(Row::Read { event }) => event.kind() == BlockKind::TransferEvent
+        Row::Read { event } => event.kind() == BlockKind::TransferEvent
             && event.slot() == had.slot
             && event.endpoint() == had.endpoint
             && matches!(event.code(), 26..=28),

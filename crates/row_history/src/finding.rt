@@ -3,7 +3,7 @@ use crate::known::Known;
 use crate::words::{command_name, endpoint_state_name};
 use ring_knowledge::RingRecord;
 use std::alloc::{AllocError, Global};
-use traces::{Header, Ring, TraceRow};
+use traces::{Header, Ring, Row};
 
 /// A refused row and what stands before it.
 #[derive(Clone, Copy)]
@@ -14,7 +14,7 @@ pub struct Case<'a> {
     /// The line of the first row.
     pub first: u32,
     /// The rows before the refused one.
-    pub before: &'a [TraceRow],
+    pub before: &'a [Row],
     /// What is known behind them.
     pub known: &'a Known,
 }

@@ -8,11 +8,11 @@ use crate::positions::is_handed_over;
 use crate::ring_past::RingPast;
 use commands::{Command, EndpointState};
 use contexts::{EndpointContext, InputContext};
-use guest_memory::{Addr, PageMemory, WordMemory};
+use guest_memory::{Addr, SparseMemory, WordMemory};
 use ring_knowledge::{RingGiving, RingRecord};
 use std::alloc::{AllocError, Global};
 use trace_record::{DeviceRecord, Finder, Named};
-use traces::{Header, Register, Ring, Row, TraceRow};
+use traces::{Header, Register, Ring, Row};
 use trb::{Block, BlockKind};
 
 /// That an endpoint got a ring.
@@ -58,7 +58,7 @@ pub struct Stopping {
 /// What is known after some rows.
 #[derive(Drop)]
 pub struct Known {
-    pub memory: PageMemory,
+    pub memory: SparseMemory,
     /// In the order of the header.
     pub rings: Vec<RingRecord>,
     /// In the order of the header.
@@ -84,7 +84,7 @@ pub struct Behind {
 }
 
 /// What is known after these rows, and of which rings.
-pub fn known_after(alloc: Global, header: &Header, rows: &[TraceRow]) -> Result<Behind, AllocError>
+pub fn known_after(alloc: Global, header: &Header, rows: &[Row]) -> Result<Behind, AllocError>
     requires { IsHeader header.now }
 {
     let mut header = header.copy(alloc)?;
@@ -106,7 +106,7 @@ impl Known {
             pasts.push(RingPast::new(alloc))?;
         }
         Ok(Known {
-            memory: PageMemory::new(alloc),
+            memory: SparseMemory::new(alloc),
             rings,
             pasts,
             devices: DeviceRecord::new(alloc)?,
@@ -118,14 +118,14 @@ impl Known {
         })
     }
 
-    /// Notes one more row.
+    /// Notes one more row: what the driver did, an event that it read, or that a ring came or went, or a TD was withdrawn.
     fn learn(
         &mut self,
         alloc: Global,
         header: &mut Header,
         finder: &mut Finder,
         index: usize,
-        row: &TraceRow,
+        row: &Row,
     ) -> Result<(), AllocError>
         requires headed { IsHeader header.now }
         requires found { IsFinder header.now.rings finder.now }
@@ -133,10 +133,30 @@ impl Known {
         ensures found { OnOk result (IsFinder header.new.rings finder.new) }
     {
         match row {
-            TraceRow::Plain(row) => self.learn_row(header, finder, index, row),
-            TraceRow::Comes(ring) => self.learn_coming(alloc, header, finder, ring.as_ring()),
-            TraceRow::Goes(id) => self.learn_going(alloc, header, finder, *id),
-            TraceRow::Withdraws { ring, position } => {
+            Row::Sub { ring, blocks } => {
+                self.learn_declared(finder, index, *ring, blocks.as_slice())
+            }
+            Row::Write { at, word } => self.learn_word(header, finder, index, *at, *word),
+            Row::Reg { register, value } => {
+                if *register == Register::Dcbaap {
+                    self.array = Some(*value / 64 * 64);
+                }
+                Ok(())
+            }
+            Row::Bell { slot, target } => {
+                self.learn_bell(finder, *slot, *target);
+                Ok(())
+            }
+            Row::Read { event } => match event.kind() {
+                BlockKind::TransferEvent => self.learn_transfer(header, finder, index, *event),
+                BlockKind::CommandCompletion => self.learn_completion(
+                    header, finder, index, *event,
+                ),
+                _ => Ok(()),
+            },
+            Row::Ring { ring } => self.learn_coming(alloc, header, finder, ring.as_ring()),
+            Row::Free { ring: id } => self.learn_going(alloc, header, finder, *id),
+            Row::Nop { ring, position } => {
                 self.learn_withdrawn(header, finder, index, *ring, *position)
             }
         }
@@ -225,42 +245,6 @@ impl Known {
             if let Some(past) = self.pasts.get_mut(number) {
                 past.restore();
             }
-        }
-    }
-
-    /// What the driver did, or an event that it read.
-    fn learn_row(
-        &mut self,
-        header: &Header,
-        finder: &Finder,
-        index: usize,
-        row: &Row,
-    ) -> Result<(), AllocError>
-        requires headed { IsHeader header.now }
-        requires found { IsFinder header.now.rings finder.now }
-    {
-        match row {
-            Row::Sub { ring, blocks } => {
-                self.learn_declared(finder, index, *ring, blocks.as_slice())
-            }
-            Row::Write { at, word } => self.learn_word(header, finder, index, *at, *word),
-            Row::Reg { register, value } => {
-                if *register == Register::Dcbaap {
-                    self.array = Some(*value / 64 * 64);
-                }
-                Ok(())
-            }
-            Row::Bell { slot, target } => {
-                self.learn_bell(finder, *slot, *target);
-                Ok(())
-            }
-            Row::Read { event } => match event.kind() {
-                BlockKind::TransferEvent => self.learn_transfer(header, finder, index, *event),
-                BlockKind::CommandCompletion => self.learn_completion(
-                    header, finder, index, *event,
-                ),
-                _ => Ok(()),
-            },
         }
     }
 

@@ -2,7 +2,7 @@
 use crate::finding::Case;
 use crate::known::Taking;
 use std::alloc::AllocError;
-use traces::{Row, TraceRow};
+use traces::Row;
 
 /// A word that the controller may have written last.
 #[derive(Clone, Copy)]
@@ -49,7 +49,7 @@ fn rows_that_write(case: &Case, from: u64, bytes: u64) -> Result<Vec<Option<usiz
 /// Notes of each word from an address on the last row that writes it.
 fn note_writes(case: &Case, from: u64, last: &mut [Option<usize>]) {
     for (index, row) in case.before.iter().enumerate() {
-        if let TraceRow::Plain(Row::Write { at, .. }) = row {
+        if let Row::Write { at, .. } = row {
             let address = at.get();
             if address >= from {
                 let word = usize::try_from((address - from) / 4).unwrap_or(usize::MAX);

@@ -1,9 +1,9 @@
-use Rattle.ownership_checker.proofs.Laws.{arith, rules, List, Header, Known, RowPlace, TraceRow, known_now, on_more, IsPlaced, IsRingPassed, placed_other, refused_too}
+use Rattle.ownership_checker.proofs.Laws.{arith, rules, List, Header, Known, RowPlace, Row, known_now, on_more, IsPlaced, IsRingPassed, placed_other, refused_too}
 use Rattle.ownership_checker.proofs.pass.ring_pass.RingPass.driver_row.Goals.{After-add_command, In_default, in_default-via-in-Read+else-eq, in_default-via-in_default}
 use Rattle.ownership_checker.proofs.pass.ring_pass.RingPass.driver_row.Goals as goal
 
 -- where the word lies that is written, and which command it gives
-written : (g : _) (c : After-add_command g) (h : Header) (past : List TraceRow) → IsRingPassed g.M.WordMemory.words h past c.args.self.now →
+written : (g : _) (c : After-add_command g) (h : Header) (past : List Row) → IsRingPassed g.M.WordMemory.words h past c.args.self.now →
     IsPlaced c.args.self.now.header (known_now h past) c.args.row.now c.add_command.new.place
 written g c h past p = grind arith
 
