@@ -3,254 +3,197 @@ use commands::{Command, EndpointState};
 use guest_memory::Addr;
 use ring_knowledge::RingGiving;
 use row_history::{
-    Case, Finding, NOT_JUDGED, Unfinished, all_unfinished, binds_ring, command_at, command_name,
-    endpoint_state_name, last_halt, name_two_endpoints, note_dropped, position_given, ring_at,
-    start, unfinished_beside, unfinished_on,
+    Case, Shown, Unfinished, binds_ring, command_at, command_name, endpoint_state_name, last_halt,
+    name_two_endpoints, note_dropped, ring_at, start, unfinished_beside, unfinished_on,
 };
-use std::alloc::AllocError;
 use traces::Ring;
 
-/// Why a doorbell may not ring.
-#[derive(Clone, Copy)]
-enum NoBell {
-    NotStarted,
-    /// Doorbell 0 with another DB Target than 0.
-    CommandTarget,
-    /// No DCI.
-    NoEndpoint,
-    Disabled,
-    Halted(EndpointState),
-    Unfinished(Unfinished),
-    Unmoved,
+/// A doorbell that may not ring now.
+pub fn bad_doorbell(case: &mut Case, slot: u8, target: u8) {
+    case.head("a doorbell that may not ring now", &[]);
+    if slot == 0 {
+        case.here("the Command Ring, DB Target {}", &[Shown::Small(target)]);
+    } else {
+        case.here("{}", &[Shown::Endpoint(slot, target)]);
+    }
+    if start(case.before).is_none() {
+        case.say("the controller isn't started (xHCI 4.2)");
+        case.advise("write USBCMD with Run/Stop 1 first");
+    } else if slot == 0 {
+        case.say("doorbell 0 is the Command Ring's, and its DB Target is 0");
+        case.advise("log `db 00 00` for a command");
+    } else if target == 0 || target > 31 {
+        case.say("the DB Target of a device slot is a DCI, 1 to 31 (xHCI 5.6)");
+        case.advise("ring with the DCI of the endpoint whose ring has the TD");
+        note_running(case, slot);
+    } else {
+        note_endpoint(case, slot, target);
+    }
 }
 
-/// A doorbell that may not ring now.
-pub fn bad_doorbell(case: &Case, slot: u8, target: u8) -> Result<Finding, AllocError> {
-    let here = if slot == 0 {
-        format!(in case.alloc; "the Command Ring, DB Target {target}")?
-    } else {
-        format!(in case.alloc; "slot {slot}, DCI {target}")?
-    };
-    let mut finding = Finding::new(
-        case.alloc,
-        "a doorbell that may not ring now",
-        here.as_str(),
-    )?;
-    let cause = bell_cause(case, slot, target)?;
-    mark_cause(case, &mut finding, cause, slot, target)?;
-    finding.help(case.alloc, bell_help(cause))?;
-    let is_told = matches!(cause, NoBell::Disabled)
-        && note_dropped(case, &mut finding, slot, target)?;
-    if !is_told {
-        finding.say(case.alloc, bell_note(cause))?;
-        let is_alone = finding.earlier.is_none();
-        if is_alone && matches!(cause, NoBell::Disabled | NoBell::NoEndpoint) {
-            note_running(case, &mut finding, slot)?;
-        }
+/// Notes why the doorbell of an endpoint may not ring, and points at the row by which it may not.
+fn note_endpoint(case: &mut Case, slot: u8, target: u8) {
+    let devices = &case.known.devices;
+    let state = devices.endpoint_state(slot, target);
+    if state == EndpointState::Disabled {
+        return note_disabled(case, slot, target);
     }
-    Ok(finding)
+    let may_run = matches!(state, EndpointState::Running | EndpointState::Stopped)
+        && !devices.must_move(slot, target);
+    match unfinished_on(case, slot, target) {
+        Some(given) if may_run => {
+            case.mark_unfinished(given);
+            case.say(
+                "this command changes the endpoint, and its Command Completion Event wasn't read yet",
+            );
+            case.advise("ring behind its Command Completion Event");
+        }
+        _ => note_halted(case, slot, target, state),
+    }
+}
+
+/// Notes why an endpoint is Disabled.
+fn note_disabled(case: &mut Case, slot: u8, target: u8) {
+    if let Some(given) = unfinished_on(case, slot, target) {
+        case.mark_unfinished(given);
+    }
+    case.advise("ring behind the Command Completion Event of the command that adds it");
+    if note_dropped(case, slot, target) {
+        return;
+    }
+    case.say(
+        "the endpoint is Disabled: no Address Device or Configure Endpoint that adds it has completed",
+    );
+    if !case.has_mark() {
+        note_running(case, slot);
+    }
+}
+
+/// Notes that an endpoint halted and wasn't moved since.
+fn note_halted(case: &mut Case, slot: u8, target: u8, state: EndpointState) {
+    let (label, note, help) = match state {
+        EndpointState::Error => (
+            "with this event the endpoint came into the state Error",
+            "the endpoint is in the state Error",
+            "Set TR Dequeue Pointer, and ring behind its Command Completion Event",
+        ),
+        EndpointState::Halted => (
+            "with this event the endpoint came to a halt",
+            "the endpoint is Halted",
+            "Reset Endpoint, then Set TR Dequeue Pointer, and ring behind its Command Completion Event",
+        ),
+        _ => (
+            "with this event the endpoint came to a halt",
+            "the endpoint halted, and its TR Dequeue Pointer wasn't set since",
+            "Set TR Dequeue Pointer to the next TD first (xHCI 4.6.8)",
+        ),
+    };
+    case.mark(last_halt(case.before, slot, target), label, &[]);
+    case.say(note);
+    case.advise(help);
 }
 
 /// Notes which endpoints of a slot may have their doorbell rung, with their rings: one of them may be meant.
-fn note_running(case: &Case, finding: &mut Finding, slot: u8) -> Result<(), AllocError> {
-    let mut text = String::new(case.alloc);
+fn note_running(case: &mut Case, slot: u8) {
+    let devices = &case.known.devices;
+    let mut is_first = true;
     for endpoint in 1..32u8 {
-        let state = case.known.devices.endpoint_state(slot, endpoint);
+        let state = devices.endpoint_state(slot, endpoint);
         if let (EndpointState::Running | EndpointState::Stopped, Some(id)) = (
             state,
-            case.known.devices.ring_of(slot, endpoint),
+            devices.ring_of(slot, endpoint),
         ) {
-            let name = endpoint_state_name(state);
-            let before = if text.is_empty() { "" } else { "; " };
-            let named = format!(in case.alloc;
-                "{before}DCI {endpoint} with ring {id:02x}, {name}"
-            )?;
-            text.push_str(named.as_str())?;
-        }
-    }
-    let note = if text.is_empty() {
-        format!(in case.alloc; "no endpoint of slot {slot} is Running or Stopped")?
-    } else {
-        format!(in case.alloc; "endpoints of slot {slot}: {text}")?
-    };
-    finding.note(note)
-}
-
-/// Points at the row by which a doorbell may not ring.
-fn mark_cause(
-    case: &Case,
-    finding: &mut Finding,
-    cause: NoBell,
-    slot: u8,
-    target: u8,
-) -> Result<(), AllocError> {
-    match cause {
-        NoBell::Unfinished(command) => {
-            finding.earlier = command.mark(case)?;
-            Ok(())
-        }
-        NoBell::Disabled => {
-            if let Some(command) = unfinished_on(case, slot, target)? {
-                finding.earlier = command.mark(case)?;
+            if is_first {
+                case.note("endpoints of slot {}: ", &[Shown::Small(slot)]);
+            } else {
+                case.go_on("; ", &[]);
             }
-            Ok(())
-        }
-        NoBell::Halted(EndpointState::Error) => finding.mark(
-            case.alloc,
-            last_halt(case.before, slot, target),
-            "with this event the endpoint came into the state Error",
-        ),
-        NoBell::Halted(_) | NoBell::Unmoved => finding.mark(
-            case.alloc,
-            last_halt(case.before, slot, target),
-            "with this event the endpoint came to a halt",
-        ),
-        NoBell::NotStarted | NoBell::CommandTarget | NoBell::NoEndpoint => Ok(()),
-    }
-}
-
-fn bell_cause(case: &Case, slot: u8, target: u8) -> Result<NoBell, AllocError> {
-    if start(case.before).is_none() {
-        return Ok(NoBell::NotStarted);
-    }
-    if slot == 0 {
-        return Ok(NoBell::CommandTarget);
-    }
-    if target == 0 || target > 31 {
-        return Ok(NoBell::NoEndpoint);
-    }
-    let state = case.known.devices.endpoint_state(slot, target);
-    match state {
-        EndpointState::Disabled => Ok(NoBell::Disabled),
-        EndpointState::Halted | EndpointState::Error => Ok(NoBell::Halted(state)),
-        EndpointState::Running | EndpointState::Stopped => {
-            if case.known.devices.must_move(slot, target) {
-                return Ok(NoBell::Unmoved);
-            }
-            match unfinished_on(case, slot, target)? {
-                Some(command) => Ok(NoBell::Unfinished(command)),
-                None => Ok(NoBell::Unmoved),
-            }
+            is_first = false;
+            let name = Shown::Name(endpoint_state_name(state));
+            case.go_on(
+                "DCI {} with ring {}, {}",
+                &[Shown::Small(endpoint), Shown::Id(id), name],
+            );
         }
     }
-}
-
-fn bell_note(cause: NoBell) -> &'static str {
-    match cause {
-        NoBell::NotStarted => "the controller isn't started (xHCI 4.2)",
-        NoBell::CommandTarget => "doorbell 0 is the Command Ring's, and its DB Target is 0",
-        NoBell::NoEndpoint => "the DB Target of a device slot is a DCI, 1 to 31 (xHCI 5.6)",
-        NoBell::Disabled =>
-            "the endpoint is Disabled: no Address Device or Configure Endpoint that adds it has completed",
-        NoBell::Halted(EndpointState::Error) => "the endpoint is in the state Error",
-        NoBell::Halted(_) => "the endpoint is Halted",
-        NoBell::Unfinished(_) =>
-            "this command changes the endpoint, and its Command Completion Event wasn't read yet",
-        NoBell::Unmoved => "the endpoint halted, and its TR Dequeue Pointer wasn't set since",
+    if is_first {
+        case.note(
+            "no endpoint of slot {} is Running or Stopped",
+            &[Shown::Small(slot)],
+        );
     }
 }
 
-fn bell_help(cause: NoBell) -> &'static str {
-    match cause {
-        NoBell::NotStarted => "write USBCMD with Run/Stop 1 first",
-        NoBell::CommandTarget => "log `db 00 00` for a command",
-        NoBell::NoEndpoint => "ring with the DCI of the endpoint whose ring has the TD",
-        NoBell::Disabled => "ring behind the Command Completion Event of the command that adds it",
-        NoBell::Halted(EndpointState::Error) =>
-            "Set TR Dequeue Pointer, and ring behind its Command Completion Event",
-        NoBell::Halted(_) =>
-            "Reset Endpoint, then Set TR Dequeue Pointer, and ring behind its Command Completion Event",
-        NoBell::Unfinished(_) => "ring behind its Command Completion Event",
-        NoBell::Unmoved => "Set TR Dequeue Pointer to the next TD first (xHCI 4.6.8)",
-    }
-}
-
-/// A second command for a slot, or a TRB on a ring that an unfinished command moves or binds.
-pub fn busy(case: &Case, at: Addr, word: u32) -> Result<Option<Finding>, AllocError> {
+/// A second command for a slot, or a TRB on a ring that an unfinished command moves or binds. Whether it is so.
+pub fn busy(case: &mut Case, at: Addr, word: u32) -> bool {
     match command_at(case, at.get(), word) {
         Some(command) => match command.slot() {
             Some(slot) => busy_slot(case, command, slot),
-            None => Ok(None),
+            None => false,
         },
         None => busy_ring(case, at, word),
     }
 }
 
-/// A second command for a slot.
-fn busy_slot(case: &Case, command: Command, slot: u8) -> Result<Option<Finding>, AllocError> {
-    let Some(first) = unfinished_beside(case, command)? else {
-        return Ok(None);
+/// A second command for a slot. Whether it is so.
+fn busy_slot(case: &mut Case, command: Command, slot: u8) -> bool {
+    let Some(first) = unfinished_beside(case, command) else {
+        return false;
     };
-    let name = command_name(command);
-    let here = format!(in case.alloc; "{name} of slot {slot}")?;
-    let mut finding = Finding::new(
-        case.alloc,
-        "a second command for a slot whose first is unfinished",
-        here.as_str(),
-    )?;
-    finding.earlier = first.mark(case)?;
-    finding.say(case.alloc, "its Command Completion Event wasn't read yet")?;
+    case.head("a second command for a slot whose first is unfinished", &[]);
+    let name = Shown::Name(command_name(command));
+    case.here("{} of slot {}", &[name, Shown::Small(slot)]);
+    case.mark_unfinished(first);
+    case.say("its Command Completion Event wasn't read yet");
     if name_two_endpoints(first.command, command) {
-        finding.say(
-            case.alloc,
-            "the two name different endpoints: `xtrace 3` allows them side by side",
-        )?;
+        case.say("the two name different endpoints: `xtrace 3` allows them side by side");
     }
-    finding.say(case.alloc, NOT_JUDGED)?;
-    finding.help(
-        case.alloc,
-        "wait for it, and hand the second command over then",
-    )?;
-    Ok(Some(finding))
+    case.not_judged();
+    case.advise("wait for it, and hand the second command over then");
+    true
 }
 
-/// A TRB on a ring that an unfinished command moves or binds.
-fn busy_ring(case: &Case, at: Addr, word: u32) -> Result<Option<Finding>, AllocError> {
+/// A TRB on a ring that an unfinished command moves or binds. Whether the write hands one over.
+fn busy_ring(case: &mut Case, at: Addr, word: u32) -> bool {
     let Some((ring, known)) = ring_at(case, at.get()) else {
-        return Ok(None);
+        return false;
     };
-    let id = ring.id;
-    let Some(giving) = known.look(&ring.shape, at, word).giving else {
-        return Ok(None);
-    };
-    let here = match giving {
-        RingGiving::Position(position) => format!(in case.alloc;
-            "TRB {position} of ring {id:02x}"
-        )?,
-        RingGiving::Crossing(_) => format!(in case.alloc; "a Link TRB of ring {id:02x}")?,
-    };
-    let given = busy_with(case, ring)?;
-    let is_moved = given.is_some_and(|given| moves_ring(case, given.command, id));
-    let head = if is_moved {
-        "a TRB is handed over on a ring that an unfinished Address Device moves"
-    } else {
-        "a TRB is handed over on a ring that an unfinished command gives to an endpoint"
-    };
-    let mut finding = Finding::new(case.alloc, head, here.as_str())?;
-    if let Some(given) = given {
-        finding.earlier = given.mark(case)?;
+    let id = Shown::Id(ring.id);
+    match known.look(&ring.shape, at, word).giving {
+        Some(RingGiving::Position(position)) => {
+            case.here("TRB {} of ring {}", &[Shown::Number(position), id]);
+        }
+        Some(RingGiving::Crossing(_)) => case.here("a Link TRB of ring {}", &[id]),
+        None => return false,
     }
-    finding.say(case.alloc, "its Command Completion Event wasn't read yet")?;
-    let why = if is_moved {
-        "the controller may take the TRB before it moves the ring, and again behind that"
+    let given = busy_with(case, ring);
+    let (head, why) = if given.is_some_and(|given| moves_ring(case, given.command, ring.id)) {
+        (
+            "a TRB is handed over on a ring that an unfinished Address Device moves",
+            "the controller may take the TRB before it moves the ring, and again behind that",
+        )
     } else {
-        "the ring runs still, for the endpoint that had it: the controller may take the TRB for that endpoint, and again for the other"
+        (
+            "a TRB is handed over on a ring that an unfinished command gives to an endpoint",
+            "the ring runs still, for the endpoint that had it: the controller may take the TRB for that endpoint, and again for the other",
+        )
     };
-    finding.say(case.alloc, why)?;
-    finding.help(case.alloc, "wait for it, and hand the TRB over then")?;
-    Ok(Some(finding))
+    case.head(head, &[]);
+    if let Some(given) = given {
+        case.mark_unfinished(given);
+    }
+    case.say("its Command Completion Event wasn't read yet");
+    case.say(why);
+    case.advise("wait for it, and hand the TRB over then");
+    true
 }
 
 /// The unfinished command that moves or binds a ring.
-fn busy_with(case: &Case, ring: &Ring) -> Result<Option<Unfinished>, AllocError> {
-    let all = all_unfinished(case)?;
-    Ok(
-        all.iter()
-            .find(|given| {
-                moves_ring(case, given.command, ring.id) || binds_ring(case, given.command, ring)
-            })
-            .copied(),
-    )
+fn busy_with(case: &Case, ring: &Ring) -> Option<Unfinished> {
+    let mut all = case.unfinished.iter();
+    all.find(|given| {
+        moves_ring(case, given.command, ring.id) || binds_ring(case, given.command, ring)
+    }).copied()
 }
 
 /// Whether a command is an Address Device for a slot whose default control endpoint has this ring.
@@ -259,10 +202,4 @@ fn moves_ring(case: &Case, command: Command, ring: u8) -> bool {
         Command::AddressDevice { slot, .. } => case.known.devices.ring_of(slot, 1) == Some(ring),
         _ => false,
     }
-}
-
-/// The name of an endpoint's state, with its slot and DCI.
-pub fn named_state(case: &Case, slot: u8, endpoint: u8) -> Result<String, AllocError> {
-    let name = endpoint_state_name(case.known.devices.endpoint_state(slot, endpoint));
-    format!(in case.alloc; "slot {slot}, DCI {endpoint} is {name}")
 }

@@ -9,5 +9,5 @@ mod registers;
 
 pub use commands_given::bad_command;
 pub use devices::{bad_doorbell, busy};
-pub use profile::{left_out_among, not_in_profile};
+pub use profile::{not_in_profile, note_left_out};
 pub use registers::{after_stop, bad_erdp, bad_register};

@@ -1,10 +1,9 @@
 //! Writes of registers.
 use row_history::{
-    Beside, Case, Finding, NOT_JUDGED, begun_with_0, clash, given_back, last_read, last_register,
-    line_of, reads, register_name, register_value, ring_of_kind, start, stop,
+    Beside, Case, Shown, begun_with_0, clash, given_back, last_read, last_register, line_of, reads,
+    register_name, register_value, ring_of_kind, start, stop,
 };
-use segments::{Place, RingShape};
-use std::alloc::AllocError;
+use segments::Place;
 use traces::{Register, Ring};
 use trb::RingKind;
 
@@ -17,137 +16,65 @@ const SET_UP: [Register; 4] = [
 ];
 
 /// A register that is written at the wrong time, or with a wrong value.
-pub fn bad_register(case: &Case, register: Register, value: u64) -> Result<Finding, AllocError> {
-    let name = register_name(register);
-    let head = format!(in case.alloc; "{name} is written at the wrong time or with a wrong value")?;
-    let here = format!(in case.alloc; "{name} = {value:x}")?;
-    let mut finding = Finding::new(case.alloc, head.as_str(), here.as_str())?;
+pub fn bad_register(case: &mut Case, register: Register, value: u64) {
+    let name = Shown::Name(register_name(register));
+    case.head(
+        "{} is written at the wrong time or with a wrong value",
+        &[name],
+    );
+    case.here("{} = {}", &[name, Shown::Hex(value)]);
     let started = start(case.before);
     if register == Register::Crcr && value / 2 % 4 != 0 {
-        finding.mark(case.alloc, started, "the controller starts here")?;
-        finding.say(
-            case.alloc,
-            "Command Stop (bit 1) or Command Abort (bit 2) is 1",
-        )?;
-        finding.say(case.alloc, NOT_JUDGED)?;
-        finding.help(
-            case.alloc,
+        case.mark(started, "the controller starts here", &[]);
+        case.say("Command Stop (bit 1) or Command Abort (bit 2) is 1");
+        case.not_judged();
+        case.advise(
             "end the trace before a stop of the Command Ring; this says nothing against the driver",
-        )?;
-        return Ok(finding);
+        );
+        return;
     }
     if started.is_some() && register != Register::Usbcmd {
-        finding.mark(
-            case.alloc,
-            started,
-            "the controller starts here: Run/Stop is 1",
-        )?;
-        let note = format!(in case.alloc; "{name} is set before the start (xHCI 4.2)")?;
-        finding.note(note)?;
-        finding.help(
-            case.alloc,
-            "write it before Run/Stop; a second run is a trace of its own",
-        )?;
-        return Ok(finding);
+        case.mark(started, "the controller starts here: Run/Stop is 1", &[]);
+        case.note("{} is set before the start (xHCI 4.2)", &[name]);
+        case.advise("write it before Run/Stop; a second run is a trace of its own");
+        return;
     }
     match register {
-        Register::Usbcmd => note_command(case, &mut finding, value)?,
-        Register::Crcr => note_crcr(case, &mut finding, value)?,
-        Register::Erstsz => note_table_size(case, &mut finding, value)?,
-        Register::Erstba => note_table(case, &mut finding, value)?,
+        Register::Usbcmd if value / 2 % 2 == 1 => note_reset(case),
+        Register::Usbcmd => note_start(case),
+        Register::Crcr => note_crcr(case, value),
+        Register::Erstsz => note_table_size(case, value),
+        Register::Erstba => note_table(case, value / 64 * 64),
         _ => {}
     }
-    Ok(finding)
 }
 
-/// A start before the set-up, or a reset behind it.
-fn note_command(case: &Case, finding: &mut Finding, value: u64) -> Result<(), AllocError> {
-    if value / 2 % 2 == 1 {
-        for register in Register::ALL {
-            if is_reset_away(register) && last_register(case.before, register).is_some() {
-                let name = register_name(register);
-                finding.mark(
-                    case.alloc,
-                    last_register(case.before, register),
-                    "a reset loses what is set up here",
-                )?;
-                let note = format!(in case.alloc;
-                    "HCRST is 1, and {name} was written before: a reset puts it back (xHCI 5.4.1)"
-                )?;
-                finding.note(note)?;
-            }
-        }
-        finding.say(case.alloc, NOT_JUDGED)?;
-        return finding.help(
-            case.alloc,
-            "reset first, then set up the registers; each run that is set up anew is a trace of its own",
-        );
-    }
-    let mut complete = true;
-    for register in SET_UP {
-        if last_register(case.before, register).is_none() {
-            complete = false;
-            let name = register_name(register);
-            let note = format!(in case.alloc; "the start comes before {name} was written")?;
-            finding.note(note)?;
+/// Points at the last write of a register, where there is one.
+fn mark_register(case: &mut Case, register: Register) {
+    let name = Shown::Name(register_name(register));
+    case.mark(
+        last_register(case.before, register),
+        "{} is written here",
+        &[name],
+    );
+}
+
+/// A reset behind the set-up.
+fn note_reset(case: &mut Case) {
+    for register in Register::ALL {
+        let written = last_register(case.before, register);
+        if is_reset_away(register) && written.is_some() {
+            case.mark(written, "a reset loses what is set up here", &[]);
+            case.note(
+                "HCRST is 1, and {} was written before: a reset puts it back (xHCI 5.4.1)",
+                &[Shown::Name(register_name(register))],
+            );
         }
     }
-    if complete {
-        return note_wrong_start(case, finding);
-    }
-    finding.help(
-        case.alloc,
-        "write CRCR, ERSTSZ, ERDP and ERSTBA before Run/Stop (xHCI 4.2)",
-    )
-}
-
-/// A start with another ERSTSZ than the Event Ring's, or another ERDP than its first TRB.
-fn note_wrong_start(case: &Case, finding: &mut Finding) -> Result<(), AllocError> {
-    let Some(ring) = ring_of_kind(case.header.rings.as_slice(), RingKind::Evt) else {
-        return no_event_ring(case, finding);
-    };
-    let size = register_value(case.before, Register::Erstsz).unwrap_or(0);
-    if size % 0x10000 != ring.shape.segments().len() as u64 {
-        finding.mark(
-            case.alloc,
-            last_register(case.before, Register::Erstsz),
-            "ERSTSZ is written here",
-        )?;
-        return note_size(case, finding, ring, size);
-    }
-    let found = register_value(case.before, Register::Erdp).unwrap_or(0) / 16 * 16;
-    let first = ring.shape.address(0);
-    finding.mark(
-        case.alloc,
-        last_register(case.before, Register::Erdp),
-        "ERDP is written here",
-    )?;
-    let note = format!(in case.alloc;
-        "ERDP is {found:016x}, and must be {first:016x} at the start, the first TRB of the Event Ring (xHCI 4.9.4)"
-    )?;
-    finding.note(note)?;
-    finding.help(
-        case.alloc,
-        "write ERDP with the first TRB of the Event Ring before Run/Stop",
-    )
-}
-
-/// Notes which size of the table ERSTSZ must say.
-fn note_size(
-    case: &Case,
-    finding: &mut Finding,
-    ring: &Ring,
-    value: u64,
-) -> Result<(), AllocError> {
-    let found = value % 0x10000;
-    let segments = ring.shape.segments().len();
-    let id = ring.id;
-    let note = format!(in case.alloc;
-        "its size is {found}, and must be {segments}, the number of segments of ring {id:02x}, the Event Ring"
-    )?;
-    finding.note(note)?;
-    let help = format!(in case.alloc; "write {segments} to ERSTSZ")?;
-    finding.help(case.alloc, help.as_str())
+    case.not_judged();
+    case.advise(
+        "reset first, then set up the registers; each run that is set up anew is a trace of its own",
+    );
 }
 
 /// The registers that a reset behind their set-up loses.
@@ -163,151 +90,181 @@ fn is_reset_away(register: Register) -> bool {
     )
 }
 
-/// CRCR with another pointer or cycle state than the Command Ring's.
-fn note_crcr(case: &Case, finding: &mut Finding, value: u64) -> Result<(), AllocError> {
-    match ring_of_kind(case.header.rings.as_slice(), RingKind::Cmd) {
-        None => {
-            finding.say(case.alloc, "the header has no `cmd` ring")?;
-            finding.help(
-                case.alloc,
-                "declare the Command Ring by a `ring ID cmd ..` line",
-            )?;
-        }
-        Some(ring) => {
-            let found = value / 64 * 64;
-            let base = ring.shape.address(0);
-            let id = ring.id;
-            if found != base {
-                let note = format!(in case.alloc;
-                    "its pointer is {found:016x}, and must be {base:016x}, where ring {id:02x}, the Command Ring, begins"
-                )?;
-                finding.note(note)?;
-            }
-            if value % 2 == 0 {
-                finding.say(
-                    case.alloc,
-                    "Ring Cycle State (bit 0) is 0, and must be 1: the rings of a trace begin with Cycle bit 1",
-                )?;
-                if found == base {
-                    finding.say(case.alloc, begun_with_0(case, ring))?;
-                }
-            }
-            let high = base | 1;
-            let help = format!(in case.alloc; "write {high:016x} to CRCR")?;
-            finding.help(case.alloc, help.as_str())?;
+/// A start before the set-up, or with wrong registers.
+fn note_start(case: &mut Case) {
+    let mut complete = true;
+    for register in SET_UP {
+        if last_register(case.before, register).is_none() {
+            complete = false;
+            let name = Shown::Name(register_name(register));
+            case.note("the start comes before {} was written", &[name]);
         }
     }
-    Ok(())
+    if complete {
+        note_wrong_start(case);
+    } else {
+        case.advise("write CRCR, ERSTSZ, ERDP and ERSTBA before Run/Stop (xHCI 4.2)");
+    }
+}
+
+/// A start with another ERSTSZ than the Event Ring's, or another ERDP than its first TRB.
+fn note_wrong_start(case: &mut Case) {
+    let Some(ring) = event_ring(case) else {
+        return;
+    };
+    if note_written_size(case, ring) {
+        return;
+    }
+    let found = register_value(case.before, Register::Erdp).unwrap_or(0) / 16 * 16;
+    mark_register(case, Register::Erdp);
+    case.note(
+        "ERDP is {}, and must be {} at the start, the first TRB of the Event Ring (xHCI 4.9.4)",
+        &[Shown::Address(found), Shown::Address(ring.shape.address(0))],
+    );
+    case.advise("write ERDP with the first TRB of the Event Ring before Run/Stop");
+}
+
+/// The Event Ring; where the trace declares none, that is noted.
+fn event_ring<'a>(case: &mut Case<'a>) -> Option<&'a Ring> {
+    let ring = ring_of_kind(case.header.rings.as_slice(), RingKind::Evt);
+    if ring.is_none() {
+        case.say("the header has no `evt` ring");
+        case.advise("declare the Event Ring by a `ring ID evt ..` line");
+    }
+    ring
+}
+
+/// Notes that ERSTSZ was written with another size than the Event Ring's table has. Whether it is so.
+fn note_written_size(case: &mut Case, ring: &Ring) -> bool {
+    let size = register_value(case.before, Register::Erstsz).unwrap_or(0) % 0x10000;
+    if size == ring.shape.segments().len() as u64 {
+        return false;
+    }
+    mark_register(case, Register::Erstsz);
+    note_size(case, ring, size);
+    true
+}
+
+/// Notes which size of the table ERSTSZ must say.
+fn note_size(case: &mut Case, ring: &Ring, found: u64) {
+    let segments = Shown::Number(ring.shape.segments().len() as u64);
+    case.note(
+        "its size is {}, and must be {}, the number of segments of ring {}, the Event Ring",
+        &[Shown::Number(found), segments, Shown::Id(ring.id)],
+    );
+    case.help("write {} to ERSTSZ", &[segments]);
+}
+
+/// CRCR with another pointer or cycle state than the Command Ring's.
+fn note_crcr(case: &mut Case, value: u64) {
+    let Some(ring) = ring_of_kind(case.header.rings.as_slice(), RingKind::Cmd) else {
+        case.say("the header has no `cmd` ring");
+        case.advise("declare the Command Ring by a `ring ID cmd ..` line");
+        return;
+    };
+    let (found, base) = (value / 64 * 64, ring.shape.address(0));
+    if found != base {
+        case.note(
+            "its pointer is {}, and must be {}, where ring {}, the Command Ring, begins",
+            &[
+                Shown::Address(found),
+                Shown::Address(base),
+                Shown::Id(ring.id),
+            ],
+        );
+    }
+    if value % 2 == 0 {
+        case.say(
+            "Ring Cycle State (bit 0) is 0, and must be 1: the rings of a trace begin with Cycle bit 1",
+        );
+        if found == base {
+            case.say(begun_with_0(case, ring));
+        }
+    }
+    case.help("write {} to CRCR", &[Shown::Address(base | 1)]);
 }
 
 /// ERSTSZ twice, or with another size than the Event Ring's table.
-fn note_table_size(case: &Case, finding: &mut Finding, value: u64) -> Result<(), AllocError> {
-    if let Some(index) = last_register(case.before, Register::Erstsz) {
-        finding.mark(case.alloc, Some(index), "ERSTSZ is written here")?;
-        finding.say(case.alloc, "`xtrace 1` and `xtrace 2` have it written once")?;
-        finding.say(case.alloc, NOT_JUDGED)?;
-        return finding.help(
-            case.alloc,
-            "write it once, or record `xtrace 3`, where its last value counts",
-        );
+fn note_table_size(case: &mut Case, value: u64) {
+    if last_register(case.before, Register::Erstsz).is_some() {
+        mark_register(case, Register::Erstsz);
+        case.say("`xtrace 1` and `xtrace 2` have it written once");
+        case.not_judged();
+        case.advise("write it once, or record `xtrace 3`, where its last value counts");
+    } else if let Some(ring) = event_ring(case) {
+        note_size(case, ring, value % 0x10000);
     }
-    match ring_of_kind(case.header.rings.as_slice(), RingKind::Evt) {
-        None => no_event_ring(case, finding),
-        Some(ring) => note_size(case, finding, ring, value),
-    }
-}
-
-/// Notes that the trace declares no Event Ring.
-fn no_event_ring(case: &Case, finding: &mut Finding) -> Result<(), AllocError> {
-    finding.say(case.alloc, "the header has no `evt` ring")?;
-    finding.help(
-        case.alloc,
-        "declare the Event Ring by a `ring ID evt ..` line",
-    )
 }
 
 /// ERSTBA twice, before ERSTSZ, or where no table of the Event Ring lies.
-fn note_table(case: &Case, finding: &mut Finding, value: u64) -> Result<(), AllocError> {
-    if let Some(index) = last_register(case.before, Register::Erstba) {
-        finding.mark(case.alloc, Some(index), "ERSTBA is written here")?;
-        finding.say(
-            case.alloc,
+fn note_table(case: &mut Case, base: u64) {
+    if last_register(case.before, Register::Erstba).is_some() {
+        mark_register(case, Register::Erstba);
+        case.say(
             "the controller has the table from the first write on (xHCI 4.9.4), and a trace has one table",
-        )?;
-        finding.say(case.alloc, NOT_JUDGED)?;
-        return finding.help(case.alloc, "write ERSTBA once in a trace");
-    }
-    if last_register(case.before, Register::Erstsz).is_none() {
-        finding.say(case.alloc, "ERSTSZ wasn't written yet")?;
-        return finding.help(case.alloc, "write ERSTSZ first (xHCI 5.5.2.3.2)");
-    }
-    match ring_of_kind(case.header.rings.as_slice(), RingKind::Evt) {
-        None => no_event_ring(case, finding),
-        Some(ring) => {
-            let size = register_value(case.before, Register::Erstsz).unwrap_or(0);
-            if size % 0x10000 != ring.shape.segments().len() as u64 {
-                finding.mark(
-                    case.alloc,
-                    last_register(case.before, Register::Erstsz),
-                    "ERSTSZ is written here",
-                )?;
-                return note_size(case, finding, ring, size);
-            }
-            note_entries(case, finding, &ring.shape, value / 64 * 64)
+        );
+        case.not_judged();
+        case.advise("write ERSTBA once in a trace");
+    } else if last_register(case.before, Register::Erstsz).is_none() {
+        case.say("ERSTSZ wasn't written yet");
+        case.advise("write ERSTSZ first (xHCI 5.5.2.3.2)");
+    } else if let Some(ring) = event_ring(case) {
+        if !note_written_size(case, ring) {
+            note_entries(case, ring, base);
         }
     }
 }
 
 /// Which entry of the table isn't as it must be, or where the table may not lie.
-fn note_entries(
-    case: &Case,
-    finding: &mut Finding,
-    shape: &RingShape,
-    base: u64,
-) -> Result<(), AllocError> {
-    let bytes = (shape.segments().len() as u64).saturating_mul(16);
-    if let Some(why) = clash(case, base, bytes, Beside::Devices)? {
-        let note = format!(in case.alloc;
-            "the Event Ring Segment Table, {bytes} bytes at {base:016x}, {why}"
-        )?;
-        finding.note(note)?;
-        return finding.help(case.alloc, "put the table into memory of its own");
+fn note_entries(case: &mut Case, ring: &Ring, base: u64) {
+    let segments = ring.shape.segments();
+    let bytes = (segments.len() as u64).saturating_mul(16);
+    if let Some(why) = clash(case, base, bytes, Beside::Devices) {
+        case.note(
+            "the Event Ring Segment Table, {} bytes at {}, {}",
+            &[
+                Shown::Number(bytes),
+                Shown::Address(base),
+                Shown::NoArea(why),
+            ],
+        );
+        case.advise("put the table into memory of its own");
+        return;
     }
-    for (index, segment) in shape.segments().iter().enumerate() {
+    for (index, segment) in segments.iter().enumerate() {
         let at = base.saturating_add((index as u64).saturating_mul(16));
         let low = u64::from(case.known.word(at));
         let found = u64::from(case.known.word(at.saturating_add(4))) << 32 | low;
         let size = case.known.word(at.saturating_add(8)) % 0x10000;
-        let (start, count) = (segment.base, segment.count);
-        if found / 64 * 64 != start || size != u32::from(count) {
-            let note = format!(in case.alloc;
-                "entry {index} at {at:016x} says {found:016x} with {size} TRBs, and must say {start:016x} with {count}, a segment of the `evt` ring"
-            )?;
-            finding.note(note)?;
+        if found / 64 * 64 != segment.base || size != u32::from(segment.count) {
+            case.note(
+                "entry {} at {} says {} with {} TRBs, and must say {} with {}, a segment of the `evt` ring",
+                &[
+                    Shown::Number(index as u64),
+                    Shown::Address(at),
+                    Shown::Address(found),
+                    Shown::Number(u64::from(size)),
+                    Shown::Address(segment.base),
+                    Shown::Number(u64::from(segment.count)),
+                ],
+            );
         }
     }
-    finding.help(
-        case.alloc,
-        "write the table's words before ERSTBA, and log them as `w` rows",
-    )
+    case.advise("write the table's words before ERSTBA, and log them as `w` rows");
 }
 
 /// ERDP past what was read, or back to what it gave back.
-pub fn bad_erdp(case: &Case, value: u64) -> Result<Finding, AllocError> {
+pub fn bad_erdp(case: &mut Case, value: u64) {
     let found = value / 16 * 16;
-    let here = format!(in case.alloc; "ERDP = {found:x}")?;
-    let Some(ring) = ring_of_kind(case.header.rings.as_slice(), RingKind::Evt) else {
-        let mut finding = Finding::new(case.alloc, NOT_REACHED, here.as_str())?;
-        no_event_ring(case, &mut finding)?;
-        return Ok(finding);
-    };
-    match event_behind(case, ring, found) {
-        Some(number) => back_erdp(case, ring, number, here.as_str()),
-        None => ahead_erdp(case, ring, found, here.as_str()),
+    case.head("ERDP names an event that the driver has not reached", &[]);
+    case.here("ERDP = {}", &[Shown::Hex(found)]);
+    if let Some(ring) = event_ring(case) {
+        match event_behind(case, ring, found) {
+            Some(number) => back_erdp(case, ring, number),
+            None => ahead_erdp(case, ring, found),
+        }
     }
 }
-
-const NOT_REACHED: &str = "ERDP names an event that the driver has not reached";
 
 /// The number, from 1, of the event that ERDP gave back last at an address, where that is nearer than the events that aren't read yet.
 fn event_behind(case: &Case, ring: &Ring, address: u64) -> Option<u64> {
@@ -327,77 +284,55 @@ fn event_behind(case: &Case, ring: &Ring, address: u64) -> Option<u64> {
 }
 
 /// ERDP back at an event that it gave back.
-fn back_erdp(case: &Case, ring: &Ring, number: u64, here: &str) -> Result<Finding, AllocError> {
-    let mut finding = Finding::new(
-        case.alloc,
-        "ERDP goes back to an event that it gave back before",
-        here,
-    )?;
-    finding.mark(
-        case.alloc,
-        last_register(case.before, Register::Erdp),
-        "ERDP is written here",
-    )?;
-    let note = format!(in case.alloc;
-        "that is the place of event {number}, which was read and given back"
-    )?;
-    finding.note(note)?;
+fn back_erdp(case: &mut Case, ring: &Ring, number: u64) {
+    case.head("ERDP goes back to an event that it gave back before", &[]);
+    mark_register(case, Register::Erdp);
+    case.note(
+        "that is the place of event {}, which was read and given back",
+        &[Shown::Number(number)],
+    );
     let stands = ring.shape.address(given_back(case, ring));
     let next = ring.shape.address(reads(case.before) as u64);
-    let note = format!(in case.alloc;
-        "ERDP stands at {stands:016x}, and may go up to {next:016x}, the event that is read next"
-    )?;
-    finding.note(note)?;
-    finding.help(
-        case.alloc,
+    case.note(
+        "ERDP stands at {}, and may go up to {}, the event that is read next",
+        &[Shown::Address(stands), Shown::Address(next)],
+    );
+    case.advise(
         "write the address of the next event that you will read: ERDP goes forward alone (xHCI 4.9.4)",
-    )?;
-    Ok(finding)
+    );
 }
 
 /// ERDP past what was read, or at no event's place.
-fn ahead_erdp(case: &Case, ring: &Ring, found: u64, here: &str) -> Result<Finding, AllocError> {
-    let mut finding = Finding::new(case.alloc, NOT_REACHED, here)?;
-    finding.mark(
-        case.alloc,
-        last_read(case.before),
-        "the last event that was read",
-    )?;
+fn ahead_erdp(case: &mut Case, ring: &Ring, found: u64) {
+    case.mark(last_read(case.before), "the last event that was read", &[]);
     if ring.shape.place_at(found).is_none() {
-        let note = format!(in case.alloc; "{found:016x} is no TRB of the Event Ring")?;
-        finding.note(note)?;
+        case.note("{} is no TRB of the Event Ring", &[Shown::Address(found)]);
     }
-    let count = reads(case.before);
-    let next = ring.shape.address(count as u64);
-    let note = format!(in case.alloc;
-        "events read so far: {count}; ERDP may go up to {next:016x}, the event that is read next"
-    )?;
-    finding.note(note)?;
-    finding.help(
-        case.alloc,
+    let count = reads(case.before) as u64;
+    case.note(
+        "events read so far: {}; ERDP may go up to {}, the event that is read next",
+        &[
+            Shown::Number(count),
+            Shown::Address(ring.shape.address(count)),
+        ],
+    );
+    case.advise(
         "write the address of the next event that you will read, after you read those before it",
-    )?;
-    Ok(finding)
+    );
 }
 
 /// A row behind the controller's stop.
-pub fn after_stop(case: &Case) -> Result<Finding, AllocError> {
-    let mut finding = Finding::new(
-        case.alloc,
-        "the trace goes on behind the stop",
-        "not judged",
-    )?;
-    let stopped = stop(case.before);
-    finding.mark(case.alloc, stopped, "the controller stops here")?;
-    if let Some(index) = stopped {
+pub fn after_stop(case: &mut Case) {
+    case.head("the trace goes on behind the stop", &[]);
+    case.here("not judged", &[]);
+    if let Some(index) = stop(case.before) {
+        case.mark(Some(index), "the controller stops here", &[]);
         let line = line_of(case.first, index);
-        let note = format!(in case.alloc; "Run/Stop is 0 or HCRST is 1 from row {line} on")?;
-        finding.note(note)?;
+        case.note(
+            "Run/Stop is 0 or HCRST is 1 from row {} on",
+            &[Shown::Line(line)],
+        );
     }
-    finding.say(case.alloc, NOT_JUDGED)?;
-    finding.help(
-        case.alloc,
-        "begin a new trace with the next run: a file for each",
-    )?;
-    Ok(finding)
+    case.not_judged();
+    case.advise("begin a new trace with the next run: a file for each");
 }

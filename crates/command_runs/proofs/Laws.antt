@@ -1,6 +1,5 @@
 -- What the answers cite: the words, and this crate's lemmas
 pub use Rattle.command_runs.proofs.Certified.{certificate_held, uncertified_right}
-pub use Rattle.command_runs.proofs.FewLines.{few_lines}
 pub use Rattle.command_runs.proofs.HeldAnswers.{answer_held, check_held, hindered, hindered_held, plan_held, text_held, unread_held}
 pub use Rattle.command_runs.proofs.Replayed.{beside_held, beside_right}
 pub use Rattle.command_runs.proofs.Streamed.{alone_right, counted_right, cut_right, harm_found, kept_right, unaccepted_right, unkept_right, unread_right, verified_right}

@@ -1,7 +1,6 @@
 pub mod Words
 mod VersionNotes
 pub mod Certified
-pub mod FewLines
 pub mod HeldAnswers
 pub mod Replayed
 pub mod Streamed

@@ -1,5 +1,5 @@
 -- That what is right of the text that a device gave, with what it still holds, is right of the input, of which nothing may be known
-use Rattle.command_runs.proofs.Words.{Accepted, Answer, BadLine, Bool, Device, Err, FoundHarm, HarmShown, IfBadLineIn, IfErr, IfOk, IfRefusedIn, IsBadLine, IsCheckAnswer, IsFirstBad, IsHarmFound, IsHindered, IsKept, IsKeptInPart, IsSound, IsVerdictAlone, IsVerdictBeside, IsVerified, Lease, LineFault, List, Memory, None, OfStream, OfTrace, Ok, Option, Refused, Result, Some, StreamCheckFault, StreamFault, TraceText, Unread, Verified, answer_of_check_fault, answer_of_stream_fault, false, inl, inr, is_some, known_text, length, not, refl, ring_verdict, subst, sym, trace_of, true, ℕ, ◌∙◌, ◌≡◌, Line, NoDevice, NoMemory, IfBadLine, RefusedRow, IsTextOf, IsTraceAnswer, IsUnread}
+use Rattle.command_runs.proofs.Words.{Accepted, Answer, BadLine, Bool, Device, Err, FoundHarm, HarmShown, IfBadLineIn, IfErr, IfOk, IfRefusedIn, IsBadLine, IsCheckAnswer, IsFirstBad, IsHarmFound, IsHindered, IsKept, IsKeptInPart, IsSound, IsVerdictAlone, IsVerdictBeside, IsVerified, Lease, LineFault, List, Memory, None, OfStream, OfTrace, Ok, Option, Refused, Result, Some, StreamCheckFault, StreamFault, TraceText, Unread, Verified, answer_of_check_fault, answer_of_stream_fault, false, inl, inr, is_some, known_text, length, not, refl, trace_verdict, subst, sym, trace_of, true, ℕ, ◌∙◌, ◌≡◌, Line, NoDevice, NoMemory, IfBadLine, RefusedRow, IsTextOf, IsTraceAnswer, IsUnread}
 
 text_known : (keeps : Bool) (known known' : Option (List ℕ)) (trace : TraceText) → OfStream known known' (λ text. trace_of keeps text ≡ Ok trace) → IsTextOf keeps known trace
 text_known keeps None known' trace read = tt
@@ -22,7 +22,7 @@ counted_right keeps known known' count (trace, read, (leases, sound, counted)) =
     inr (trace, text_known keeps known known' trace read, (leases, sound, counted, tt))
 
 pub unaccepted_right : (keeps : Bool) (known known' : Option (List ℕ)) (fault : StreamCheckFault) →
-    IfRefusedIn fault (λ row c. OfTrace keeps known known' (λ trace. ring_verdict trace.header trace.first trace.rows ≡ Some (row, c))) →
+    IfRefusedIn fault (λ row c. OfTrace keeps known known' (λ trace. trace_verdict trace.header trace.first trace.rows ≡ Some (row, c))) →
     IfBadLineIn fault (IsBadLine keeps known known') → IsTraceAnswer keeps IsVerdictAlone known (answer_of_check_fault fault)
 unaccepted_right keeps known known' (RefusedRow row c) refused bad = inr (refused.0, text_known keeps known known' refused.0 refused.1, ((refl, refused.2), refl))
 unaccepted_right keeps known known' (Unread fault) refused bad = inl (unread_right keeps known known' fault bad)
@@ -43,7 +43,7 @@ alone_right keeps contents (Some writer) known a none right = absurd (cc)
 -- ---- where one is asked for
 
 pub unkept_right : {C : Type 0} (keeps : Bool) (contents : C → Option (List ℕ)) (before : Option C) (known known' : Option (List ℕ)) (fault : StreamCheckFault) →
-    IfRefusedIn fault (λ row c. OfTrace keeps known known' (λ trace. ring_verdict trace.header trace.first trace.rows ≡ Some (row, c))) →
+    IfRefusedIn fault (λ row c. OfTrace keeps known known' (λ trace. trace_verdict trace.header trace.first trace.rows ≡ Some (row, c))) →
     IfBadLineIn fault (IsBadLine keeps known known') → IsCheckAnswer keeps false contents before before known (answer_of_check_fault fault)
 unkept_right keeps contents before known known' (RefusedRow row c) refused bad = (refused.0, text_known keeps known known' refused.0 refused.1, ((refl, refused.2), refl))
 unkept_right keeps contents before known known' (Unread (Line line fault)) refused bad = (bad_known keeps known known' line fault bad, refl)

@@ -13,7 +13,7 @@ pub use Rattle.certificate.specs.declared.fault.CertFault.{CertFault}
 pub use Rattle.certificate.specs.declared.fault.CertFault.TheVariants.{Memory as NoLeaseMemory}
 pub use Rattle.ownership_checker.specs.RingPasses.Accepted.{IsSound}
 pub use Rattle.ownership_checker.specs.RingPasses.Reading.{OfTrace}
-pub use Rattle.ownership_checker.specs.RingPasses.Rules.{ring_verdict}
+pub use Rattle.ownership_rules.specs.Rules.{trace_verdict}
 pub use Rattle.ownership_checker.specs.Streams.{IfBadLineIn, IfRefusedIn}
 pub use Rattle.ownership_checker.specs.declared.fault.StreamCheckFault.{StreamCheckFault}
 pub use Rattle.ownership_checker.specs.declared.fault.StreamCheckFault.TheVariants.{Refused as RefusedRow, Unread}
@@ -23,7 +23,6 @@ pub use Rattle.std.proofs.Common.{Bool, Err, List, None, Ok, Option, Result, Som
 pub use Rattle.std.proofs.lemmas.List.Elements.{All-weaker}
 pub use Rattle.std.specs.Io.KnownBytes.{Consumes}
 pub use Rattle.std.specs.Prelude.{IfErr, IfOk, IfSome, is_some}
-pub use Rattle.trace_reader.proofs.Spelled.{spelled_if_read}
 pub use Rattle.trace_reader.proofs.Streaming.Streams.{known_text}
 pub use Rattle.trace_reader.specs.Entries.{text_of}
 pub use Rattle.trace_reader.specs.Reading.{TraceText, trace_of}
@@ -35,8 +34,6 @@ pub use Rattle.trace_reader.specs.declared.fault.ReadFault.TheVariants.{Memory a
 pub use Rattle.trace_reader.specs.declared.row_reader.fault.StreamFault.{StreamFault}
 pub use Rattle.trace_reader.specs.declared.row_reader.fault.StreamFault.TheVariants.{Device as NoDevice, Line, Memory as NoMemory}
 pub use Rattle.traces.specs.Header.{IsHeader}
-pub use Rattle.traces.specs.Limits.{most_lines}
-unfoldable pub use Rattle.traces.specs.Limits.{most_lines_of}
 pub use Rattle.traces.specs.TraceRows.{IsRowOf, IsTraceRow}
 pub use Rattle.traces.specs.declared.header.Header.{Header}
 pub use Rattle.traces.specs.declared.schedule.Schedule.{Schedule}

@@ -4,7 +4,7 @@ use Rattle.traces.specs.declared.step.Step.{Step}
 use Rattle.trace_reader.specs.Schedules.{schedule_of}
 use Rattle.trace_reader.specs.ScheduleSpelling.{printed_schedule}
 use Rattle.trace_reader.specs.Reading.{TraceText}
-use Rattle.ownership_checker.specs.RingPasses.Rules.{ring_verdict}
+use Rattle.ownership_rules.specs.Rules.{trace_verdict}
 use Rattle.replayer.specs.Schedules.Harmful.{DoesHarm}
 use Rattle.answers.specs.declared.answer.FoundHarm.{FoundHarm}
 use Rattle.answers.specs.declared.answer.Answer.{Answer}
@@ -25,8 +25,8 @@ IsHarmFound trace row (Some found) = IsHarmText trace row found
 -- the first row that breaks a rule, and the least rule that it breaks; with a run that does harm, where that was asked for; or that memory
 -- was wanted
 abbrev pub IsRefusalTold : Bool → TraceText → Answer → Type 0
-IsRefusalTold shows trace (Refused row refusal) = (shows ≡ false) × (ring_verdict trace.header trace.first trace.rows ≡ Some (row, refusal))
+IsRefusalTold shows trace (Refused row refusal) = (shows ≡ false) × (trace_verdict trace.header trace.first trace.rows ≡ Some (row, refusal))
 IsRefusalTold shows trace (HarmShown row refusal harm) =
-    (shows ≡ true) × (ring_verdict trace.header trace.first trace.rows ≡ Some (row, refusal)) × IsHarmFound trace row harm
+    (shows ≡ true) × (trace_verdict trace.header trace.first trace.rows ≡ Some (row, refusal)) × IsHarmFound trace row harm
 IsRefusalTold shows trace Memory = Unit {0}
 IsRefusalTold shows trace _ = ⊥

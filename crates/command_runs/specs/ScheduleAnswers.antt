@@ -6,7 +6,7 @@ use Rattle.trace_reader.specs.ScheduleSpelling.{printed_schedule}
 use Rattle.controller_model.specs.Showing.{scene_replayed}
 use Rattle.world_state.specs.Steps.{NoHarm}
 use Rattle.ownership_checker.specs.RingPasses.Clean.{AreClean}
-use Rattle.ownership_checker.specs.RingPasses.Rules.{ring_verdict}
+use Rattle.ownership_rules.specs.Rules.{trace_verdict}
 use Rattle.safety.specs.LazyRuns.LateEvents.{IsTimely}
 use Rattle.safety.specs.LazyRuns.Law.{ContainsAll}
 use Rattle.safety.specs.LazyRuns.Lazy.{lazy_steps}
@@ -27,7 +27,7 @@ pub record IsLazySchedule (trace : TraceText) (text : List ℕ) : Type 0 where
 -- memory was wanted
 abbrev pub IsScheduled : TraceText → Answer → Type 0
 IsScheduled trace (Scheduled schedule) = IsLazySchedule trace schedule.items
-IsScheduled trace (Refused row refusal) = ring_verdict trace.header trace.first trace.rows ≡ Some (row, refusal)
+IsScheduled trace (Refused row refusal) = trace_verdict trace.header trace.first trace.rows ≡ Some (row, refusal)
 IsScheduled trace Memory = Unit {0}
 IsScheduled trace _ = ⊥
 

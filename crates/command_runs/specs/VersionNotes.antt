@@ -4,7 +4,7 @@ use Rattle.traces.specs.declared.header.Header.{Header}
 use Rattle.traces.specs.declared.version.Version.TheVariants.{Three}
 use Rattle.trace_reader.specs.Reading.{TraceText}
 use Rattle.ownership_rules.specs.declared.refusal.Refusal.{Refusal}
-use Rattle.ownership_checker.specs.RingPasses.Rules.{ring_verdict}
+use Rattle.ownership_rules.specs.Rules.{trace_verdict}
 
 -- the same header, for rows that version 3 judges
 abbrev pub in_version_three : Header → Header
@@ -17,4 +17,4 @@ is_behind row (Some refused) = nat_lt row refused.0
 
 -- version 3 refuses neither the row nor one before it
 unfoldable pub breaks_no_rule_of_three : TraceText → ℕ → Bool
-breaks_no_rule_of_three trace row = is_behind row (ring_verdict (in_version_three trace.header) trace.first trace.rows)
+breaks_no_rule_of_three trace row = is_behind row (trace_verdict (in_version_three trace.header) trace.first trace.rows)

@@ -13,7 +13,7 @@ use crate::recorded::Recorded;
 use crate::stream_answers::{counted_answer, unaccepted};
 use answers::{Answer, Asked, Status, keep, tell, tell_failure};
 use diagnostics::Class;
-use guest_memory::PageMemory;
+use guest_memory::SparseMemory;
 use ownership_checker::check_stream;
 use replayer::Search;
 use std::alloc::Global;
@@ -125,7 +125,7 @@ pub(crate) fn kept_answer<S: Source, C: Write>(
     ensures answered { IfOk result (λ answer. IsCheckAnswer keeps false C.contents certificate.old certificate.new (S.held source.old) answer) }
     ensures hindered { IfErr result (λ _. IsHindered keeps C.contents certificate.old certificate.new (S.held source.old)) }
 {
-    match check_stream(alloc, keeps, source, PageMemory::new(alloc)) {
+    match check_stream(alloc, keeps, source, SparseMemory::new(alloc)) {
         Ok(found) => {
             keep(alloc, &found.leases, certificate)?;
             Ok(Answer::Accepted {

@@ -5,7 +5,7 @@ ghost use Rattle.command_runs.specs.CheckAnswers.{IsCheckAnswer, IsHindered};
 ghost use Rattle.trace_reader.specs.Entries.{text_of};
 ghost use Rattle.trace_reader.specs.Reading.{TraceText, trace_of};
 ghost use Rattle.traces.specs.Limits.{most_lines};
-ghost use Rattle.ownership_checker.specs.RingPasses.Rules.{ring_verdict};
+ghost use Rattle.ownership_rules.specs.Rules.{trace_verdict};
 ghost use Rattle.command_runs.specs.HarmAnswers.{IsHarmFound, IsRefusalTold};
 
 use crate::check_run::kept_answer;
@@ -79,7 +79,7 @@ pub(crate) fn check_answer<C: Write>(
 
 /// The answer to the text of a trace with a row that breaks a rule, with a run that does harm, if one is found.
 fn shown_answer(alloc: Global, search: Search, text: &[u8], row: u32, refusal: Refusal) -> Answer
-    ensures { (trace : TraceText) → trace_of true text.now ≡ Ok trace → ring_verdict trace.header trace.first trace.rows ≡ Some (row, refusal) → IsRefusalTold true trace result }
+    ensures { (trace : TraceText) → trace_of true text.now ≡ Ok trace → trace_verdict trace.header trace.first trace.rows ≡ Some (row, refusal) → IsRefusalTold true trace result }
 {
     match found_harm(alloc, search, text, row) {
         Ok(harm) => Answer::HarmShown { row, refusal, harm },
@@ -113,9 +113,6 @@ fn harm_beside(
     requires { trace.now.first + length trace.now.rows ≤ most_lines + 1 }
     ensures { IfOk result (λ found. IsHarmFound (text_of trace.now) row found) }
 {
-    if row < trace.first || (row - trace.first) as usize >= trace.rows.as_slice().len() {
-        return Ok(None);
-    }
     match harmful_run(alloc, trace, row, search)? {
         Some(run) => {
             let schedule = print_schedule(alloc, &run.schedule)?;

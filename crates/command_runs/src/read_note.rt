@@ -7,7 +7,7 @@ use crate::recorded::{Recorded, Text};
 use crate::stream_answers::unaccepted;
 use answers::{Answer, Asked, broken, note_on_failure};
 use diagnostics::Explanation;
-use guest_memory::PageMemory;
+use guest_memory::SparseMemory;
 use ownership_checker::{Certificate, check_stream};
 use ring_knowledge::Lease;
 use std::alloc::{AllocError, Global};
@@ -179,7 +179,7 @@ fn has_answer(alloc: Global, text: &[u8], answer: &Answer) -> Result<bool, Alloc
 /// The answer to a text by itself.
 fn answer_again(alloc: Global, text: &[u8]) -> Answer {
     let mut source = Counted::new(text);
-    match check_stream(alloc, false, &mut source, PageMemory::new(alloc)) {
+    match check_stream(alloc, false, &mut source, SparseMemory::new(alloc)) {
         Ok(Certificate { leases }) => Answer::Accepted {
             leases: leases.len() as u64,
         },

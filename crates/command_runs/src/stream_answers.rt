@@ -5,7 +5,7 @@ ghost use Rattle.command_runs.specs.TraceTexts.{IsTraceAnswer};
 ghost use Rattle.command_runs.specs.VerifyAnswers.{IsVerdictBeside};
 
 use answers::Answer;
-use guest_memory::PageMemory;
+use guest_memory::SparseMemory;
 use ownership_checker::{StreamCheckFault, count_stream};
 use ring_knowledge::Lease;
 use std::alloc::Global;
@@ -16,7 +16,7 @@ use verifier::verify_stream;
 pub fn counted_answer<S: Source>(alloc: Global, source: &mut S) -> Answer
     ensures { IsTraceAnswer false IsVerdictAlone (S.held source.old) result }
 {
-    match count_stream(alloc, source, PageMemory::new(alloc)) {
+    match count_stream(alloc, source, SparseMemory::new(alloc)) {
         Ok(leases) => Answer::Accepted {
             leases: leases as u64,
         },
@@ -38,7 +38,7 @@ pub fn unaccepted(fault: StreamCheckFault) -> Answer
 pub fn verified_answer<S: Source>(alloc: Global, leases: &[Lease], source: &mut S) -> Answer
     ensures { IsVerdictBeside leases.now (S.held source.old) result }
 {
-    match verify_stream(alloc, source, PageMemory::new(alloc), leases) {
+    match verify_stream(alloc, source, SparseMemory::new(alloc), leases) {
         Ok(holds) => Answer::Verified { holds },
         Err(fault) => Answer::from(fault),
     }

@@ -7,7 +7,7 @@ ghost use Rattle.command_runs.specs.VersionNotes.{breaks_no_rule_of_three, in_ve
 use crate::waiting_note::waiting_note;
 use answers::{Answer, Asked, explain_trace};
 use diagnostics::{Class, Colors, Explanation, note_line};
-use guest_memory::PageMemory;
+use guest_memory::SparseMemory;
 use ownership_checker::{LeaseCount, Passed, pass_kept};
 use std::alloc::{AllocError, Global};
 use trace_reader::{ReadFault, Trace, read_trace};
@@ -94,7 +94,7 @@ fn breaks_no_rule_of_three(alloc: Global, trace: Trace, row: u32) -> Result<bool
         first,
         rows.as_slice(),
         log,
-        PageMemory::new(alloc),
+        SparseMemory::new(alloc),
     )? {
         Passed::Whole(_) => Ok(true),
         Passed::Refused { row: refused, .. } => Ok(row < refused),

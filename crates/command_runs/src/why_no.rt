@@ -1,5 +1,5 @@
 //! Why leases aren't those of a trace, which is judged once more for that.
-use guest_memory::PageMemory;
+use guest_memory::SparseMemory;
 use ownership_checker::{StreamCheckFault, check_stream};
 use ownership_rules::Refusal;
 use ring_knowledge::Lease;
@@ -20,7 +20,7 @@ pub enum WhyNo {
 /// Why leases aren't those of the trace that a text holds.
 pub fn why_no(alloc: Global, leases: &[Lease], text: &[u8]) -> Result<WhyNo, AllocError> {
     let mut source = Counted::new(text);
-    match check_stream(alloc, false, &mut source, PageMemory::new(alloc)) {
+    match check_stream(alloc, false, &mut source, SparseMemory::new(alloc)) {
         Ok(own) if own.leases.as_slice() == leases => Ok(WhyNo::Nothing),
         Ok(own) => Ok(WhyNo::Leases(own.leases)),
         Err(StreamCheckFault::Refused { row, refusal }) => Ok(WhyNo::Row { row, refusal }),

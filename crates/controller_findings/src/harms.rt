@@ -4,11 +4,12 @@ ghost use Rattle.std.specs.Prelude.{◌≤◌, length};
 use controller_model::Seen;
 use ring_knowledge::RingRecord;
 use row_history::{
-    Case, declared_now, going, known_after, last_write, line_of, ring_known, submission, word_at,
+    Case, Shown, declared_now, going, known_after, last_write, line_of, ring_known, submission,
+    word_at,
 };
 use segments::Place;
 use std::alloc::{AllocError, Global};
-use traces::{Ring, Trace, TraceRow};
+use traces::{Ring, Row, Trace};
 use trb::Block;
 use world_state::Harm;
 
@@ -28,48 +29,30 @@ pub fn notes_on_harm(
     harm: Harm,
     seen: &[Seen],
 ) -> Result<Vec<String>, AllocError> {
-    let mut notes = Vec::new(alloc);
     let Some(taken) = harmful_take(harm, seen) else {
-        return Ok(notes);
+        return Ok(Vec::new(alloc));
     };
     let rows = trace.rows.as_slice();
     let made = &rows[..rows_made(seen).min(rows.len())];
-    let behind = known_after(
-        alloc,
-        &trace.header,
-        &made[..rows_of_ring(made, taken.ring)],
-    )?;
-    let case = Case {
-        alloc,
-        header: &behind.header,
-        first: trace.first,
-        before: made,
-        known: &behind.known,
-    };
-    note_take(&case, &mut notes, taken, harm)?;
-    note_going(&case, &mut notes, taken.ring)?;
-    Ok(notes)
+    let told = &made[..rows_of_ring(made, taken.ring)];
+    let behind = known_after(alloc, &trace.header, told)?;
+    let mut case = Case::new(alloc, trace.first, made, &behind);
+    note_take(&mut case, taken, harm);
+    if let Some(row) = going(made, taken.ring) {
+        let line = Shown::Line(line_of(trace.first, row));
+        case.note("row {} took ring {} away", &[line, Shown::Id(taken.ring)]);
+    }
+    Ok(case.finding()?.notes)
 }
 
 /// How many of the rows tell of a ring: all of them, or those before it went.
-fn rows_of_ring(rows: &[TraceRow], id: u8) -> usize
+fn rows_of_ring(rows: &[Row], id: u8) -> usize
     ensures { result ≤ length rows.now }
 {
     match going(rows, id) {
         Some(row) => row.min(rows.len()),
         None => rows.len(),
     }
-}
-
-/// Notes by which row a ring went.
-fn note_going(case: &Case, notes: &mut Vec<String>, id: u8) -> Result<(), AllocError> {
-    let Some(row) = going(case.before, id) else {
-        return Ok(());
-    };
-    let line = line_of(case.first, row);
-    let note = format!(in case.alloc; "row {line} took ring {id:02x} away")?;
-    notes.push(note)?;
-    Ok(())
 }
 
 /// The last TRB that the controller took, where the harm lies in what it took.
@@ -107,32 +90,28 @@ fn is_row(shown: &Seen) -> bool {
 }
 
 /// Notes which TRB was taken, and of other words than were submitted which they are.
-fn note_take(
-    case: &Case,
-    notes: &mut Vec<String>,
-    taken: Taken,
-    harm: Harm,
-) -> Result<(), AllocError> {
+fn note_take(case: &mut Case, taken: Taken, harm: Harm) {
     let Some((ring, known)) = ring_known(case, taken.ring) else {
-        return Ok(());
+        return;
     };
-    let (id, at) = (taken.ring, taken.at);
-    let Some(Place::Data { place, .. }) = ring.shape.place_at(at) else {
-        return Ok(());
+    let (id, at) = (Shown::Id(taken.ring), Shown::Address(taken.at));
+    let Some(Place::Data { place, .. }) = ring.shape.place_at(taken.at) else {
+        return;
     };
     let Some(position) = last_position(ring, known, place) else {
-        let note = format!(in case.alloc;
-            "it took the TRB at {at:016x} of ring {id:02x}, where none was submitted"
-        )?;
-        notes.push(note)?;
-        return Ok(());
+        case.note(
+            "it took the TRB at {} of ring {}, where none was submitted",
+            &[at, id],
+        );
+        return;
     };
-    let note = format!(in case.alloc; "it took TRB {position} of ring {id:02x}, at {at:016x}")?;
-    notes.push(note)?;
+    case.note(
+        "it took TRB {} of ring {}, at {}",
+        &[Shown::Number(position), id, at],
+    );
     if harm == Harm::TakenOtherWords {
-        return note_other_words(case, notes, taken, ring, known, position);
+        note_other_words(case, taken, ring, known, position);
     }
-    Ok(())
 }
 
 /// The last submitted position at a place of a ring.
@@ -143,50 +122,40 @@ fn last_position(ring: &Ring, known: &RingRecord, place: u32) -> Option<u64> {
 }
 
 /// Notes each word of a taken TRB that isn't the submitted one, with the rows of both.
-fn note_other_words(
-    case: &Case,
-    notes: &mut Vec<String>,
-    taken: Taken,
-    ring: &Ring,
-    known: &RingRecord,
-    position: u64,
-) -> Result<(), AllocError> {
+fn note_other_words(case: &mut Case, taken: Taken, ring: &Ring, known: &RingRecord, position: u64) {
     let (Some(block), Some(td)) = (
         declared_now(case, ring.id, known, position),
         submission(case, ring.id, position),
     ) else {
-        return Ok(());
+        return;
     };
     let wanted = block.with_cycle(ring.shape.cycle(position));
     let (verb, row) = match td.withdrawn {
         Some(row) => ("is a withdrawn TRB's", row),
         None => ("was submitted", td.row),
     };
-    let line = line_of(case.first, row);
+    let (verb, line) = (Shown::Name(verb), Shown::Line(line_of(case.first, row)));
     for (index, (want, have)) in wanted.w.iter().zip(taken.words.w.iter()).enumerate() {
         if *want != *have {
             let address = taken.at.saturating_add(4 * (index as u64 % 4));
-            let (want, have) = (*want, *have);
-            let origin = origin_of(case, address, have)?;
-            let note = format!(in case.alloc;
-                "word {index} is {have:08x}{origin}, and {want:08x} {verb} (row {line})"
-            )?;
-            notes.push(note)?;
+            let index = Shown::Number(index as u64);
+            case.note("word {} is {}", &[index, Shown::Word(*have)]);
+            tell_origin(case, address, *have);
+            case.go_on(", and {} {} (row {})", &[Shown::Word(*want), verb, line]);
         }
     }
-    Ok(())
 }
 
-/// The row that wrote a word with this value, in brackets.
-fn origin_of(case: &Case, address: u64, value: u32) -> Result<String, AllocError> {
+/// Goes on with the row that wrote a word with this value, in brackets.
+fn tell_origin(case: &mut Case, address: u64, value: u32) {
     if word_at(case.before, address) != value {
-        return Ok(String::new(case.alloc));
+        return;
     }
     match last_write(case.before, address) {
         Some(row) => {
-            let line = line_of(case.first, row);
-            format!(in case.alloc; " (written by row {line})")
+            let line = Shown::Line(line_of(case.first, row));
+            case.go_on(" (written by row {})", &[line]);
         }
-        None => String::from_str(case.alloc, " (never written: memory counts as 0)"),
+        None => case.go_on(" (never written: memory counts as 0)", &[]),
     }
 }

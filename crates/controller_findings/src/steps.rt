@@ -1,9 +1,9 @@
 //! What is found of a replay that ends at a step that isn't possible: where the driver stands, and whether the controller runs.
 use crate::harms::rows_made;
 use controller_model::Seen;
-use row_history::{line_of, start, stop};
+use row_history::{Behind, Case, Shown, line_of, start, stop};
 use std::alloc::{AllocError, Global};
-use traces::{Row, Trace, TraceRow};
+use traces::{Row, Trace};
 
 /// Notes on where a replay stands that can't go on, beside a trace.
 pub fn notes_on_stuck(
@@ -11,41 +11,42 @@ pub fn notes_on_stuck(
     trace: &Trace,
     seen: &[Seen],
 ) -> Result<Vec<String>, AllocError> {
-    let mut notes = Vec::new(alloc);
-    let first = trace.first;
     let rows = trace.rows.as_slice();
     let made = rows_made(seen).min(rows.len());
-    notes.push(next_row(alloc, first, rows.get(made), made)?)?;
-    let before = &rows[..made];
-    if start(before).is_none() {
-        notes.push(String::from_str(alloc, "the controller isn't started yet")?)?;
+    let behind = Behind::nothing(alloc)?;
+    let mut case = Case::new(alloc, trace.first, &rows[..made], &behind);
+    note_next(&mut case, rows.get(made));
+    if start(case.before).is_none() {
+        case.say("the controller isn't started yet");
     }
-    if let Some(index) = stop(before) {
-        let line = line_of(first, index);
-        let note = format!(in alloc;
-            "the controller stopped with row {line}: behind that only rows are possible"
-        )?;
-        notes.push(note)?;
+    if let Some(index) = stop(case.before) {
+        let line = Shown::Line(line_of(case.first, index));
+        case.note(
+            "the controller stopped with row {}: behind that only rows are possible",
+            &[line],
+        );
     }
-    Ok(notes)
+    Ok(case.finding()?.notes)
 }
 
-/// Which row of the trace the driver makes next.
-fn next_row(
-    alloc: Global,
-    first: u32,
-    row: Option<&TraceRow>,
-    made: usize,
-) -> Result<String, AllocError> {
-    let line = line_of(first, made);
+/// Notes which row of the trace the driver makes next.
+fn note_next(case: &mut Case, row: Option<&Row>) {
+    let line = Shown::Line(line_of(case.first, case.before.len()));
     match row {
-        Some(TraceRow::Plain(Row::Read { event })) => {
+        Some(Row::Read { event }) => {
             let [w0, w1, w2, w3] = event.w;
-            format!(in alloc;
-                "its next row is row {line}, which reads the event {w0:08x} {w1:08x} {w2:08x} {w3:08x}"
-            )
+            case.note(
+                "its next row is row {}, which reads the event {} {} {} {}",
+                &[
+                    line,
+                    Shown::Word(w0),
+                    Shown::Word(w1),
+                    Shown::Word(w2),
+                    Shown::Word(w3),
+                ],
+            );
         }
-        Some(_) => { format!(in alloc; "its next row is row {line}") }
-        None => String::from_str(alloc, "the trace has no further row"),
+        Some(_) => case.note("its next row is row {}", &[line]),
+        None => case.say("the trace has no further row"),
     }
 }

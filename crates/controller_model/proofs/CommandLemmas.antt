@@ -1,6 +1,5 @@
 -- A command that a block says is well: its addresses are on 16-byte boundaries, its indices below 32
 use Rattle.controller_model.proofs.Words.{rules, ◌≡◌, Some, None, subst, arith, Block, BlockKind, Command, command_by_kind, command_of, IsWell}
-use Rattle.trb.specs.declared.kind.BlockKind.TheVariants as kinds
 
 well : (d c : Command) → Some d ≡ Some c → IsWell d → IsWell c
 well d c e is = subst IsWell (cc) is

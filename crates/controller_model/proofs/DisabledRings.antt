@@ -1,5 +1,5 @@
 -- What is kept of rings while endpoints are disabled
-use Rattle.controller_model.proofs.MiddleLaws.{rules, ◌≡◌, ◌<◌, ◌==◌, ◌&&◌, ◌∙◌, if◌then◌else◌, ℕ, not, Bool, true, false, List, Option, Some, None, refl, sym, ap, subst, arith, Header, is_ring, World, RingState, disabled, has_one_of, Kept, Row, Off, Follows, FollowsEndpoints, FollowsHolder, FollowsRings, IsEndpoint, ring_held, turned_off, here, elsewhere, place_of, put_pair_here, put_pair_there, put_pair_map, any_alike}
+use Rattle.controller_model.proofs.MiddleLaws.{rules, ◌≡◌, ◌<◌, ◌==◌, ◌&&◌, ◌∙◌, if◌then◌else◌, ℕ, not, Bool, true, false, List, Option, Some, None, refl, sym, ap, subst, arith, Header, is_ring, World, RingState, disabled, has_one_of, Kept, Off, Follows, FollowsEndpoints, FollowsHolder, FollowsRings, IsEndpoint, ring_held, turned_off, here, elsewhere, place_of, put_pair_here, put_pair_there, put_pair_map, any_alike}
 
 -- an endpoint that has no ring is disabled
 pub rings_off : (h : Header) (w : World) (s i : ℕ) (rings : List RingState) → ((r : ℕ) → IsEndpoint s i → is_ring r (w.ring_of s i) ≡ false) →
@@ -13,10 +13,10 @@ rings_off h w s i rings nothing f = record {
 }
 
 -- only the endpoints below 32 matter
-pub disabled_below : (h : Header) (rows : List Row) (words : ℕ → ℕ) (before k : Kept) (w : World) (s : ℕ) (p q : ℕ → Bool) → ((i : ℕ) → i < 32 → p i ≡ q i) →
-    Follows h rows words before w → Follows h rows words k (disabled w s p) → Follows h rows words k (disabled w s q)
+pub disabled_below : (h : Header) (words : ℕ → ℕ) (before k : Kept) (w : World) (s : ℕ) (p q : ℕ → Bool) → ((i : ℕ) → i < 32 → p i ≡ q i) →
+    Follows h words before w → Follows h words k (disabled w s p) → Follows h words k (disabled w s q)
 unfolding disabled has_one_of
-disabled_below h rows words before k w s p q same first f =
+disabled_below h words before k w s p q same first f =
     let rings : FollowsRings h (ring_held (disabled w s q)) k.rings.items = record {
       each = λ r x at.
           let old = f.rings.each r x at in

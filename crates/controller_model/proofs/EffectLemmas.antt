@@ -1,5 +1,5 @@
 -- What the success of each command leads to
-use Rattle.controller_model.proofs.Words.{◌≡◌, ℕ, List, Option, Some, None, subst, same_Some, option_and_then, Command, slot_gone_on, Header, Row, Kept, World, Follows}
+use Rattle.controller_model.proofs.Words.{◌≡◌, ℕ, Option, Some, None, subst, same_Some, option_and_then, Command, slot_gone_on, Header, Kept, World, Follows}
 
 -- the slot's state goes on
 abbrev pub gone : Command → World → ℕ → World
@@ -10,5 +10,5 @@ one None final e = absurd (cc)
 one (Some v) final e = e
 
 -- what follows the world that a success leads to
-pub onward : {h : Header} {rows : List Row} {words : ℕ → ℕ} {k : Kept} {v final : World} → Some v ≡ Some final → Follows h rows words k v → Follows h rows words k final
-onward {h = h} {rows = rows} {words = words} {k = k} e f = subst (Follows h rows words k) (same_Some _ _ e) f
+pub onward : {h : Header} {words : ℕ → ℕ} {k : Kept} {v final : World} → Some v ≡ Some final → Follows h words k v → Follows h words k final
+onward {h = h} {words = words} {k = k} e f = subst (Follows h words k) (same_Some _ _ e) f

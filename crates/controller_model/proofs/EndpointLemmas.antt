@@ -1,5 +1,5 @@
 -- One endpoint is changed, and what a doorbell does
-use Rattle.controller_model.proofs.LowerLaws.{◌≡◌, ◌≢◌, ◌+◌, ◌*◌, ◌<◌, ◌==◌, ◌&&◌, ◌∙◌, ℕ, ap, sym, subst, refl, Bool, List, Option, Some, length, slice_get, get_or, set, inl, inr, arith, eq-eqb, ne_eqb, cases_eq, cond-true, cond-false, put_pair, put_pair_index, put_pair_same, put_pair_slot, EndpointState, Endpoint, FollowsEndpoints, read_at, slice_get-set_same, slice_get-set_other}
+use Rattle.controller_model.proofs.LowerLaws.{◌≡◌, ◌+◌, ◌*◌, ◌<◌, ◌∙◌, ℕ, ap, sym, subst, List, Option, Some, length, slice_get, get_or, set, inl, inr, arith, cases_eq, put_pair, put_pair_index, put_pair_same, put_pair_slot, EndpointState, Endpoint, FollowsEndpoints, read_at, slice_get-set_same, slice_get-set_other}
 
 -- the state of an endpoint is replaced
 pub endpoints_state : (endpoints : List Endpoint) (state : ℕ → ℕ → EndpointState) (ring_of : ℕ → ℕ → Option ℕ) (n s i : ℕ) (x new : Endpoint) →

@@ -39,7 +39,6 @@ pub mod CommandLemmas
 pub mod SuccessLemmas
 pub mod FinishLemmas
 pub mod StepLemmas
-pub mod PlainScenes
 pub mod Words
 pub mod LowerLaws
 pub mod MiddleLaws

@@ -12,6 +12,6 @@ pub use Rattle.controller_model.proofs.RingSteps.{activated_other, crossed_here,
 pub use Rattle.controller_model.proofs.SlotLemmas.{slots_allow, slots_state}
 pub use Rattle.controller_model.proofs.SuccessLemmas.{can_be_addressed, none_of_test, one_some, some_of, success_changes}
 pub use Rattle.controller_model.proofs.WatchLemmas.{any_alike, none_later, still_watched}
-pub use Rattle.controller_model.proofs.Words.{Bool, Endpoint, EndpointState, Evt, Follows, FollowsEndpoints, FollowsHolder, FollowsRing, FollowsRings, FollowsScene, FollowsSlots, Header, HeaderValue, Holder, IsEndpoint, IsFollowed, IsSome, Kept, List, Look, None, Off, Ok, Option, Placed, Plain, Posted, Ring, RingState, Row, RowSeen, RowValue, Running, Sees, SlotState, Some, Usbcmd, World, Xfer, [], address_of, addressed, ap, arith, as_declared, block_at, bound, cases_Bool, cases_eq, cases_lt, changed_at, command_of, common_steps, completed, cond-true, context_cycle, context_pointer, drop, endpoint, entries, eq-eqb, eqb-true, err_from_is_err_and, false, false_from_ne_true, false≢true, filter, freed, get_or, has_flag, has_own, held, if◌then◌else◌, inl, inr, is_dropped, is_elsewhere, is_event_place, is_holder, is_it, is_other, is_ring, is_some, le-ltb, length, length-remove, length-set, link_target-crossed, list_any, lt-ltb, named_by, nat_le, nat_lt, ne_eqb, none-some, not, option_copied, option_map, own_ring, place_count, places_from, position_from, put, put_pair, range_with_len, refl, released, remove, ring_held, ring_with, row_made, rules, same_Some, set, shape_or, slice_get, slice_index, slot, slot_success, step_made, subst, suc, sym, take, take_all, told, true, turned_off, unwrap_or, written_at, zero, ℕ, ◌%◌, ◌&&◌, ◌*◌, ◌++◌, ◌+◌, ◌-◌, ◌<◌, ◌==◌, ◌||◌, ◌∙◌, ◌∷◌, ◌≡◌, ◌≢◌, ◌≤◌}
+pub use Rattle.controller_model.proofs.Words.{Bool, Endpoint, EndpointState, Evt, Follows, FollowsEndpoints, FollowsHolder, FollowsRing, FollowsRings, FollowsScene, FollowsSlots, Header, HeaderValue, Holder, IsEndpoint, IsFollowed, IsSome, Kept, List, Look, None, Off, Ok, Option, Placed, Posted, Ring, RingState, Row, RowSeen, Running, Sees, SlotState, Some, Usbcmd, World, Xfer, [], address_of, addressed, ap, arith, as_declared, block_at, bound, cases_Bool, cases_eq, cases_lt, changed_at, command_of, common_steps, completed, cond-true, context_cycle, context_pointer, drop, endpoint, entries, eq-eqb, eqb-true, err_from_is_err_and, false, false_from_ne_true, false≢true, filter, freed, get_or, has_flag, has_own, held, if◌then◌else◌, inl, inr, is_dropped, is_elsewhere, is_event_place, is_holder, is_it, is_other, is_ring, is_some, le-ltb, length, length-remove, length-set, link_target-crossed, list_any, lt-ltb, named_by, nat_le, nat_lt, ne_eqb, none-some, not, option_copied, option_map, own_ring, place_count, places_from, position_from, put, put_pair, range_with_len, refl, released, remove, ring_held, ring_with, row_made, rules, same_Some, set, shape_or, slice_get, slice_index, slot, slot_success, step_made, subst, suc, sym, take, take_all, told, true, turned_off, unwrap_or, written_at, zero, ℕ, ◌%◌, ◌&&◌, ◌*◌, ◌++◌, ◌+◌, ◌-◌, ◌<◌, ◌==◌, ◌||◌, ◌∙◌, ◌∷◌, ◌≡◌, ◌≢◌, ◌≤◌}
 unfoldable pub use Rattle.controller_model.proofs.Words.{activated, added_endpoints, bell_row, changed_by, changed_by_all, changes, command_begun, counted, crossed, declared, disabled, emptied, ended, event_shape, finished, finished_as, has_one_of, has_other_words, in_state, inactive, is_had_by_another, is_inside_descriptor, is_out_of_order, is_scribbled, look_shows, looked, looked_at, made, may_scribble, opening, placed, placed_on, posted, register_row, reported, ring_having, row_done, run_or_stop, seen_by_look, shape_of, shows, some_ring, stepped, stored, stored_block, succeeded, taken_on, takes_of, unreported, valued, waits, while_running, with_dequeue, with_reported, with_ring, without_descriptor}
 pub use Rattle.world_state.proofs.Pairs.{put_pair_index, put_pair_same}

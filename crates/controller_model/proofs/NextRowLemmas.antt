@@ -1,5 +1,6 @@
 -- The rows that are left, and how one of them is made
-use Rattle.controller_model.proofs.Words.{arith, TraceRow, row_made, Scene, row_next, step_made, with_left, with_world, ◌≡◌, ◌≢◌, ◌∙◌, ◌∷◌, List, [], slice_get, Option, Some, None, Err, Result, option_map, ap, refl, Header, Step, NextRow, World, counted, stepped, Seen, StepFault, IsStep}
+use Rattle.controller_model.specs.declared.life.Rings.{Rings}
+use Rattle.controller_model.proofs.Words.{arith, ℕ, Follows, FollowsScene, Kept, Row, row_made, Scene, row_next, step_made, with_left, with_world, ◌≡◌, ◌≢◌, ◌∷◌, List, [], slice_get, Option, Some, None, Err, Result, option_map, ap, refl, Step, NextRow, World, stepped, Seen, StepFault, IsStep}
 
 pub nothing_left : {X : Type 0} (xs : List X) → slice_get xs 0 ≡ None → xs ≡ []
 nothing_left [] e = refl
@@ -8,6 +9,11 @@ nothing_left (x ∷ xs) e = absurd (cc)
 pub first_left : {X : Type 0} (xs : List X) (x : X) → slice_get xs 0 ≡ Some x → (rest : List X) × (xs ≡ x ∷ rest)
 first_left [] x e = absurd (cc)
 first_left (y ∷ ys) x e = (ys, cc)
+
+-- what a row does in the world alone leaves the rings that are there, and the rows
+pub follows_made : {rings : Rings} {rows : List Row} {words new : ℕ → ℕ} {k made : Kept} {x : Scene} {w : World} → FollowsScene rings rows words k x →
+    Follows rings.declared new made w → FollowsScene rings rows new made (record x { header = rings.declared; world = w })
+follows_made f follows = record { header = refl; live = f.live; lists = f.lists; left = f.left; follows = follows }
 
 -- a step leads to more than a world
 pub step_mapped : {X Y : Type 0} (r : Result Seen StepFault) (o : Option X) (g : X → Y) (shown : Seen) (P : X → Type 0) (Q : Y → Type 0) → ((x : X) → P x → Q (g x)) →
@@ -19,7 +25,7 @@ pub step_failed : {X Y : Type 0} (fault : StepFault) (o : Option X) (g : X → Y
     IsStep (Err fault) o shown P → IsStep (Err fault) (option_map g o) shown Q
 step_failed fault o g shown P Q step = grind arith
 
-pub row_next_is : (x : Scene) (row : TraceRow) (rest : List TraceRow) → x.rows ≡ row ∷ rest → row_next x x.rows ≡ option_map (with_left rest) (row_made x row)
+pub row_next_is : (x : Scene) (row : Row) (rest : List Row) → x.rows ≡ row ∷ rest → row_next x x.rows ≡ option_map (with_left rest) (row_made x row)
 row_next_is x row rest left = ap (λ rows. row_next x rows) left
 
 pub step_made_is : (x : Scene) (s : Step) → s ≢ NextRow → step_made x s ≡ option_map (with_world x) (stepped x.header x.live x.world s)

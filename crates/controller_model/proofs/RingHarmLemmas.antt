@@ -1,6 +1,6 @@
 -- What a step at one ring does to the rings' harms
-use Rattle.controller_model.proofs.LowerLaws.{rules, TraceRow, Plain, Scene, row_next, step_made, ◌≡◌, ◌≢◌, ◌==◌, ◌&&◌, ◌||◌, ◌∙◌, if◌then◌else◌, ◌∷◌, ◌%◌, ℕ, not, Bool, true, false, List, [], Option, Some, None, option_map, ap, sym, subst, refl, inl, inr, IsSome, find, eq-eqb, ne_eqb, arith, nat_lt, list_any, cases_Bool, cases_eq, cond-false, cond-true, Block, block_at, cycle, Header, command_id, Ring, Look, ring_with, shape_of, some_ring, World, has_other_words, is_inside_descriptor, is_out_of_order, waits, RingHarms, command_begun, crossed, looked, looked_at, seen_by_look, taken, taken_on, counted, made, stepped, while_running, put, bits, Row, Sub, Write, Read, stored, declared, event_read, row_done, same_Some, RingHeld, ring_held, ChangesOnly, HasRingHarms, put_other, cond_both, or_false}
-use Rattle.controller_model.proofs.Words.{with_left, with_world}
+use Rattle.controller_model.proofs.LowerLaws.{rules, Row, Scene, row_next, step_made, ◌≡◌, ◌≢◌, ◌==◌, ◌&&◌, ◌||◌, ◌∙◌, if◌then◌else◌, ◌∷◌, ◌%◌, ℕ, not, Bool, true, false, List, [], Option, Some, None, option_map, ap, sym, subst, refl, inl, inr, IsSome, find, eq-eqb, ne_eqb, arith, nat_lt, list_any, cases_Bool, cases_eq, cond-false, cond-true, Block, block_at, cycle, Header, command_id, Ring, Look, ring_with, shape_of, some_ring, World, has_other_words, is_inside_descriptor, is_out_of_order, waits, RingHarms, command_begun, crossed, looked, looked_at, seen_by_look, taken, taken_on, counted, made, stepped, while_running, put, bits, Sub, Write, Read, stored, declared, event_read, row_done, same_Some, RingHeld, ring_held, ChangesOnly, HasRingHarms, put_other, cond_both, or_false}
+use Rattle.controller_model.proofs.Words.{row_made, with_left, with_world}
 use Rattle.controller_model.proofs.RingSteps.{crossed_other, taken_other}
 
 or_again : (a b : Bool) → (a || (a || b)) ≡ (a || b)
@@ -142,39 +142,34 @@ look_is h live w v r e = counts h (IsAt r w) (counted_at h r w) w.stopped (looke
 low_kept : (m : ℕ → ℕ) (a x n : ℕ) → m a % 2 ≡ x % 2 → bits (put m a x n) 0 1 ≡ bits (m n) 0 1
 low_kept m a x n e = search (rules, cond-true, eq-eqb, put_other)
 
--- and the harms of the rings
-pub stored_harms : (h : Header) (w v : World) (a n : ℕ) (x : RingHarms) → w.memory a % 2 ≡ n % 2 → row_done h w (Write a n) ≡ Some v → HasRingHarms h w x → HasRingHarms h v x
+-- rows that keep the harms of the rings
+pub stored_harms : (x y : Scene) (a n : ℕ) (harms : RingHarms) → x.world.memory a % 2 ≡ n % 2 → row_made x (Write a n) ≡ Some y → HasRingHarms x.header x.world harms →
+    HasRingHarms y.header y.world harms
 unfolding row_done stored waits
-stored_harms h w v a n x low e f = search (rules, low_kept)
+stored_harms x y a n harms low e f = search (rules, low_kept)
 
-pub declared_harms : (h : Header) (w v : World) (r : ℕ) (blocks : List Block) (x : RingHarms) → row_done h w (Sub r blocks) ≡ Some v → HasRingHarms h w x → HasRingHarms h v x
+pub declared_harms : (x y : Scene) (r : ℕ) (blocks : List Block) (harms : RingHarms) → row_made x (Sub r blocks) ≡ Some y → HasRingHarms x.header x.world harms →
+    HasRingHarms y.header y.world harms
 unfolding row_done declared waits
-declared_harms h w v r blocks x e f = grind arith
+declared_harms x y r blocks harms e f = grind arith
 
-pub read_harms : (h : Header) (w v : World) (b : Block) (x : RingHarms) → row_done h w (Read b) ≡ Some v → HasRingHarms h w x → HasRingHarms h v x
+pub read_harms : (x y : Scene) (b : Block) (harms : RingHarms) → row_made x (Read b) ≡ Some y → HasRingHarms x.header x.world harms → HasRingHarms y.header y.world harms
 unfolding row_done event_read waits
-read_harms h w v b x e f = search (rules, nat_lt)
+read_harms x y b harms e f = search (rules, nat_lt)
 
-counted_harms : (h : Header) (u : World) (x : RingHarms) → HasRingHarms h u x → HasRingHarms h (counted h u) x
+counted_harms : (h : Header) (u : World) (harms : RingHarms) → HasRingHarms h u harms → HasRingHarms h (counted h u) harms
 unfolding counted waits
-counted_harms h u x f = record { order = f.order; words = f.words; waiting = f.waiting }
+counted_harms h u harms f = record { order = f.order; words = f.words; waiting = f.waiting }
 
 -- a row that keeps the harms does so as a step
-pub row_harms : (x y : Scene) (row : Row) (rest : List TraceRow) (harms : RingHarms) → x.rows ≡ Plain row ∷ rest → row_next x x.rows ≡ Some y →
-    ((u : World) → row_done x.header x.world row ≡ Some u → HasRingHarms x.header u harms) → HasRingHarms y.header y.world harms
-row_harms x y row rest harms left e keeps = onward (row_done x.header x.world row) keeps (twice (row_done x.header x.world row) ∙ sym (ap (λ rows. row_next x rows) left) ∙ e)
+pub row_harms : (x y : Scene) (row : Row) (rest : List Row) (harms : RingHarms) → x.rows ≡ row ∷ rest → row_next x x.rows ≡ Some y →
+    ((z : Scene) → row_made x row ≡ Some z → HasRingHarms z.header z.world harms) → HasRingHarms y.header y.world harms
+row_harms x y row rest harms left e keeps = onward (row_made x row) keeps (sym (ap (λ rows. row_next x rows) left) ∙ e)
   where
-    behind : World → Scene
-    behind w = record x { rows = rest; world = counted x.header w }
-
-    twice : (o : Option World) → option_map behind o ≡ option_map (with_left rest) (option_map (with_world x) o)
-    twice o = grind arith
-
-    onward : (o : Option World) → ((u : World) → o ≡ Some u → HasRingHarms x.header u harms) → option_map behind o ≡ Some y → HasRingHarms y.header y.world harms
+    onward : (o : Option Scene) → ((z : Scene) → o ≡ Some z → HasRingHarms z.header z.world harms) → option_map (with_left rest) o ≡ Some y → HasRingHarms y.header y.world harms
     onward None each made = absurd (cc)
-    onward (Some u) each made =
-        let same : behind u ≡ y = same_Some (behind u) y made in
-        subst (λ (z : Scene). HasRingHarms z.header z.world harms) same (counted_harms x.header u harms (each u refl))
+    onward (Some z) each made =
+        subst (λ (v : Scene). HasRingHarms v.header v.world harms) (same_Some (with_left rest z) y made) (counted_harms z.header z.world harms (each z refl))
 
 -- what a step of the controller leads to
 pub came_from : (x : Scene) (o : Option World) (y : Scene) →

@@ -1,5 +1,5 @@
 -- One ring's state is changed
-use Rattle.controller_model.proofs.Words.{rules, ◌≡◌, ◌≢◌, ◌<◌, ◌==◌, ◌∙◌, ◌∷◌, ℕ, zero, suc, refl, sym, List, [], Some, length, slice_get, get_or, set, subst, inl, inr, arith, eq-eqb, ne_eqb, cases_eq, cond-true, cond-false, slice_get-get_or, put, Header, RingState, RingHeld, FollowsRing, FollowsRings, Follows, FollowsSlots, FollowsEndpoints, ring_held, ring_with, shape_of, Row, Kept, World}
+use Rattle.controller_model.proofs.Words.{rules, ◌≡◌, ◌≢◌, ◌<◌, ◌==◌, ◌∙◌, ◌∷◌, ℕ, zero, suc, refl, sym, List, [], Some, length, slice_get, get_or, set, subst, inl, inr, arith, eq-eqb, ne_eqb, cases_eq, cond-true, cond-false, slice_get-get_or, put, Header, RingState, RingHeld, FollowsRing, FollowsRings, Follows, FollowsSlots, FollowsEndpoints, ring_held, ring_with, shape_of, Kept, World}
 
 pub put_same : {A : Type 0} (f : ℕ → A) (n : ℕ) (x : A) → put f n x n ≡ x
 put_same f n x = cond-true (n == n) x (f n) (eq-eqb n n refl)
@@ -49,14 +49,14 @@ ring_changed {h = h} {g = g} {before = before} {after = after} {rings = rings} {
 }
 
 -- one part of what is kept is changed
-pub with_rings : {h : Header} {rows : List Row} {words : ℕ → ℕ} {k : Kept} {w : World} → FollowsRings h (ring_held w) k.rings.items →
-    (FollowsRings h (ring_held w) k.rings.items → Follows h rows words k w) → Follows h rows words k w
+pub with_rings : {h : Header} {words : ℕ → ℕ} {k : Kept} {w : World} → FollowsRings h (ring_held w) k.rings.items →
+    (FollowsRings h (ring_held w) k.rings.items → Follows h words k w) → Follows h words k w
 with_rings rings whole = whole rings
 
-pub with_slots : {h : Header} {rows : List Row} {words : ℕ → ℕ} {k : Kept} {w : World} → FollowsSlots k.slots.items w.slot_state w.scribbles →
-    (FollowsSlots k.slots.items w.slot_state w.scribbles → Follows h rows words k w) → Follows h rows words k w
+pub with_slots : {h : Header} {words : ℕ → ℕ} {k : Kept} {w : World} → FollowsSlots k.slots.items w.slot_state w.scribbles →
+    (FollowsSlots k.slots.items w.slot_state w.scribbles → Follows h words k w) → Follows h words k w
 with_slots slots whole = whole slots
 
-pub with_endpoints : {h : Header} {rows : List Row} {words : ℕ → ℕ} {k : Kept} {w : World} → FollowsEndpoints k.endpoints.items w.endpoint_state w.ring_of →
-    (FollowsEndpoints k.endpoints.items w.endpoint_state w.ring_of → Follows h rows words k w) → Follows h rows words k w
+pub with_endpoints : {h : Header} {words : ℕ → ℕ} {k : Kept} {w : World} → FollowsEndpoints k.endpoints.items w.endpoint_state w.ring_of →
+    (FollowsEndpoints k.endpoints.items w.endpoint_state w.ring_of → Follows h words k w) → Follows h words k w
 with_endpoints endpoints whole = whole endpoints

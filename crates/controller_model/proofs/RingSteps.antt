@@ -1,5 +1,5 @@
 -- What single changes of the world do to what it has of each ring
-use Rattle.controller_model.proofs.LowerLaws.{arith, rules, ◌≡◌, ◌≢◌, ◌+◌, ◌∷◌, ◌++◌, ◌-◌, if◌then◌else◌, ℕ, [], Bool, true, List, Some, length, false, put, aligned, pointer, word, is_set, shape_of, declared_next, crossed, taken_on, taken_held, Block, Header, World, declared, activated, inactive, with_reported, ring_held, put_same, put_other}
+use Rattle.controller_model.proofs.LowerLaws.{arith, rules, ◌≡◌, ◌≢◌, ◌∷◌, ◌++◌, ◌-◌, if◌then◌else◌, ℕ, [], Bool, true, List, Some, length, false, put, aligned, pointer, word, is_set, shape_of, declared_next, crossed, taken_on, taken_held, Block, Header, World, declared, activated, inactive, with_reported, ring_held, put_same, put_other}
 
 pub declared_here : (h : Header) (w : World) (r : ℕ) (bs : List Block) →
     ring_held (declared h w r bs) r ≡ record (ring_held w r) { queue = w.queue r ++ bs; lengths = w.lengths r ++ length bs ∷ [] }

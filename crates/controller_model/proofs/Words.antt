@@ -20,8 +20,7 @@ pub use Rattle.controller_model.specs.Held.{Held, changed_at, held, held_block, 
 pub use Rattle.controller_model.specs.Histories.{Keeps, ShowsHarms}
 unfoldable pub use Rattle.controller_model.specs.OnLiterals.{model_on_literals}
 pub use Rattle.controller_model.specs.RingHarms.{ChangesOnly, FollowsScene, HasRingHarms, IsFollowed}
-unfoldable pub use Rattle.controller_model.specs.Showing.{scene_replayed, scene_seen_by, scene_seen_from}
-unfoldable pub use Rattle.controller_model.specs.Showing.{look_shows, replayed, seen_by, seen_from, shows}
+unfoldable pub use Rattle.controller_model.specs.Showing.{scene_replayed, scene_seen_by, scene_seen_from, look_shows, shows}
 pub use Rattle.controller_model.specs.Trials.{GoesOnAs, Sees, has_own, is_elsewhere, own_ring}
 pub use Rattle.controller_model.specs.Watches.{is_changed_behind, may_touch}
 pub use Rattle.controller_model.specs.declared.declared.Declarations.{Declarations}
@@ -81,12 +80,10 @@ pub use Rattle.traces.specs.declared.header.Header.{Header, Header as HeaderValu
 pub use Rattle.traces.specs.declared.register.Register.{Register}
 pub use Rattle.traces.specs.declared.register.Register.TheVariants.{Config, Crcr, Dcbaap, Erdp, Erstba, Erstsz, Usbcmd}
 pub use Rattle.traces.specs.declared.ring.Ring.{Ring}
-pub use Rattle.traces.specs.declared.row.Row.{Row, Row as RowValue}
-pub use Rattle.traces.specs.declared.row.Row.TheVariants.{Bell, Read, Reg, Sub, Write}
+pub use Rattle.traces.specs.declared.row.Row.{Row}
+pub use Rattle.traces.specs.declared.row.Row.TheVariants.{Bell, Read, Reg, Sub, Write, Free as FreeRow, Nop as NopRow}
 pub use Rattle.traces.specs.declared.step.Step.{Step}
 pub use Rattle.traces.specs.declared.step.Step.TheVariants.{Finish, Look, NextRow, Other, Report, Scribble}
-pub use Rattle.traces.specs.declared.trace_row.TraceRow.{TraceRow}
-pub use Rattle.traces.specs.declared.trace_row.TraceRow.TheVariants.{Goes, Plain, Withdraws}
 pub use Rattle.traces.specs.declared.version.Version.TheVariants.{One, Two}
 pub use Rattle.trb.specs.Bits.{bits}
 pub use Rattle.trb.specs.Block.{code, endpoint, slot}
@@ -94,17 +91,18 @@ pub use Rattle.trb.specs.Kind.{is_command_completion, is_other_event, is_transfe
 pub use Rattle.trb.specs.declared.kind.BlockKind.{BlockKind}
 pub use Rattle.trb.specs.declared.ring_kind.RingKind.TheVariants.{Cmd}
 unfoldable pub use Rattle.world_state.specs.Bindings.{changed_by, changed_by_all, disabled, effect, has_one_of, in_state, inactive, is_had_by_another, placed, placed_on}
-unfoldable pub use Rattle.world_state.specs.DriverRows.{activated, bell_row, declared, endpoint_bell, event_read, next_row, register_row, row_done, run_or_stop, started_with, valued, with_dequeue}
+unfoldable pub use Rattle.world_state.specs.DriverRows.{activated, bell_row, declared, endpoint_bell, event_read, register_row, row_done, run_or_stop, started_with, valued, with_dequeue}
 unfoldable pub use Rattle.world_state.specs.Finishes.{ended, ended_with, finished, finished_as, passes_end, succeeded}
 unfoldable pub use Rattle.world_state.specs.Harms.{harm_of, harms, has_changed_context, has_other_words, is_changed_since, is_context_changed, is_end, is_inside_descriptor, is_out_of_order, is_right_place, waits}
 unfoldable pub use Rattle.world_state.specs.Looks.{command_begun, crossed, looked, looked_at, may_scribble, seen_by_look, taken, taken_on}
 unfoldable pub use Rattle.world_state.specs.Posts.{can_post, is_last, other_posted, posted, report_code, report_error, report_stop, report_success, reported, reported_on, stopped_with, with_reported, with_stopped}
 pub use Rattle.world_state.specs.RingRows.{is_in_way}
-unfoldable pub use Rattle.world_state.specs.RingRows.{emptied, listed, may_come, with_ring, without_descriptor, without_ring}
-pub use Rattle.world_state.specs.Scenes.{Scene, row_made, row_next, scene_reached, step_made, with_coming, with_left, with_world}
+unfoldable pub use Rattle.world_state.specs.RingRows.{emptied, listed, may_come, without_descriptor}
+unfoldable pub use Rattle.traces.specs.LivingRings.{with_ring, without_ring}
+pub use Rattle.world_state.specs.Scenes.{Scene, row_made, row_next, scene_ending, scene_reached, step_made, with_coming, with_left, with_world}
 unfoldable pub use Rattle.world_state.specs.Scenes.{scene_ending_from}
 pub use Rattle.world_state.specs.Steps.{Harmful, NoHarm, NotPossible, judged}
-unfoldable pub use Rattle.world_state.specs.Steps.{counted, ending_from, ending_of, is_scribbled, made, scribbled, stepped, while_running}
+unfoldable pub use Rattle.world_state.specs.Steps.{counted, is_scribbled, made, scribbled, stepped, while_running}
 unfoldable pub use Rattle.world_state.specs.Takes.{declared_next, first_at, is_as_declared, is_place, next_take, takes_of, unreported, was_placed}
 pub use Rattle.world_state.specs.World.{Placed, RingEvent, Took, UnderWay, World}
 unfoldable pub use Rattle.world_state.specs.World.{event_at, opening, stored, stored_block}

@@ -1,5 +1,5 @@
 -- Replays with their endings, one for each harm, by evaluation; tests/rows and tests/harms have these and more for the program
-use Rattle.controller_model.proofs.Words.{ℕ, ◌++◌, replicate, ◌≡◌, List, [], ◌∷◌, refl, Cmd, Evt, Xfer, One, Bytes32, Header, Row, Sub, Write, Reg, Bell, Read, Usbcmd, Crcr, Dcbaap, Config, Erstsz, Erstba, Erdp, Step, NextRow, Look, Report, Finish, Other, Scribble, TakenOutOfOrder, TakenOtherWords, WaitsInsideDescriptor, LooksOutside, PostsOverUnread, InputContextChanged, model_on_literals, ending_of, NoHarm, NotPossible, Harmful}
+use Rattle.controller_model.proofs.Words.{ℕ, ◌++◌, replicate, ◌≡◌, List, [], ◌∷◌, refl, Cmd, Evt, Xfer, One, Bytes32, Header, Row, Sub, Write, Reg, Bell, Read, Usbcmd, Crcr, Dcbaap, Config, Erstsz, Erstba, Erdp, Step, NextRow, Look, Report, Finish, Other, Scribble, TakenOutOfOrder, TakenOtherWords, WaitsInsideDescriptor, LooksOutside, PostsOverUnread, InputContextChanged, model_on_literals, scene_ending, NoHarm, NotPossible, Harmful}
 
 -- a Command Ring and an Event Ring of 16 blocks, alone
 abbrev two_rings : Header
@@ -45,7 +45,7 @@ addressed behind =
 abbrev addressed_steps : List Step → List Step
 addressed_steps behind = replicate 12 NextRow ++ (Look 0 ∷ Finish (record { w = 65536 ∷ 0 ∷ 16777216 ∷ 16811009 ∷ [] }) ∷ replicate 9 NextRow ++ (Look 0 ∷ Finish (record { w = 65552 ∷ 0 ∷ 16777216 ∷ 16811009 ∷ [] }) ∷ behind))
 
-pub event_ring_fills : ending_of (three_rings 4) (started []) (replicate 9 NextRow ++ (replicate 16 (Other (record { w = 16777216 ∷ 0 ∷ 16777216 ∷ 34817 ∷ [] })))) ≡ NotPossible 25
+pub event_ring_fills : scene_ending (three_rings 4) (started []) (replicate 9 NextRow ++ (replicate 16 (Other (record { w = 16777216 ∷ 0 ∷ 16777216 ∷ 34817 ∷ [] })))) ≡ NotPossible 25
 unfolding model_on_literals
 event_ring_fills = refl
 
@@ -55,7 +55,7 @@ replay_of_a_lazy_schedule_rows = addressed (Sub 2 (record { w = 0 ∷ 0 ∷ 0 �
 abbrev pub replay_of_a_lazy_schedule_steps : List Step
 replay_of_a_lazy_schedule_steps = addressed_steps (replicate 6 NextRow ++ (Look 2 ∷ Report (record { w = 196608 ∷ 0 ∷ 16777216 ∷ 16875521 ∷ [] }) ∷ NextRow ∷ NextRow ∷ NextRow ∷ []))
 
-pub replay_of_a_lazy_schedule : ending_of (three_rings 4) replay_of_a_lazy_schedule_rows replay_of_a_lazy_schedule_steps ≡ NoHarm
+pub replay_of_a_lazy_schedule : scene_ending (three_rings 4) replay_of_a_lazy_schedule_rows replay_of_a_lazy_schedule_steps ≡ NoHarm
 unfolding model_on_literals
 replay_of_a_lazy_schedule = refl
 
@@ -65,7 +65,7 @@ replay_of_a_write_after_the_doorbell_rows = addressed (Sub 2 (record { w = 0 ∷
 abbrev pub replay_of_a_write_after_the_doorbell_steps : List Step
 replay_of_a_write_after_the_doorbell_steps = addressed_steps (replicate 5 NextRow ++ (Look 2 ∷ []))
 
-pub replay_of_a_write_after_the_doorbell : ending_of (three_rings 4) replay_of_a_write_after_the_doorbell_rows replay_of_a_write_after_the_doorbell_steps ≡ Harmful 31 TakenOtherWords
+pub replay_of_a_write_after_the_doorbell : scene_ending (three_rings 4) replay_of_a_write_after_the_doorbell_rows replay_of_a_write_after_the_doorbell_steps ≡ Harmful 31 TakenOtherWords
 unfolding model_on_literals
 replay_of_a_write_after_the_doorbell = refl
 
@@ -75,7 +75,7 @@ replay_waits_inside_a_descriptor_rows = addressed (Sub 2 (record { w = 0 ∷ 0 �
 abbrev pub replay_waits_inside_a_descriptor_steps : List Step
 replay_waits_inside_a_descriptor_steps = addressed_steps (replicate 4 NextRow ++ (Look 2 ∷ []))
 
-pub replay_waits_inside_a_descriptor : ending_of (three_rings 8) replay_waits_inside_a_descriptor_rows replay_waits_inside_a_descriptor_steps ≡ Harmful 30 WaitsInsideDescriptor
+pub replay_waits_inside_a_descriptor : scene_ending (three_rings 8) replay_waits_inside_a_descriptor_rows replay_waits_inside_a_descriptor_steps ≡ Harmful 30 WaitsInsideDescriptor
 unfolding model_on_literals
 replay_waits_inside_a_descriptor = refl
 
@@ -95,7 +95,7 @@ undeclared_blocks_may_be_given_rows =
 abbrev pub undeclared_blocks_may_be_given_steps : List Step
 undeclared_blocks_may_be_given_steps = replicate 9 NextRow ++ (Look 0 ∷ [])
 
-pub undeclared_blocks_may_be_given_harmful : ending_of two_rings undeclared_blocks_may_be_given_rows undeclared_blocks_may_be_given_steps ≡ Harmful 10 TakenOutOfOrder
+pub undeclared_blocks_may_be_given_harmful : scene_ending two_rings undeclared_blocks_may_be_given_rows undeclared_blocks_may_be_given_steps ≡ Harmful 10 TakenOutOfOrder
 unfolding model_on_literals
 undeclared_blocks_may_be_given_harmful = refl
 
@@ -114,7 +114,7 @@ crcr_may_name_any_address_rows =
 abbrev pub crcr_may_name_any_address_steps : List Step
 crcr_may_name_any_address_steps = replicate 8 NextRow ++ (Look 0 ∷ [])
 
-pub crcr_may_name_any_address_harmful : ending_of two_rings crcr_may_name_any_address_rows crcr_may_name_any_address_steps ≡ Harmful 9 LooksOutside
+pub crcr_may_name_any_address_harmful : scene_ending two_rings crcr_may_name_any_address_rows crcr_may_name_any_address_steps ≡ Harmful 9 LooksOutside
 unfolding model_on_literals
 crcr_may_name_any_address_harmful = refl
 
@@ -149,7 +149,7 @@ device_contexts_over_input_contexts_rows =
 abbrev pub device_contexts_over_input_contexts_steps : List Step
 device_contexts_over_input_contexts_steps = replicate 12 NextRow ++ (Look 0 ∷ Finish (record { w = 65600 ∷ 0 ∷ 16777216 ∷ 16811009 ∷ [] }) ∷ replicate 9 NextRow ++ (Look 0 ∷ Scribble 75712 4294967295 ∷ []))
 
-pub device_contexts_over_input_contexts_harmful : ending_of device_contexts_over_input_contexts_header device_contexts_over_input_contexts_rows device_contexts_over_input_contexts_steps ≡ Harmful 25 InputContextChanged
+pub device_contexts_over_input_contexts_harmful : scene_ending device_contexts_over_input_contexts_header device_contexts_over_input_contexts_rows device_contexts_over_input_contexts_steps ≡ Harmful 25 InputContextChanged
 unfolding model_on_literals
 device_contexts_over_input_contexts_harmful = refl
 
@@ -177,6 +177,6 @@ erdp_past_what_was_read_rows =
 abbrev pub erdp_past_what_was_read_steps : List Step
 erdp_past_what_was_read_steps = replicate 11 NextRow ++ (Other (record { w = 2315381515 ∷ 1965134629 ∷ 2315381515 ∷ 39937 ∷ [] }) ∷ NextRow ∷ NextRow ∷ Look 0 ∷ Finish (record { w = 65600 ∷ 0 ∷ 16777216 ∷ 16811009 ∷ [] }) ∷ replicate 8 (Other (record { w = 0 ∷ 0 ∷ 16777216 ∷ 34817 ∷ [] })) ++ (NextRow ∷ replicate 6 (Other (record { w = 0 ∷ 0 ∷ 16777216 ∷ 34817 ∷ [] }))))
 
-pub erdp_past_what_was_read_harmful : ending_of erdp_past_what_was_read_header erdp_past_what_was_read_rows erdp_past_what_was_read_steps ≡ Harmful 31 PostsOverUnread
+pub erdp_past_what_was_read_harmful : scene_ending erdp_past_what_was_read_header erdp_past_what_was_read_rows erdp_past_what_was_read_steps ≡ Harmful 31 PostsOverUnread
 unfolding model_on_literals
 erdp_past_what_was_read_harmful = refl

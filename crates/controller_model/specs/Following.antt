@@ -1,6 +1,5 @@
 -- How what the program keeps stands for the world
-use Rattle.std.specs.Prelude.{◌≡◌, ℕ, ◌+◌, ◌*◌, ◌%◌, ◌<◌, ◌≤◌, ◌^◌, if◌then◌else◌, Bool, true, List, ◌∷◌, Option, Some, None, IsSome, slice_get, option_map}
-use Rattle.std.specs.Prelude.{◌==◌, ◌&&◌, not, length, map, filter, ◌-◌, nat_le, false, Result, Ok, Err}
+use Rattle.std.specs.Prelude.{◌≡◌, ℕ, ◌+◌, ◌*◌, ◌%◌, ◌<◌, ◌≤◌, ◌^◌, if◌then◌else◌, Bool, true, List, ◌∷◌, Option, Some, None, IsSome, slice_get, option_map, ◌==◌, ◌&&◌, not, length, map, filter, ◌-◌, nat_le, false, Result, Ok, Err}
 use Rattle.commands.specs.declared.command.Command.{Command}
 use Rattle.commands.specs.declared.command.Command.TheVariants.{AddressDevice, ConfigureEndpoint, ResetEndpoint, StopEndpoint, SetTrDequeue}
 use Rattle.controller_model.specs.declared.seen.Seen.{Seen}
@@ -13,7 +12,6 @@ use Rattle.commands.specs.declared.state.EndpointState.{EndpointState}
 use Rattle.commands.specs.declared.state.EndpointState.TheVariants.{Disabled as Off}
 use Rattle.traces.specs.declared.header.Header.{Header}
 use Rattle.traces.specs.declared.ring.Ring.{Ring}
-use Rattle.traces.specs.declared.row.Row.{Row}
 use Rattle.traces.specs.declared.register.Register.{Register}
 use Rattle.traces.specs.declared.register.Register.TheVariants.{Usbcmd, Usbsts, Dnctrl, Crcr, Dcbaap, Config, Iman, Imod, Erstsz, Erstba, Erdp}
 use Rattle.traces.specs.Register.{register_or_zero, base_address, ring_cycle_state}
@@ -108,8 +106,7 @@ pub record FollowsRing (h : Header) (r : ℕ) (held : RingHeld) (x : RingState) 
 pub record FollowsRings (h : Header) (held : ℕ → RingHeld) (rings : List RingState) : Type 0 where
   pub each : (r : ℕ) (x : RingState) → slice_get rings r ≡ Some x → FollowsRing h r (held r) x
 
-pub record FollowsProgress (all : List Row) (p : Progress) (left : List Row) (count : ℕ) (start stop : Bool) : Type 0 where
-  pub rows : left ≡ all
+pub record FollowsProgress (p : Progress) (count : ℕ) (start stop : Bool) : Type 0 where
   pub steps : count ≡ p.steps
   pub started : start ≡ p.started
   pub stopped : stop ≡ p.stopped
@@ -136,9 +133,9 @@ pub record FollowsEvents (e : Events) (post read at : ℕ) : Type 0 where
 abbrev pub under_way_of : Pending → UnderWay
 under_way_of p = record { address = p.address; block = p.block; has_stopped = p.has_stopped }
 
--- memory with these words and what is kept beside it stand for the world of a trace with these rows
-pub record Follows (h : Header) (rows : List Row) (words : ℕ → ℕ) (k : Kept) (w : World) : Type 0 where
-  pub progress : FollowsProgress rows k.progress w.rows w.steps w.started w.stopped
+-- memory with these words and what is kept beside it stand for a world
+pub record Follows (h : Header) (words : ℕ → ℕ) (k : Kept) (w : World) : Type 0 where
+  pub progress : FollowsProgress k.progress w.steps w.started w.stopped
   pub registers : FollowsRegisters k.registers w.register
   pub held : held_by w ≡ held words k.stamps
   -- beyond the last address there is no memory

@@ -1,7 +1,7 @@
 -- What is kept of the rings' harms from step to step
-use Rattle.std.specs.Prelude.{◌≡◌, ◌≢◌, ℕ, ◌&&◌, List, []}
+use Rattle.std.specs.Prelude.{◌≡◌, ◌≢◌, ℕ, ◌&&◌, List}
 use Rattle.traces.specs.declared.header.Header.{Header}
-use Rattle.traces.specs.declared.trace_row.TraceRow.{TraceRow}
+use Rattle.traces.specs.declared.row.Row.{Row}
 use Rattle.controller_model.specs.declared.kept.Kept.{Kept}
 use Rattle.traces.specs.Header.{shape_of, some_ring}
 use Rattle.world_state.specs.World.{World}
@@ -23,14 +23,14 @@ pub record ChangesOnly (r : ℕ) (w v : World) : Type 0 where
   pub others : (q : ℕ) → q ≢ r → ring_held v q ≡ ring_held w q
 
 -- what is kept stands for a scene with these rings, and these rows still to come
-pub record FollowsScene (rings : Rings) (rows : List TraceRow) (words : ℕ → ℕ) (k : Kept) (x : Scene) : Type 0 where
+pub record FollowsScene (rings : Rings) (rows : List Row) (words : ℕ → ℕ) (k : Kept) (x : Scene) : Type 0 where
   pub header : x.header ≡ rings.declared
   pub live : x.live ≡ rings.live
   pub lists : Lists rings.declared rings.live
   pub left : x.rows ≡ rows
-  pub follows : Follows rings.declared [] words k x.world
+  pub follows : Follows rings.declared words k x.world
 
 -- and the harms of its rings too
-pub record IsFollowed (lists : Rings) (rows : List TraceRow) (words : ℕ → ℕ) (k : Kept) (harms : RingHarms) (x : Scene) : Type 0 where
+pub record IsFollowed (lists : Rings) (rows : List Row) (words : ℕ → ℕ) (k : Kept) (harms : RingHarms) (x : Scene) : Type 0 where
   pub follows : FollowsScene lists rows words k x
   pub rings : HasRingHarms x.header x.world harms

@@ -9,12 +9,11 @@ use Rattle.traces.specs.declared.row.Row.{Row}
 use Rattle.traces.specs.declared.step.Step.{Step}
 use Rattle.traces.specs.declared.step.Step.TheVariants.{NextRow, Look, Report, Finish, Other, Scribble}
 use Rattle.traces.specs.Header.{event_shape}
-use Rattle.traces.specs.declared.trace_row.TraceRow.{TraceRow}
-use Rattle.world_state.specs.World.{World, opening}
+use Rattle.world_state.specs.World.{World}
 use Rattle.world_state.specs.Harms.{harm_of}
 use Rattle.controller_model.specs.declared.seen.Seen.{Seen}
 use Rattle.controller_model.specs.declared.seen.Seen.TheVariants as seen
-use Rattle.world_state.specs.Steps.{stepped, Ending, ending_of}
+use Rattle.world_state.specs.Steps.{Ending}
 use Rattle.world_state.specs.Scenes.{Scene, scene_before, scene_ending, step_made}
 
 -- a look at a block: it waits where the Cycle bit isn't the ring's cycle state, else it follows a Link or takes the block
@@ -30,7 +29,7 @@ pub record Replay : Type 0 where
   pub ending : Ending
 
 module _ (h : Header) where
-  -- what a step shows, where it is possible
+  -- what a step shows
   unfoldable pub shows : World → Step → Seen
   shows w NextRow = seen.Row
   shows w (Look r) = look_shows w r (block_at w.memory (w.pointer_of r))
@@ -39,21 +38,7 @@ module _ (h : Header) where
   shows w (Other b) = seen.Posted (address_of (event_shape h) w.posted)
   shows w (Scribble a x) = seen.Scribbled
 
-  unfoldable pub seen_by : World → Step → Option Seen
-  seen_by w s = option_map (λ v. shows w s) (stepped h h w s)
-
-  -- what the steps show up to the first that isn't possible, or with the first after which there is harm
-  unfoldable pub seen_from : Option World → List Step → List Seen
-  seen_from None steps = []
-  seen_from (Some w) [] = []
-  seen_from (Some w) (s ∷ steps) =
-      if is_some (harm_of h w) then [] else option_to_list (seen_by w s) ++ seen_from (stepped h h w s) steps
-
-  unfoldable pub replayed : List Row → List Step → Replay
-  replayed rows steps = record { seen = seen_from (Some (opening rows)) steps; ending = ending_of h rows steps }
-
--- ---- beside rows between which rings come and go
-
+-- what a step shows beside rows between which rings come and go, where it is possible
 unfoldable pub scene_seen_by : Scene → Step → Option Seen
 scene_seen_by x s = option_map (λ y. shows x.header x.world s) (step_made x s)
 
@@ -65,5 +50,5 @@ scene_seen_from (Some x) (s ∷ steps) =
     if is_some (harm_of x.header x.world) then [] else option_to_list (scene_seen_by x s) ++ scene_seen_from (step_made x s) steps
 
 -- what the replay of a schedule beside these rows answers
-unfoldable pub scene_replayed : Header → List TraceRow → List Step → Replay
+unfoldable pub scene_replayed : Header → List Row → List Step → Replay
 scene_replayed h rows steps = record { seen = scene_seen_from (Some (scene_before h rows)) steps; ending = scene_ending h rows steps }

@@ -1,7 +1,6 @@
-ghost use Rattle.std.specs.Prelude.{◌≡◌, ℕ, ◌+◌, ◌*◌, ◌<◌, ◌||◌, ◌&&◌, ◌==◌, List, Option, Some, None, if◌then◌else◌};
+ghost use Rattle.std.specs.Prelude.{◌≡◌, ℕ, ◌+◌, ◌*◌, ◌<◌, ◌||◌, ◌&&◌, ◌==◌, Option, Some, None, if◌then◌else◌};
 ghost use Rattle.commands.specs.States.{is_running, is_stopped};
 ghost use Rattle.traces.specs.declared.header.Header.{Header as HeaderValue};
-ghost use Rattle.traces.specs.declared.row.Row.{Row as RowValue};
 ghost use Rattle.world_state.specs.World.{World};
 ghost use Rattle.world_state.specs.DriverRows.{activated, endpoint_bell, bell_row};
 ghost use Rattle.controller_model.specs.Following.{Follows};
@@ -15,8 +14,8 @@ use traces::Header;
 /// The controller may look at a ring from now on.
 #[tactic(auto, using(crate::proofs::RingLemmas::with_rings, crate::proofs::RingLemmas::ring_changed, crate::proofs::RingSteps::activated_other, crate::proofs::RingSteps::activated_here), unfolding(world_state::specs::DriverRows::activated))]
 fn activate(kept: &mut Kept, ring: u8)
-    ensures { (h : HeaderValue) (rows : List RowValue) (words : ℕ → ℕ) (w : World) → Follows h rows words kept.old w →
-        Follows h rows words kept.new (activated h w ring) }
+    ensures { (h : HeaderValue) (words : ℕ → ℕ) (w : World) → Follows h words kept.old w →
+        Follows h words kept.new (activated h w ring) }
 {
     let state = &mut kept.rings[usize::from(ring)];
     state.is_active = true;
@@ -31,8 +30,8 @@ fn answers_bell(state: EndpointState) -> bool
 
 /// The doorbell of an endpoint: where it is Running or Stopped and has a ring, it is Running, and the ring active.
 pub(crate) fn ring_endpoint(kept: &mut Kept, slot: u8, target: u8)
-    ensures { (h : HeaderValue) (rows : List RowValue) (words : ℕ → ℕ) (w : World) → Follows h rows words kept.old w →
-        Follows h rows words kept.new (endpoint_bell h w slot target (w.ring_of slot target)) }
+    ensures { (h : HeaderValue) (words : ℕ → ℕ) (w : World) → Follows h words kept.old w →
+        Follows h words kept.new (endpoint_bell h w slot target (w.ring_of slot target)) }
 {
     if target >= 32 {
         return;
@@ -53,8 +52,8 @@ pub(crate) fn ring_endpoint(kept: &mut Kept, slot: u8, target: u8)
 /// controller runs.
 #[tactic(auto, unfolding(world_state::specs::DriverRows::bell_row))]
 pub(crate) fn ring_bell(header: &Header, kept: &mut Kept, slot: u8, target: u8)
-    ensures { (rows : List RowValue) (words : ℕ → ℕ) (w : World) → Follows header.now rows words kept.old w →
-        Follows header.now rows words kept.new (bell_row header.now w slot target) }
+    ensures { (words : ℕ → ℕ) (w : World) → Follows header.now words kept.old w →
+        Follows header.now words kept.new (bell_row header.now w slot target) }
 {
     if slot != 0 {
         ring_endpoint(kept, slot, target);

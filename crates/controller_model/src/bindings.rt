@@ -1,7 +1,6 @@
-ghost use Rattle.std.specs.Prelude.{◌≡◌, ℕ, ◌==◌, ◌&&◌, ◌<◌, ◌%◌, not, if◌then◌else◌, false, List, OnOk, Option, IsSome};
+ghost use Rattle.std.specs.Prelude.{◌≡◌, ℕ, ◌==◌, ◌&&◌, ◌<◌, ◌%◌, not, if◌then◌else◌, false, OnOk, Option, IsSome};
 ghost use Rattle.segments.specs.Places.{is_inside};
 ghost use Rattle.traces.specs.declared.header.Header.{Header as HeaderValue};
-ghost use Rattle.traces.specs.declared.row.Row.{Row};
 ghost use Rattle.traces.specs.Header.{ring_having, ring_with, shape_of, is_transfer_kind};
 ghost use Rattle.world_state.specs.World.{World};
 ghost use Rattle.world_state.specs.Bindings.{is_had_by_another, placed_on};
@@ -49,8 +48,8 @@ fn left_by(holder: Option<Holder>, slot: u8, index: u8) -> Option<Holder>
 /// The endpoint has this ring no more, and the ring is inactive.
 fn release(kept: &mut Kept, slot: u8, index: u8, ring: u8)
     requires { index < 32 }
-    ensures change { (h : HeaderValue) (rows : List Row) (words : ℕ → ℕ) (w : World) → w.ring_of slot index ≡ Some ring → Follows h rows words kept.old w →
-        Follows h rows words kept.new (released w slot index ring) }
+    ensures change { (h : HeaderValue) (words : ℕ → ℕ) (w : World) → w.ring_of slot index ≡ Some ring → Follows h words kept.old w →
+        Follows h words kept.new (released w slot index ring) }
     ensures rest { KeepsRun kept.old kept.new }
 {
     let state = &mut kept.rings[usize::from(ring)];
@@ -63,8 +62,8 @@ fn release(kept: &mut Kept, slot: u8, index: u8, ring: u8)
 /// The endpoint has no ring, and the one that it had is inactive.
 pub(crate) fn free(kept: &mut Kept, slot: u8, index: u8)
     requires { index < 32 }
-    ensures change { (h : HeaderValue) (rows : List Row) (words : ℕ → ℕ) (w : World) → Follows h rows words kept.old w →
-        Follows h rows words kept.new (freed w slot index (w.ring_of slot index)) }
+    ensures change { (h : HeaderValue) (words : ℕ → ℕ) (w : World) → Follows h words kept.old w →
+        Follows h words kept.new (freed w slot index (w.ring_of slot index)) }
     ensures rest { KeepsRun kept.old kept.new }
 {
     match endpoint_of(kept, slot, index).ring {
@@ -88,9 +87,9 @@ fn bind(
 ) -> Result<(), AllocError>
     requires index { index < 32 }
     requires aligned { pointer % 16 ≡ 0 }
-    ensures change { OnOk result ((h : HeaderValue) (rows : List Row) (words : ℕ → ℕ) (w : World) → shape.now ≡ shape_of h ring →
-        w.ring_of slot index ≡ None → is_had_by_another w slot index ring ≡ false → Follows h rows words kept.old w →
-        Follows h rows words kept.new (bound w slot index ring pointer cycle state)) }
+    ensures change { OnOk result ((h : HeaderValue) (words : ℕ → ℕ) (w : World) → shape.now ≡ shape_of h ring →
+        w.ring_of slot index ≡ None → is_had_by_another w slot index ring ≡ false → Follows h words kept.old w →
+        Follows h words kept.new (bound w slot index ring pointer cycle state)) }
     ensures rest { KeepsRun kept.old kept.new }
 {
     let bound = &mut kept.rings[usize::from(ring)];
@@ -107,7 +106,7 @@ fn bind(
 
 /// Whether another endpoint has the ring.
 fn is_had_by_another(kept: &Kept, slot: u8, index: u8, ring: u8) -> bool
-    ensures { (h : HeaderValue) (rows : List Row) (words : ℕ → ℕ) (w : World) → Follows h rows words kept.now w →
+    ensures { (h : HeaderValue) (words : ℕ → ℕ) (w : World) → Follows h words kept.now w →
         result ≡ is_had_by_another w slot index ring }
 {
     is_other(ring_state(kept, ring).holder, slot, index)
@@ -155,8 +154,8 @@ pub(crate) fn place(
 ) -> Result<(), AllocError>
     requires index { index < 32 }
     requires aligned { pointer % 16 ≡ 0 }
-    ensures change { OnOk result ((h : HeaderValue) (rows : List Row) (words : ℕ → ℕ) (w v : World) → Lists h header.now → placed_on w slot index pointer cycle state (ring_having header.now pointer) ≡ Some v →
-        Follows h rows words kept.old w → Follows h rows words kept.new v) }
+    ensures change { OnOk result ((h : HeaderValue) (words : ℕ → ℕ) (w v : World) → Lists h header.now → placed_on w slot index pointer cycle state (ring_having header.now pointer) ≡ Some v →
+        Follows h words kept.old w → Follows h words kept.new v) }
     ensures rest { KeepsRun kept.old kept.new }
 {
     let ring = match ring_having(header, pointer) {
@@ -175,7 +174,7 @@ pub(crate) fn place(
 /// Whether the endpoint can get the ring at the pointer.
 pub(crate) fn can_place(header: &Header, kept: &Kept, slot: u8, index: u8, pointer: u64) -> bool
     requires { pointer % 16 ≡ 0 }
-    ensures { (h : HeaderValue) (rows : List Row) (words : ℕ → ℕ) (w : World) → Follows h rows words kept.now w →
+    ensures { (h : HeaderValue) (words : ℕ → ℕ) (w : World) → Follows h words kept.now w →
         result ≡ may_get w slot index (ring_having header.now pointer) }
 {
     match ring_having(header, pointer) {

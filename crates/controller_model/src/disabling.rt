@@ -1,6 +1,5 @@
-ghost use Rattle.std.specs.Prelude.{◌≡◌, ℕ, ◌<◌, ◌≤◌, ◌&&◌, ◌==◌, List, Option, false};
+ghost use Rattle.std.specs.Prelude.{◌≡◌, ℕ, ◌<◌, ◌≤◌, ◌&&◌, ◌==◌, Option, false};
 ghost use Rattle.traces.specs.declared.header.Header.{Header};
-ghost use Rattle.traces.specs.declared.row.Row.{Row};
 ghost use Rattle.traces.specs.Header.{is_ring};
 ghost use Rattle.world_state.specs.World.{World};
 ghost use Rattle.world_state.specs.Bindings.{disabled};
@@ -36,9 +35,9 @@ pub(crate) fn is_named(named: Named, index: u8) -> bool
 #[tactic(auto, using(crate::proofs::RingLemmas::with_endpoints, crate::proofs::EndpointLemmas::endpoints_set, crate::proofs::DisabledRings::rings_off))]
 fn turn_off(kept: &mut Kept, slot: u8, index: u8)
     requires { index < 32 }
-    ensures change { (h : Header) (rows : List Row) (words : ℕ → ℕ) (w : World) →
-        ((r : ℕ) → IsEndpoint slot index → is_ring r (w.ring_of slot index) ≡ false) → Follows h rows words kept.old w →
-        Follows h rows words kept.new (turned_off w slot index) }
+    ensures change { (h : Header) (words : ℕ → ℕ) (w : World) →
+        ((r : ℕ) → IsEndpoint slot index → is_ring r (w.ring_of slot index) ≡ false) → Follows h words kept.old w →
+        Follows h words kept.new (turned_off w slot index) }
     ensures rest { KeepsRun kept.old kept.new }
 {
     let endpoint = &mut kept.endpoints[usize::from(slot) * 32 + usize::from(index)];
@@ -49,8 +48,8 @@ fn turn_off(kept: &mut Kept, slot: u8, index: u8)
 /// One endpoint is disabled, and its ring inactive.
 fn disable_one(kept: &mut Kept, slot: u8, index: u8)
     requires { index < 32 }
-    ensures change { (h : Header) (rows : List Row) (words : ℕ → ℕ) (w : World) → Follows h rows words kept.old w →
-        Follows h rows words kept.new (disabled w slot (λ i. i == index)) }
+    ensures change { (h : Header) (words : ℕ → ℕ) (w : World) → Follows h words kept.old w →
+        Follows h words kept.new (disabled w slot (λ i. i == index)) }
     ensures rest { KeepsRun kept.old kept.new }
 {
     if index == 0 {
@@ -64,8 +63,8 @@ fn disable_one(kept: &mut Kept, slot: u8, index: u8)
 /// The endpoint with this index is disabled, where it is among them.
 fn disable_named(kept: &mut Kept, slot: u8, named: Named, index: u8)
     requires { index < 32 }
-    ensures change { (h : Header) (rows : List Row) (words : ℕ → ℕ) (w : World) → Follows h rows words kept.old w →
-        Follows h rows words kept.new (disabled w slot (λ i. named_by named i && i == index)) }
+    ensures change { (h : Header) (words : ℕ → ℕ) (w : World) → Follows h words kept.old w →
+        Follows h words kept.new (disabled w slot (λ i. named_by named i && i == index)) }
     ensures rest { KeepsRun kept.old kept.new }
 {
     if !is_named(named, index) {
@@ -76,8 +75,8 @@ fn disable_named(kept: &mut Kept, slot: u8, named: Named, index: u8)
 
 /// These endpoints of a slot are disabled, and their rings inactive.
 pub(crate) fn disable(kept: &mut Kept, slot: u8, named: Named)
-    ensures change { (h : Header) (rows : List Row) (words : ℕ → ℕ) (w : World) → Follows h rows words kept.old w →
-        Follows h rows words kept.new (disabled w slot (named_by named)) }
+    ensures change { (h : Header) (words : ℕ → ℕ) (w : World) → Follows h words kept.old w →
+        Follows h words kept.new (disabled w slot (named_by named)) }
     ensures rest { KeepsRun kept.old kept.new }
 {
     for index in 0..32 {

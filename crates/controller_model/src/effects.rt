@@ -1,11 +1,10 @@
-ghost use Rattle.std.specs.Prelude.{◌≡◌, ℕ, ◌+◌, ◌<◌, ◌%◌, ◌≤◌, ◌^◌, List, OnOk, Option, Some};
+ghost use Rattle.std.specs.Prelude.{◌≡◌, ℕ, ◌+◌, ◌<◌, ◌%◌, ◌≤◌, ◌^◌, OnOk, Option, Some};
 ghost use Rattle.commands.specs.declared.command.Command.{Command as CommandValue};
 ghost use Rattle.commands.specs.declared.command.Command.TheVariants.{ConfigureEndpoint};
 ghost use Rattle.commands.specs.declared.state.EndpointState.TheVariants.{Running, Stopped};
 ghost use Rattle.commands.specs.Changes.{changes};
 ghost use Rattle.contexts.specs.Contexts.{context_cycle, context_pointer, input_context_bytes};
 ghost use Rattle.traces.specs.declared.header.Header.{Header as HeaderValue};
-ghost use Rattle.traces.specs.declared.row.Row.{Row};
 ghost use Rattle.traces.specs.Header.{ring_having};
 ghost use Rattle.world_state.specs.World.{World};
 ghost use Rattle.world_state.specs.Bindings.{changed_by_all, in_state, inactive, placed_on};
@@ -27,8 +26,8 @@ use traces::Header;
 /// The endpoint is Stopped, and its ring inactive (xHCI 4.6.9).
 fn stop(kept: &mut Kept, slot: u8, index: u8)
     requires { index < 32 }
-    ensures change { (h : HeaderValue) (rows : List Row) (words : ℕ → ℕ) (w : World) → Follows h rows words kept.old w →
-        Follows h rows words kept.new (inactive (in_state w slot index Stopped) (w.ring_of slot index)) }
+    ensures change { (h : HeaderValue) (words : ℕ → ℕ) (w : World) → Follows h words kept.old w →
+        Follows h words kept.new (inactive (in_state w slot index Stopped) (w.ring_of slot index)) }
     ensures rest { KeepsRun kept.old kept.new }
 {
     set_state(kept, slot, index, EndpointState::Stopped);
@@ -51,11 +50,11 @@ fn place_by_context<M: WordMemory>(
     requires end { context + input_context_bytes header.now.context_size ≤ 2 ^ 64 }
     requires first { 1 ≤ index }
     requires last { index < 32 }
-    ensures change { OnOk result ((h : HeaderValue) (rows : List Row) (words : ℕ → ℕ) (w v : World) → Lists h header.now →
+    ensures change { OnOk result ((h : HeaderValue) (words : ℕ → ℕ) (w v : World) → Lists h header.now →
         placed_on w slot index (context_pointer header.now.context_size (M.words memory.now) context index)
         (context_cycle header.now.context_size (M.words memory.now) context index) Running
         (ring_having header.now (context_pointer header.now.context_size (M.words memory.now) context index)) ≡ Some v →
-        Follows h rows words kept.old w → Follows h rows words kept.new v) }
+        Follows h words kept.old w → Follows h words kept.new v) }
     ensures rest { KeepsRun kept.old kept.new }
 {
     let endpoint = context_of(memory, header.context_size, context, index);
@@ -85,10 +84,10 @@ fn place_added<M: WordMemory>(
     requires end { context + input_context_bytes header.now.context_size ≤ 2 ^ 64 }
     requires first { 1 ≤ index }
     requires last { index < 32 }
-    ensures change { OnOk result ((h : HeaderValue) (rows : List Row) (words : ℕ → ℕ) (c : CommandValue) (w final : World) → Lists h header.now →
+    ensures change { OnOk result ((h : HeaderValue) (words : ℕ → ℕ) (c : CommandValue) (w final : World) → Lists h header.now →
         changed_by_all header.now c w (places_from header.now.context_size (M.words memory.now) slot context index) ≡ Some final →
-        Follows h rows words kept.old w →
-        GoesOn (Follows h rows words kept.new)
+        Follows h words kept.old w →
+        GoesOn (Follows h words kept.new)
         (λ v. changed_by_all header.now c v (places_from header.now.context_size (M.words memory.now) slot context (index + 1)) ≡ Some final)) }
     ensures rest { KeepsRun kept.old kept.new }
 {
@@ -109,9 +108,9 @@ fn place_all<M: WordMemory>(
 ) -> Result<(), AllocError>
     requires aligned { context % 16 ≡ 0 }
     requires end { context + input_context_bytes header.now.context_size ≤ 2 ^ 64 }
-    ensures change { OnOk result ((h : HeaderValue) (rows : List Row) (words : ℕ → ℕ) (c : CommandValue) (w final : World) → Lists h header.now →
+    ensures change { OnOk result ((h : HeaderValue) (words : ℕ → ℕ) (c : CommandValue) (w final : World) → Lists h header.now →
         changed_by_all header.now c w (places_from header.now.context_size (M.words memory.now) slot context 2) ≡ Some final →
-        Follows h rows words kept.old w → Follows h rows words kept.new final) }
+        Follows h words kept.old w → Follows h words kept.new final) }
     ensures rest { KeepsRun kept.old kept.new }
 {
     for index in 2..32 {
@@ -133,9 +132,9 @@ fn configure<M: WordMemory>(
 ) -> Result<(), AllocError>
     requires aligned { context % 16 ≡ 0 }
     requires end { HasRoom header.now.context_size (ConfigureEndpoint slot deconfigure context) }
-    ensures change { OnOk result ((h : HeaderValue) (rows : List Row) (words : ℕ → ℕ) (n : ℕ) (w final : World) → Lists h header.now →
+    ensures change { OnOk result ((h : HeaderValue) (words : ℕ → ℕ) (n : ℕ) (w final : World) → Lists h header.now →
         changed_by_all header.now command.now w (changes header.now.context_size (M.words memory.now) n (ConfigureEndpoint slot deconfigure context)) ≡ Some final →
-        Follows h rows words kept.old w → Follows h rows words kept.new final) }
+        Follows h words kept.old w → Follows h words kept.new final) }
     ensures rest { KeepsRun kept.old kept.new }
 {
     go_on(kept, command, slot);
@@ -159,9 +158,9 @@ pub(crate) fn apply<M: WordMemory>(
 ) -> Result<(), AllocError>
     requires well { IsWell command.now }
     requires end { HasRoom header.now.context_size command.now }
-    ensures change { OnOk result ((h : HeaderValue) (rows : List Row) (words : ℕ → ℕ) (w final : World) → Lists h header.now →
+    ensures change { OnOk result ((h : HeaderValue) (words : ℕ → ℕ) (w final : World) → Lists h header.now →
         changed_by_all header.now command.now w (changes header.now.context_size (M.words memory.now) slot command.now) ≡ Some final →
-        Follows h rows words kept.old w → Follows h rows words kept.new final) }
+        Follows h words kept.old w → Follows h words kept.new final) }
     ensures rest { KeepsRun kept.old kept.new }
 {
     match *command {

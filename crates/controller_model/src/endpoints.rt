@@ -1,6 +1,5 @@
-ghost use Rattle.std.specs.Prelude.{◌≡◌, ℕ, ◌<◌, List};
+ghost use Rattle.std.specs.Prelude.{◌≡◌, ℕ, ◌<◌};
 ghost use Rattle.traces.specs.declared.header.Header.{Header};
-ghost use Rattle.traces.specs.declared.row.Row.{Row};
 ghost use Rattle.world_state.specs.World.{World};
 ghost use Rattle.world_state.specs.Bindings.{in_state};
 ghost use Rattle.controller_model.specs.Following.{Follows, KeepsRun};
@@ -11,7 +10,7 @@ use commands::EndpointState;
 /// What is kept of an endpoint.
 pub(crate) fn endpoint_of(kept: &Kept, slot: u8, index: u8) -> Endpoint
     requires { index < 32 }
-    ensures { (h : Header) (rows : List Row) (words : ℕ → ℕ) (w : World) → Follows h rows words kept.now w →
+    ensures { (h : Header) (words : ℕ → ℕ) (w : World) → Follows h words kept.now w →
         (w.endpoint_state slot index ≡ result.state) × (w.ring_of slot index ≡ result.ring) }
 {
     kept.endpoints[usize::from(slot) * 32 + usize::from(index)]
@@ -20,8 +19,8 @@ pub(crate) fn endpoint_of(kept: &Kept, slot: u8, index: u8) -> Endpoint
 /// An endpoint is in this state from now on.
 pub(crate) fn set_state(kept: &mut Kept, slot: u8, index: u8, state: EndpointState)
     requires { index < 32 }
-    ensures change { (h : Header) (rows : List Row) (words : ℕ → ℕ) (w : World) → Follows h rows words kept.old w →
-        Follows h rows words kept.new (in_state w slot index state) }
+    ensures change { (h : Header) (words : ℕ → ℕ) (w : World) → Follows h words kept.old w →
+        Follows h words kept.new (in_state w slot index state) }
     ensures rest { KeepsRun kept.old kept.new }
 {
     let endpoint = &mut kept.endpoints[usize::from(slot) * 32 + usize::from(index)];

@@ -1,10 +1,9 @@
-ghost use Rattle.std.specs.Prelude.{◌≡◌, ℕ, ◌+◌, ◌==◌, ◌&&◌, not, Err, List};
+ghost use Rattle.std.specs.Prelude.{◌≡◌, ℕ, ◌+◌, ◌==◌, ◌&&◌, not, Err};
 ghost use Rattle.trb.specs.Block.{code, kind, pointer, slot};
 ghost use Rattle.trb.specs.Kind.{is_command_completion};
 ghost use Rattle.commands.specs.Command.{command_of, is_slot_or_any, may_answer_slot};
 ghost use Rattle.segments.specs.Places.{address_of};
 ghost use Rattle.traces.specs.declared.header.Header.{Header as HeaderValue};
-ghost use Rattle.traces.specs.declared.row.Row.{Row};
 ghost use Rattle.traces.specs.Header.{event_shape};
 ghost use Rattle.world_state.specs.World.{World};
 ghost use Rattle.controller_model.specs.declared.seen.Seen.TheVariants.{Posted};
@@ -66,8 +65,8 @@ fn succeed<M: WordMemory>(
     block: &Block,
     slot: u8,
 ) -> Result<(), StepFault>
-    ensures change { (h : HeaderValue) (rows : List Row) (w : World) → Lists h header.now → Follows h rows (M.words memory.now) kept.old w →
-        IsPart result (succeeded header.now w slot (command_of block.now)) (Follows h rows (M.words memory.now) kept.new) }
+    ensures change { (h : HeaderValue) (w : World) → Lists h header.now → Follows h (M.words memory.now) kept.old w →
+        IsPart result (succeeded header.now w slot (command_of block.now)) (Follows h (M.words memory.now) kept.new) }
     ensures refused { result ≡ Err StepFault.NotPossible → kept.new ≡ kept.old }
     ensures rest { KeepsRun kept.old kept.new }
 {
@@ -90,8 +89,8 @@ fn complete<M: WordMemory>(
     kept: &mut Kept,
     block: &Block,
 ) -> Result<(), StepFault>
-    ensures change { (h : HeaderValue) (rows : List Row) (w : World) → Lists h header.now → Follows h rows (M.words memory.now) kept.old w →
-        IsPart result (completed header.now w block.now w.under_way) (Follows h rows (M.words memory.now) kept.new) }
+    ensures change { (h : HeaderValue) (w : World) → Lists h header.now → Follows h (M.words memory.now) kept.old w →
+        IsPart result (completed header.now w block.now w.under_way) (Follows h (M.words memory.now) kept.new) }
     ensures refused { result ≡ Err StepFault.NotPossible → kept.new ≡ kept.old }
     ensures rest { KeepsRun kept.old kept.new }
 {
@@ -122,8 +121,8 @@ pub(crate) fn finish<M: WordMemory>(
     step: u64,
 ) -> Result<Seen, StepFault>
     requires { step ≡ kept.old.progress.steps + 1 }
-    ensures step { (rows : List Row) (w : World) → Lists header.now live.now → Follows header.now rows (M.words memory.old) kept.old w →
-        IsStep result (finished header.now live.now w block.now) (Posted (address_of (event_shape header.now) w.posted)) (Follows header.now rows (M.words memory.new) kept.new) }
+    ensures step { (w : World) → Lists header.now live.now → Follows header.now (M.words memory.old) kept.old w →
+        IsStep result (finished header.now live.now w block.now) (Posted (address_of (event_shape header.now) w.posted)) (Follows header.now (M.words memory.new) kept.new) }
     ensures refused { result ≡ Err StepFault.NotPossible → kept.new ≡ kept.old }
     ensures memory { result ≡ Err StepFault.NotPossible → M.words memory.new ≡ M.words memory.old }
 {

@@ -1,12 +1,10 @@
-ghost use Rattle.std.specs.Prelude.{◌≡◌, ℕ, ◌+◌, ◌*◌, ◌-◌, ◌/◌, ◌%◌, ◌^◌, ◌<◌, ◌∷◌, ◌==◌, IsTrue, if◌then◌else◌, List, OnOk, OnErr, IfOk, length, Option, Some, None, is_some, not, Err, ◌||◌, ◌&&◌, option_map};
+ghost use Rattle.std.specs.Prelude.{◌≡◌, ℕ, ◌+◌, ◌*◌, ◌-◌, ◌/◌, ◌%◌, ◌^◌, ◌<◌, ◌∷◌, ◌==◌, IsTrue, if◌then◌else◌, OnOk, OnErr, IfOk, length, Option, Some, None, is_some, not, Err, ◌||◌, ◌&&◌, option_map};
 ghost use Rattle.traces.specs.declared.header.Header.{Header as HeaderValue};
-ghost use Rattle.traces.specs.declared.row.Row.{Row as RowValue};
 ghost use Rattle.traces.specs.Header.{command_id, command_ring, is_command_kind, ring_with, shape_of};
 ghost use Rattle.std.specs.Option.{option_copied};
 ghost use Rattle.traces.specs.declared.ring.Ring.{Ring};
-ghost use Rattle.trb.specs.Block.{aligned, pointer};
+ghost use Rattle.trb.specs.Block.{aligned, pointer, block_at, word, kind, cycle as cycle_bit};
 ghost use Rattle.trb.specs.Bits.{is_set};
-ghost use Rattle.trb.specs.Block.{block_at, word, kind, cycle as cycle_bit};
 ghost use Rattle.world_state.specs.World.{World, Took};
 ghost use Rattle.controller_model.specs.Following.{Follows, IsStep, RingHeld, FollowsRing, addressed, is_it, noted_held, taken_held};
 ghost use Rattle.controller_model.specs.Showing.{look_shows};
@@ -108,8 +106,8 @@ fn take(state: &mut RingState, there: Option<&Ring>, block: &Block) -> Result<()
 
 /// The controller follows the Link at a ring's pointer.
 fn cross_on(kept: &mut Kept, ring: u8, link: &Block)
-    ensures { (h : HeaderValue) (rows : List RowValue) (words : ℕ → ℕ) (w : World) → Follows h rows words kept.old w →
-        Follows h rows words kept.new (crossed h w ring link.now) }
+    ensures { (h : HeaderValue) (words : ℕ → ℕ) (w : World) → Follows h words kept.old w →
+        Follows h words kept.new (crossed h w ring link.now) }
 {
     let state = &mut kept.rings[usize::from(ring)];
     cross(state, link);
@@ -117,8 +115,8 @@ fn cross_on(kept: &mut Kept, ring: u8, link: &Block)
 
 /// The controller takes the block at a ring's pointer.
 fn take_on(kept: &mut Kept, there: Option<&Ring>, ring: u8, block: &Block) -> Result<(), AllocError>
-    ensures { OnOk result ((h : HeaderValue) (rows : List RowValue) (words : ℕ → ℕ) (w : World) → option_copied there.entry ≡ ring_with h ring →
-        Follows h rows words kept.old w → Follows h rows words kept.new (taken_on h w ring block.now)) }
+    ensures { OnOk result ((h : HeaderValue) (words : ℕ → ℕ) (w : World) → option_copied there.entry ≡ ring_with h ring →
+        Follows h words kept.old w → Follows h words kept.new (taken_on h w ring block.now)) }
 {
     let state = &mut kept.rings[usize::from(ring)];
     take(state, there, block)?;
@@ -139,8 +137,8 @@ fn is_of(there: Option<&Ring>, address: u64) -> bool
 /// A look is noted where it is outside the ring's segments, or the ring doesn't live.
 fn note_look(kept: &mut Kept, there: Option<&Ring>, ring: u8, pointer: u64)
     requires { pointer % 16 ≡ 0 }
-    ensures { (h live : HeaderValue) (rows : List RowValue) (words : ℕ → ℕ) (w : World) → option_copied there.entry ≡ ring_with live ring → w.pointer_of ring ≡ pointer →
-        Follows h rows words kept.old w → Follows h rows words kept.new (seen_by_look live w ring) }
+    ensures { (h live : HeaderValue) (words : ℕ → ℕ) (w : World) → option_copied there.entry ≡ ring_with live ring → w.pointer_of ring ≡ pointer →
+        Follows h words kept.old w → Follows h words kept.new (seen_by_look live w ring) }
 {
     let is_inside = is_of(there, pointer);
     kept.looked_outside = kept.looked_outside | !is_inside;
@@ -190,8 +188,8 @@ fn addressed(command: Option<Command>) -> Option<u8>
 
 /// The controller may write the slot's device context from now on.
 fn allow_slot(kept: &mut Kept, slot: u8)
-    ensures { (h : HeaderValue) (rows : List RowValue) (words : ℕ → ℕ) (w : World) → Follows h rows words kept.old w →
-        Follows h rows words kept.new (record w { scribbles = λ t. w.scribbles t || t == slot }) }
+    ensures { (h : HeaderValue) (words : ℕ → ℕ) (w : World) → Follows h words kept.old w →
+        Follows h words kept.new (record w { scribbles = λ t. w.scribbles t || t == slot }) }
 {
     let state = &mut kept.slots[usize::from(slot)];
     state.scribbles = true;
@@ -199,8 +197,8 @@ fn allow_slot(kept: &mut Kept, slot: u8)
 
 /// The controller may write the device context of the slot, if there is one.
 fn allow(kept: &mut Kept, slot: Option<u8>)
-    ensures { (h : HeaderValue) (rows : List RowValue) (words : ℕ → ℕ) (w : World) → Follows h rows words kept.old w →
-        Follows h rows words kept.new (record w { scribbles = λ t. w.scribbles t || is_it t slot }) }
+    ensures { (h : HeaderValue) (words : ℕ → ℕ) (w : World) → Follows h words kept.old w →
+        Follows h words kept.new (record w { scribbles = λ t. w.scribbles t || is_it t slot }) }
 {
     match slot {
         None => {}
@@ -218,8 +216,8 @@ pub(crate) fn input_words(header: &Header) -> u64
 
 /// The input context of a command that was taken at this address, if it names one, is watched.
 fn watch_context(header: &Header, kept: &mut Kept, address: u64, block: &Block)
-    ensures { (h : HeaderValue) (rows : List RowValue) (words : ℕ → ℕ) (w : World) → Follows h rows words kept.old w →
-        Follows h rows words kept.new w }
+    ensures { (h : HeaderValue) (words : ℕ → ℕ) (w : World) → Follows h words kept.old w →
+        Follows h words kept.new w }
 {
     if let Some(command) = command_of(block) {
         if let Some(context) = command.input_context() {
@@ -230,8 +228,8 @@ fn watch_context(header: &Header, kept: &mut Kept, address: u64, block: &Block)
 
 /// A command that was taken at this address is under way.
 fn begin(kept: &mut Kept, address: u64, block: &Block)
-    ensures { (h : HeaderValue) (rows : List RowValue) (words : ℕ → ℕ) (w : World) → Follows h rows words kept.old w →
-        Follows h rows words kept.new (command_begun h w address block.now) }
+    ensures { (h : HeaderValue) (words : ℕ → ℕ) (w : World) → Follows h words kept.old w →
+        Follows h words kept.new (command_begun h w address block.now) }
 {
     allow(kept, addressed(command_of(block)));
     kept.under_way = Some(Pending {
@@ -249,8 +247,8 @@ fn take_block(
     pointer: u64,
     block: &Block,
 ) -> Result<(), AllocError>
-    ensures { OnOk result ((rows : List RowValue) (words : ℕ → ℕ) (w : World) → w.pointer_of ring ≡ pointer →
-        Follows header.now rows words kept.old w → Follows header.now rows words kept.new (taken header.now w ring block.now)) }
+    ensures { OnOk result ((words : ℕ → ℕ) (w : World) → w.pointer_of ring ≡ pointer →
+        Follows header.now words kept.old w → Follows header.now words kept.new (taken header.now w ring block.now)) }
 {
     take_on(kept, ring_with(header, ring), ring, block)?;
     if is_command_ring(header, ring) {
@@ -280,9 +278,9 @@ fn look_at(
     block: &Block,
 ) -> Result<Seen, StepFault>
     requires { pointer % 16 ≡ 0 }
-    ensures step { (live : HeaderValue) (rows : List RowValue) (words : ℕ → ℕ) (w : World) → option_copied there.entry ≡ ring_with live ring → w.pointer_of ring ≡ pointer →
-        w.cycle_state ring ≡ (if cycle then 1 else 0) → Follows header.now rows words kept.old w →
-        IsStep result (looked_at header.now live w ring block.now) (look_shows w ring block.now) (Follows header.now rows words kept.new) }
+    ensures step { (live : HeaderValue) (words : ℕ → ℕ) (w : World) → option_copied there.entry ≡ ring_with live ring → w.pointer_of ring ≡ pointer →
+        w.cycle_state ring ≡ (if cycle then 1 else 0) → Follows header.now words kept.old w →
+        IsStep result (looked_at header.now live w ring block.now) (look_shows w ring block.now) (Follows header.now words kept.new) }
     ensures refused { result ≡ Err StepFault.NotPossible → kept.new ≡ kept.old }
 {
     if !agrees(block, cycle) {
@@ -314,8 +312,8 @@ pub(crate) fn look<M: WordMemory>(
     kept: &mut Kept,
     ring: u8,
 ) -> Result<Seen, StepFault>
-    ensures step { (rows : List RowValue) (w : World) → Follows header.now rows (M.words memory.now) kept.old w →
-        IsStep result (looked header.now live.now w ring) (look_shows w ring (block_at w.memory (w.pointer_of ring))) (Follows header.now rows (M.words memory.now) kept.new) }
+    ensures step { (w : World) → Follows header.now (M.words memory.now) kept.old w →
+        IsStep result (looked header.now live.now w ring) (look_shows w ring (block_at w.memory (w.pointer_of ring))) (Follows header.now (M.words memory.now) kept.new) }
     ensures refused { result ≡ Err StepFault.NotPossible → kept.new ≡ kept.old }
 {
     let state = &kept.rings[usize::from(ring)];

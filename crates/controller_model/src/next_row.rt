@@ -1,14 +1,10 @@
 ghost use Rattle.std.specs.Prelude.{◌≡◌, ℕ, ◌+◌, Err, List, OnOk};
-ghost use Rattle.traces.specs.Rows.{FitsLine, IsRow};
 ghost use Rattle.traces.specs.declared.row.Row.{Row as RowValue};
-ghost use Rattle.traces.specs.declared.trace_row.TraceRow.{TraceRow as TraceRowValue};
-ghost use Rattle.world_state.specs.World.{World};
 ghost use Rattle.controller_model.specs.declared.seen.Seen.TheVariants.{Row as RowSeen};
-ghost use Rattle.world_state.specs.DriverRows.{row_done};
 ghost use Rattle.controller_model.specs.RingHarms.{FollowsScene};
 ghost use Rattle.traces.specs.TraceRows.{IsTraceRow};
 ghost use Rattle.world_state.specs.Scenes.{Scene, row_made, row_next};
-ghost use Rattle.controller_model.specs.Following.{Follows, IsStep};
+ghost use Rattle.controller_model.specs.Following.{IsStep};
 
 use crate::bells::ring_bell;
 use crate::fault::StepFault;
@@ -22,54 +18,34 @@ use crate::rows_left::RowsLeft;
 use crate::seen::Seen;
 use crate::steps::count;
 use guest_memory::WordMemory;
-use traces::{Header, Row, TraceRow};
+use traces::Row;
 
-/// The driver does what a row says.
+/// What a row does to the rings that are there, to memory and to the controller.
 fn make_row<M: WordMemory>(
-    header: &Header,
+    rings: &mut Rings,
     memory: &mut M,
     kept: &mut Kept,
     row: &Row,
     step: u64,
 ) -> Result<Seen, StepFault>
     requires number { step ≡ kept.old.progress.steps + 1 }
-    requires row { FitsLine row.now }
-    ensures step { (rows : List RowValue) (w : World) → Follows header.now rows (M.words memory.old) kept.old w →
-        IsStep result (row_done header.now w row.now) RowSeen (Follows header.now rows (M.words memory.new) kept.new) }
+    requires row { IsTraceRow row.now }
+    ensures step { (rows : List RowValue) (x : Scene) → FollowsScene rings.old rows (M.words memory.old) kept.old x →
+        IsStep result (row_made x row.now) RowSeen (FollowsScene rings.new rows (M.words memory.new) kept.new) }
     ensures refused { result ≡ Err StepFault.NotPossible → kept.new ≡ kept.old }
     ensures memory { result ≡ Err StepFault.NotPossible → M.words memory.new ≡ M.words memory.old }
+    ensures rings { result ≡ Err StepFault.NotPossible → rings.new ≡ rings.old }
 {
+    let header = &rings.declared;
     match row {
         Row::Sub { ring, blocks } => declare(kept, *ring, blocks.as_slice())?,
         Row::Write { at, word } => write(memory, kept, *at, *word, step)?,
         Row::Reg { register, value } => write_register(header, kept, *register, *value)?,
         Row::Bell { slot, target } => ring_bell(header, kept, *slot, *target),
         Row::Read { event } => return read_event(header, memory, kept, event),
-    }
-    Ok(Seen::Row)
-}
-
-/// What a row does to the rings that are there, to memory and to the controller.
-fn make_trace_row<M: WordMemory>(
-    rings: &mut Rings,
-    memory: &mut M,
-    kept: &mut Kept,
-    row: &TraceRow,
-    step: u64,
-) -> Result<Seen, StepFault>
-    requires number { step ≡ kept.old.progress.steps + 1 }
-    requires row { IsTraceRow row.now }
-    ensures step { (rows : List TraceRowValue) (x : Scene) → FollowsScene rings.old rows (M.words memory.old) kept.old x →
-        IsStep result (row_made x row.now) RowSeen (FollowsScene rings.new rows (M.words memory.new) kept.new) }
-    ensures refused { result ≡ Err StepFault.NotPossible → kept.new ≡ kept.old }
-    ensures memory { result ≡ Err StepFault.NotPossible → M.words memory.new ≡ M.words memory.old }
-    ensures rings { result ≡ Err StepFault.NotPossible → rings.new ≡ rings.old }
-{
-    match row {
-        TraceRow::Plain(row) => return make_row(&rings.declared, memory, kept, row, step),
-        TraceRow::Comes(ring) => add_ring(rings, kept, ring.as_ring())?,
-        TraceRow::Goes(id) => end_life(rings, *id),
-        TraceRow::Withdraws { ring, position } => withdraw(kept, *ring, *position),
+        Row::Ring { ring } => add_ring(rings, kept, ring.as_ring())?,
+        Row::Free { ring: id } => end_life(rings, *id),
+        Row::Nop { ring, position } => withdraw(kept, *ring, *position),
     }
     Ok(Seen::Row)
 }
@@ -95,7 +71,7 @@ pub(crate) fn next_row<M: WordMemory>(
         None => return Err(StepFault::NotPossible),
         Some(row) => row,
     };
-    let seen = make_trace_row(rings, memory, kept, row, step)?;
+    let seen = make_row(rings, memory, kept, row, step)?;
     left.pass();
     count(kept)?;
     Ok(seen)

@@ -1,8 +1,7 @@
-ghost use Rattle.std.specs.Prelude.{◌≡◌, ℕ, ◌*◌, All, IfOk, List, None, false, length, replicate};
+ghost use Rattle.std.specs.Prelude.{◌≡◌, ℕ, ◌*◌, All, IfOk, None, false, length, replicate};
 ghost use Rattle.commands.specs.declared.state.SlotState.TheVariants.{Disabled};
 ghost use Rattle.commands.specs.declared.state.EndpointState.TheVariants.{Disabled as Off};
 ghost use Rattle.traces.specs.declared.header.Header.{Header as HeaderValue};
-ghost use Rattle.traces.specs.declared.row.Row.{Row as RowValue};
 ghost use Rattle.world_state.specs.World.{opening};
 ghost use Rattle.controller_model.specs.Following.{Follows, FollowsRing, ring_held};
 
@@ -15,7 +14,7 @@ use std::alloc::{AllocError, Global};
 
 /// What is kept before the first row.
 pub(crate) fn opening(alloc: Global) -> Result<Kept, AllocError>
-    ensures { IfOk result (λ kept. (h : HeaderValue) (rows : List RowValue) (words : ℕ → ℕ) → ((a : ℕ) → words a ≡ 0) → Follows h rows words kept (opening rows)) }
+    ensures { IfOk result (λ kept. (h : HeaderValue) (words : ℕ → ℕ) → ((a : ℕ) → words a ≡ 0) → Follows h words kept opening) }
 {
     Ok(Kept {
         progress: Progress {
@@ -45,7 +44,7 @@ pub(crate) fn opening(alloc: Global) -> Result<Kept, AllocError>
 /// The rings by ID, before the first row.
 fn rings(alloc: Global) -> Result<Vec<RingState>, AllocError>
     ensures many { IfOk result (λ rings. length rings.items ≡ 256) }
-    ensures each { IfOk result (λ rings. All (λ x. (h : HeaderValue) (rows : List RowValue) (r : ℕ) → FollowsRing h r (ring_held (opening rows) r) x) rings.items) }
+    ensures each { IfOk result (λ rings. All (λ x. (h : HeaderValue) (r : ℕ) → FollowsRing h r (ring_held opening r) x) rings.items) }
 {
     let mut rings = Vec::new(alloc);
     for _id in 0..256_usize {
@@ -56,7 +55,7 @@ fn rings(alloc: Global) -> Result<Vec<RingState>, AllocError>
 
 /// A ring before the first row.
 fn ring(alloc: Global) -> RingState
-    ensures { (h : HeaderValue) (rows : List RowValue) (r : ℕ) → FollowsRing h r (ring_held (opening rows) r) result }
+    ensures { (h : HeaderValue) (r : ℕ) → FollowsRing h r (ring_held opening r) result }
 {
     RingState {
         declared: Declarations::new(alloc),

@@ -1,11 +1,10 @@
-ghost use Rattle.std.specs.Prelude.{◌≡◌, ℕ, ◌+◌, ◌&&◌, ◌==◌, ◌%◌, ◌<◌, ◌≤◌, ◌^◌, List, OnOk, IfOk, Err, Option};
+ghost use Rattle.std.specs.Prelude.{◌≡◌, ℕ, ◌+◌, ◌&&◌, ◌==◌, ◌%◌, ◌<◌, ◌≤◌, ◌^◌, OnOk, IfOk, Err, Option};
 ghost use Rattle.std.specs.Option.{option_copied};
 ghost use Rattle.trb.specs.Block.{kind};
 ghost use Rattle.trb.specs.Kind.{is_other_event};
 ghost use Rattle.segments.specs.Places.{address_of, place_count};
 ghost use Rattle.event_ring.specs.EventRing.{has_room};
 ghost use Rattle.traces.specs.declared.header.Header.{Header as HeaderValue};
-ghost use Rattle.traces.specs.declared.row.Row.{Row as RowValue};
 ghost use Rattle.traces.specs.Header.{event_ring, event_shape, is_event_kind};
 ghost use Rattle.world_state.specs.World.{World};
 ghost use Rattle.world_state.specs.Posts.{can_post, posted, other_posted};
@@ -73,7 +72,7 @@ fn has_room(shape: &RingShape, posted: u64, dequeue: u64) -> bool
 /// Whether the controller runs, there is room, and the words have the right Cycle bit.
 #[tactic(auto, using(crate::proofs::HistoryLemmas::as_bit, crate::proofs::PostLemmas::can_post_is))]
 pub(crate) fn can_post(shape: &RingShape, kept: &Kept, block: &Block) -> bool
-    ensures { (h : HeaderValue) (rows : List RowValue) (words : ℕ → ℕ) (w : World) → shape.now ≡ event_shape h → Follows h rows words kept.now w →
+    ensures { (h : HeaderValue) (words : ℕ → ℕ) (w : World) → shape.now ≡ event_shape h → Follows h words kept.now w →
         result ≡ can_post h w block.now }
 {
     let events = kept.events;
@@ -92,8 +91,8 @@ pub(crate) fn post<M: WordMemory>(
 ) -> Result<u64, AllocError>
     requires { step ≡ kept.old.progress.steps + 1 }
     ensures place { IfOk result (λ at. at ≡ address_of shape.now kept.old.events.posted) }
-    ensures posted { OnOk result ((h : HeaderValue) (rows : List RowValue) (w : World) → shape.now ≡ event_shape h → Follows h rows (M.words memory.old) kept.old w →
-        Follows h rows (M.words memory.new) kept.new (posted h w block.now)) }
+    ensures posted { OnOk result ((h : HeaderValue) (w : World) → shape.now ≡ event_shape h → Follows h (M.words memory.old) kept.old w →
+        Follows h (M.words memory.new) kept.new (posted h w block.now)) }
 {
     let next = kept.events.posted.checked_add(1).ok_or(AllocError)?;
     let address = place(shape, kept.events.posted);
@@ -122,8 +121,8 @@ pub(crate) fn post_other<M: WordMemory>(
     step: u64,
 ) -> Result<Seen, StepFault>
     requires { step ≡ kept.old.progress.steps + 1 }
-    ensures step { (rows : List RowValue) (w : World) → Follows header.now rows (M.words memory.old) kept.old w →
-        IsStep result (other_posted header.now w block.now) (Posted (address_of (event_shape header.now) w.posted)) (Follows header.now rows (M.words memory.new) kept.new) }
+    ensures step { (w : World) → Follows header.now (M.words memory.old) kept.old w →
+        IsStep result (other_posted header.now w block.now) (Posted (address_of (event_shape header.now) w.posted)) (Follows header.now (M.words memory.new) kept.new) }
     ensures refused { result ≡ Err StepFault.NotPossible → kept.new ≡ kept.old }
     ensures memory { result ≡ Err StepFault.NotPossible → M.words memory.new ≡ M.words memory.old }
 {
@@ -161,8 +160,8 @@ pub(crate) fn read_event<M: WordMemory>(
     kept: &mut Kept,
     event: &Block,
 ) -> Result<Seen, StepFault>
-    ensures step { (rows : List RowValue) (w : World) → Follows header.now rows (M.words memory.now) kept.old w →
-        IsStep result (event_read header.now w event.now) Row (Follows header.now rows (M.words memory.now) kept.new) }
+    ensures step { (w : World) → Follows header.now (M.words memory.now) kept.old w →
+        IsStep result (event_read header.now w event.now) Row (Follows header.now (M.words memory.now) kept.new) }
     ensures refused { result ≡ Err StepFault.NotPossible → kept.new ≡ kept.old }
 {
     if kept.events.reads >= kept.events.posted {

@@ -1,7 +1,6 @@
-ghost use Rattle.std.specs.Prelude.{◌≡◌, ℕ, ◌+◌, ◌-◌, ◌<◌, IfSome, OnOk, ◌*◌, ◌/◌, ◌%◌, ◌==◌, ◌&&◌, ◌||◌, not, true, if◌then◌else◌, List, Option};
+ghost use Rattle.std.specs.Prelude.{◌≡◌, ℕ, ◌+◌, ◌-◌, ◌<◌, IfSome, OnOk, ◌*◌, ◌/◌, ◌%◌, ◌==◌, ◌&&◌, ◌||◌, not, true, if◌then◌else◌, Option};
 ghost use Rattle.guest_memory.specs.Memory.{put};
 ghost use Rattle.traces.specs.declared.header.Header.{Header as HeaderValue};
-ghost use Rattle.traces.specs.declared.row.Row.{Row as RowValue};
 ghost use Rattle.traces.specs.Header.{command_id};
 ghost use Rattle.traces.specs.declared.register.Register.TheVariants.{Erdp, Usbcmd};
 ghost use Rattle.traces.specs.Register.{with_register, run_bit, reset_bit, base_address, ring_cycle_state};
@@ -32,8 +31,8 @@ fn noted(registers: Registers, register: Register, value: u64) -> Registers
 
 /// A register is written.
 fn note(kept: &mut Kept, register: Register, value: u64)
-    ensures { (h : HeaderValue) (rows : List RowValue) (words : ℕ → ℕ) (w : World) → Follows h rows words kept.old w →
-        Follows h rows words kept.new (valued w register value) }
+    ensures { (h : HeaderValue) (words : ℕ → ℕ) (w : World) → Follows h words kept.old w →
+        Follows h words kept.new (valued w register value) }
 {
     kept.registers = noted(kept.registers, register, value);
 }
@@ -41,8 +40,8 @@ fn note(kept: &mut Kept, register: Register, value: u64)
 /// A ring's pointer and cycle state are those of CRCR.
 #[tactic(auto, using(crate::proofs::RingLemmas::with_rings, crate::proofs::RingLemmas::ring_changed, crate::proofs::RegisterLemmas::pointed_other, crate::proofs::RegisterLemmas::pointed_here, crate::proofs::RegisterLemmas::lowest_bit))]
 fn point(kept: &mut Kept, ring: u8)
-    ensures { (h : HeaderValue) (rows : List RowValue) (words : ℕ → ℕ) (w : World) → Follows h rows words kept.old w →
-        Follows h rows words kept.new (pointed w ring kept.old.registers.crcr) }
+    ensures { (h : HeaderValue) (words : ℕ → ℕ) (w : World) → Follows h words kept.old w →
+        Follows h words kept.new (pointed w ring kept.old.registers.crcr) }
 {
     let crcr = kept.registers.crcr;
     let state = &mut kept.rings[usize::from(ring)];
@@ -59,24 +58,24 @@ fn runs(value: u64) -> bool
 
 /// The controller is stopped or reset.
 fn stop(kept: &mut Kept)
-    ensures { (h : HeaderValue) (rows : List RowValue) (words : ℕ → ℕ) (w : World) → Follows h rows words kept.old w →
-        Follows h rows words kept.new (record w { stopped = true }) }
+    ensures { (h : HeaderValue) (words : ℕ → ℕ) (w : World) → Follows h words kept.old w →
+        Follows h words kept.new (record w { stopped = true }) }
 {
     kept.progress.stopped = true;
 }
 
 /// The controller runs from now on.
 fn set_started(kept: &mut Kept)
-    ensures { (h : HeaderValue) (rows : List RowValue) (words : ℕ → ℕ) (w : World) → Follows h rows words kept.old w →
-        Follows h rows words kept.new (record w { started = true }) }
+    ensures { (h : HeaderValue) (words : ℕ → ℕ) (w : World) → Follows h words kept.old w →
+        Follows h words kept.new (record w { started = true }) }
 {
     kept.progress.started = true;
 }
 
 /// The command ring's pointer and cycle state are those of CRCR.
 fn point_commands(header: &Header, kept: &mut Kept)
-    ensures { (rows : List RowValue) (words : ℕ → ℕ) (w : World) → Follows header.now rows words kept.old w →
-        Follows header.now rows words kept.new (pointed w (command_id header.now) kept.old.registers.crcr) }
+    ensures { (words : ℕ → ℕ) (w : World) → Follows header.now words kept.old w →
+        Follows header.now words kept.new (pointed w (command_id header.now) kept.old.registers.crcr) }
 {
     match command_ring(header) {
         None => {}
@@ -86,8 +85,8 @@ fn point_commands(header: &Header, kept: &mut Kept)
 
 /// The controller starts (xHCI 4.9.3, 5.4.5).
 fn start(header: &Header, kept: &mut Kept)
-    ensures { (rows : List RowValue) (words : ℕ → ℕ) (w : World) → Follows header.now rows words kept.old w →
-        Follows header.now rows words kept.new (started_with header.now w) }
+    ensures { (words : ℕ → ℕ) (w : World) → Follows header.now words kept.old w →
+        Follows header.now words kept.new (started_with header.now w) }
 {
     point_commands(header, kept);
     set_started(kept);
@@ -95,8 +94,8 @@ fn start(header: &Header, kept: &mut Kept)
 
 /// The driver writes USBCMD (xHCI 5.4.1).
 pub(crate) fn write_command(header: &Header, kept: &mut Kept, value: u64)
-    ensures { (rows : List RowValue) (words : ℕ → ℕ) (w : World) → Follows header.now rows words kept.old w →
-        Follows header.now rows words kept.new (register_row header.now w Usbcmd value) }
+    ensures { (words : ℕ → ℕ) (w : World) → Follows header.now words kept.old w →
+        Follows header.now words kept.new (register_row header.now w Usbcmd value) }
 {
     note(kept, Register::Usbcmd, value);
     let runs = runs(value);
@@ -126,8 +125,8 @@ fn next_at(size: u64, place: u64, from: u64) -> Option<u64>
 #[tactic(auto, using(crate::proofs::EventPlaces::dequeue_kept, crate::proofs::EventPlaces::no_ring_place, crate::proofs::EventPlaces::no_place), unfolding(traces::specs::Header::event_shape))]
 fn set_dequeue(header: &Header, kept: &mut Kept, address: u64) -> Result<(), AllocError>
     requires { address % 16 ≡ 0 }
-    ensures { OnOk result ((rows : List RowValue) (words : ℕ → ℕ) (w : World) → Follows header.now rows words kept.old w →
-        Follows header.now rows words kept.new (with_dequeue header.now w address)) }
+    ensures { OnOk result ((words : ℕ → ℕ) (w : World) → Follows header.now words kept.old w →
+        Follows header.now words kept.new (with_dequeue header.now w address)) }
 {
     let shape = match event_ring(header) {
         None => return Ok(()),
@@ -146,8 +145,8 @@ fn set_dequeue(header: &Header, kept: &mut Kept, address: u64) -> Result<(), All
 
 /// The driver writes ERDP (xHCI 5.5.2.3.3).
 fn write_dequeue(header: &Header, kept: &mut Kept, value: u64) -> Result<(), AllocError>
-    ensures { OnOk result ((rows : List RowValue) (words : ℕ → ℕ) (w : World) → Follows header.now rows words kept.old w →
-        Follows header.now rows words kept.new (register_row header.now w Erdp value)) }
+    ensures { OnOk result ((words : ℕ → ℕ) (w : World) → Follows header.now words kept.old w →
+        Follows header.now words kept.new (register_row header.now w Erdp value)) }
 {
     note(kept, Register::Erdp, value);
     set_dequeue(header, kept, value / 16 * 16)?;
@@ -161,8 +160,8 @@ pub(crate) fn write_register(
     register: Register,
     value: u64,
 ) -> Result<(), AllocError>
-    ensures { OnOk result ((rows : List RowValue) (words : ℕ → ℕ) (w : World) → Follows header.now rows words kept.old w →
-        Follows header.now rows words kept.new (register_row header.now w register value)) }
+    ensures { OnOk result ((words : ℕ → ℕ) (w : World) → Follows header.now words kept.old w →
+        Follows header.now words kept.new (register_row header.now w register value)) }
 {
     match register {
         Register::Usbcmd => {

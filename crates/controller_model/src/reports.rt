@@ -1,4 +1,4 @@
-ghost use Rattle.std.specs.Prelude.{◌≡◌, ℕ, ◌+◌, ◌-◌, ◌==◌, ◌&&◌, ◌<◌, ◌≤◌, ◌^◌, not, false, length, position, List, IfSome, Err, Option};
+ghost use Rattle.std.specs.Prelude.{◌≡◌, ℕ, ◌+◌, ◌-◌, ◌==◌, ◌&&◌, ◌<◌, ◌≤◌, ◌^◌, not, false, length, position, IfSome, Err, Option};
 ghost use Rattle.trb.specs.Bits.{is_set};
 ghost use Rattle.trb.specs.Block.{code, endpoint, kind, pointer, slot, word};
 ghost use Rattle.trb.specs.CompletionCode.{is_success, is_halting, is_trb_error, is_stopping};
@@ -7,7 +7,6 @@ ghost use Rattle.commands.specs.Command.{is_stop_of};
 ghost use Rattle.commands.specs.States.{is_running};
 ghost use Rattle.segments.specs.Places.{address_of};
 ghost use Rattle.traces.specs.declared.header.Header.{Header as HeaderValue};
-ghost use Rattle.traces.specs.declared.row.Row.{Row};
 ghost use Rattle.traces.specs.Header.{event_shape};
 ghost use Rattle.world_state.specs.World.{World};
 ghost use Rattle.world_state.specs.Takes.{unreported};
@@ -29,8 +28,8 @@ use trb::{Block, BlockKind, is_halting, is_stopping, is_success, is_trb_error};
 
 /// So many more takes of a ring are reported, the oldest first.
 fn report_takes(kept: &mut Kept, ring: u8, count: usize)
-    ensures change { (h : HeaderValue) (rows : List Row) (words : ℕ → ℕ) (w : World) → count ≤ length (unreported w ring) → Follows h rows words kept.old w →
-        Follows h rows words kept.new (with_reported h w ring (w.reported ring + count)) }
+    ensures change { (h : HeaderValue) (words : ℕ → ℕ) (w : World) → count ≤ length (unreported w ring) → Follows h words kept.old w →
+        Follows h words kept.new (with_reported h w ring (w.reported ring + count)) }
     ensures rest { KeepsRun kept.old kept.new }
 {
     let state = &mut kept.rings[usize::from(ring)];
@@ -39,14 +38,14 @@ fn report_takes(kept: &mut Kept, ring: u8, count: usize)
 
 /// How many takes of a ring weren't reported.
 fn unreported(kept: &Kept, ring: u8) -> usize
-    ensures { (h : HeaderValue) (rows : List Row) (words : ℕ → ℕ) (w : World) → Follows h rows words kept.now w → result ≡ length (unreported w ring) }
+    ensures { (h : HeaderValue) (words : ℕ → ℕ) (w : World) → Follows h words kept.now w → result ≡ length (unreported w ring) }
 {
     ring_state(kept, ring).history.unreported()
 }
 
 /// Whether the last take of a ring wasn't reported, and lies at this address.
 fn is_last(kept: &Kept, ring: u8, address: u64) -> bool
-    ensures { (h : HeaderValue) (rows : List Row) (words : ℕ → ℕ) (w : World) → Follows h rows words kept.now w →
+    ensures { (h : HeaderValue) (words : ℕ → ℕ) (w : World) → Follows h words kept.now w →
         result ≡ is_last h address (unreported w ring) }
 {
     ring_state(kept, ring).history.is_last(address)
@@ -54,9 +53,9 @@ fn is_last(kept: &Kept, ring: u8, address: u64) -> bool
 
 /// Which of a ring's takes that weren't reported is the oldest at this address.
 fn take_at(kept: &Kept, ring: u8, address: u64) -> Option<usize>
-    ensures value { (h : HeaderValue) (rows : List Row) (words : ℕ → ℕ) (w : World) → Follows h rows words kept.now w →
+    ensures value { (h : HeaderValue) (words : ℕ → ℕ) (w : World) → Follows h words kept.now w →
         result ≡ position (λ b. b == address) (unreported w ring) }
-    ensures below { (h : HeaderValue) (rows : List Row) (words : ℕ → ℕ) (w : World) → Follows h rows words kept.now w →
+    ensures below { (h : HeaderValue) (words : ℕ → ℕ) (w : World) → Follows h words kept.now w →
         IfSome result (λ n. n < length (unreported w ring)) }
     ensures end { IfSome result (λ n. n + 1 < 2 ^ 64) }
 {
@@ -66,7 +65,7 @@ fn take_at(kept: &Kept, ring: u8, address: u64) -> Option<usize>
 /// Whether an endpoint is Running, and a ring active.
 fn works(kept: &Kept, slot: u8, index: u8, ring: u8) -> bool
     requires { index < 32 }
-    ensures { (h : HeaderValue) (rows : List Row) (words : ℕ → ℕ) (w : World) → Follows h rows words kept.now w →
+    ensures { (h : HeaderValue) (words : ℕ → ℕ) (w : World) → Follows h words kept.now w →
         result ≡ (is_running (w.endpoint_state slot index) && w.is_active ring) }
 {
     let is_running = is_running(endpoint_of(kept, slot, index).state);
@@ -81,8 +80,8 @@ fn is_running(state: EndpointState) -> bool
 
 /// Success: the oldest take with this address that wasn't reported is reported, with those before it (xHCI 4.10.2).
 fn report_success(kept: &mut Kept, ring: u8, address: u64) -> bool
-    ensures change { (h : HeaderValue) (rows : List Row) (words : ℕ → ℕ) (w : World) → Follows h rows words kept.old w →
-        IsChange result (report_success h w ring address) (Follows h rows words kept.new) }
+    ensures change { (h : HeaderValue) (words : ℕ → ℕ) (w : World) → Follows h words kept.old w →
+        IsChange result (report_success h w ring address) (Follows h words kept.new) }
     ensures refused { result ≡ false → kept.new ≡ kept.old }
     ensures rest { KeepsRun kept.old kept.new }
 {
@@ -106,8 +105,8 @@ fn report_error(
     state: EndpointState,
 ) -> bool
     requires { index < 32 }
-    ensures change { (h : HeaderValue) (rows : List Row) (words : ℕ → ℕ) (w : World) → Follows h rows words kept.old w →
-        IsChange result (report_error h w slot index ring address state) (Follows h rows words kept.new) }
+    ensures change { (h : HeaderValue) (words : ℕ → ℕ) (w : World) → Follows h words kept.old w →
+        IsChange result (report_error h w slot index ring address state) (Follows h words kept.new) }
     ensures refused { result ≡ false → kept.new ≡ kept.old }
     ensures rest { KeepsRun kept.old kept.new }
 {
@@ -127,7 +126,7 @@ fn report_error(
 /// Whether a Stop Endpoint for this endpoint is under way.
 #[tactic(auto, unfolding(world_state::specs::Posts::is_stop_under_way))]
 fn is_stop_under_way(kept: &Kept, slot: u8, index: u8) -> bool
-    ensures { (h : HeaderValue) (rows : List Row) (words : ℕ → ℕ) (w : World) → Follows h rows words kept.now w →
+    ensures { (h : HeaderValue) (words : ℕ → ℕ) (w : World) → Follows h words kept.now w →
         result ≡ is_stop_under_way h slot index w.under_way }
 {
     match kept.under_way {
@@ -138,8 +137,8 @@ fn is_stop_under_way(kept: &Kept, slot: u8, index: u8) -> bool
 
 /// The Stopped event of the Stop Endpoint under way was posted.
 fn note_stopped(kept: &mut Kept)
-    ensures change { (h : HeaderValue) (rows : List Row) (words : ℕ → ℕ) (w : World) → Follows h rows words kept.old w →
-        Follows h rows words kept.new (record w { under_way = with_stopped h w.under_way }) }
+    ensures change { (h : HeaderValue) (words : ℕ → ℕ) (w : World) → Follows h words kept.old w →
+        Follows h words kept.new (record w { under_way = with_stopped h w.under_way }) }
     ensures rest { KeepsRun kept.old kept.new }
 {
     if let Some(pending) = &mut kept.under_way {
@@ -149,8 +148,8 @@ fn note_stopped(kept: &mut Kept)
 
 /// The endpoint's ring is stopped, and so many more takes of it are reported.
 fn stop_after(kept: &mut Kept, ring: u8, count: usize)
-    ensures change { (h : HeaderValue) (rows : List Row) (words : ℕ → ℕ) (w : World) → count ≤ length (unreported w ring) → Follows h rows words kept.old w →
-        Follows h rows words kept.new (stopped_with h w ring (w.reported ring + count)) }
+    ensures change { (h : HeaderValue) (words : ℕ → ℕ) (w : World) → count ≤ length (unreported w ring) → Follows h words kept.old w →
+        Follows h words kept.new (stopped_with h w ring (w.reported ring + count)) }
     ensures rest { KeepsRun kept.old kept.new }
 {
     report_takes(kept, ring, count);
@@ -162,8 +161,8 @@ fn stop_after(kept: &mut Kept, ring: u8, count: usize)
 /// dequeue pointer (xHCI 4.6.9).
 fn report_stop(kept: &mut Kept, slot: u8, index: u8, ring: u8, address: u64) -> bool
     requires { index < 32 }
-    ensures change { (h : HeaderValue) (rows : List Row) (words : ℕ → ℕ) (w : World) → Follows h rows words kept.old w →
-        IsChange result (report_stop h w slot index ring address) (Follows h rows words kept.new) }
+    ensures change { (h : HeaderValue) (words : ℕ → ℕ) (w : World) → Follows h words kept.old w →
+        IsChange result (report_stop h w slot index ring address) (Follows h words kept.new) }
     ensures refused { result ≡ false → kept.new ≡ kept.old }
     ensures rest { KeepsRun kept.old kept.new }
 {
@@ -189,8 +188,8 @@ fn report_stop(kept: &mut Kept, slot: u8, index: u8, ring: u8, address: u64) -> 
 #[tactic(auto, unfolding(world_state::specs::Posts::report_code))]
 fn report_code(kept: &mut Kept, code: u8, slot: u8, index: u8, ring: u8, address: u64) -> bool
     requires { index < 32 }
-    ensures change { (h : HeaderValue) (rows : List Row) (words : ℕ → ℕ) (w : World) → Follows h rows words kept.old w →
-        IsChange result (report_code h w code slot index ring address) (Follows h rows words kept.new) }
+    ensures change { (h : HeaderValue) (words : ℕ → ℕ) (w : World) → Follows h words kept.old w →
+        IsChange result (report_code h w code slot index ring address) (Follows h words kept.new) }
     ensures refused { result ≡ false → kept.new ≡ kept.old }
     ensures rest { KeepsRun kept.old kept.new }
 {
@@ -218,8 +217,8 @@ fn is_report(block: &Block) -> bool
 
 /// What a Transfer Event says, at the endpoint that it names, where that has a ring.
 fn report_on(kept: &mut Kept, block: &Block) -> bool
-    ensures change { (h : HeaderValue) (rows : List Row) (words : ℕ → ℕ) (w : World) → Follows h rows words kept.old w →
-        IsChange result (told h w block.now (w.ring_of (slot block.now) (endpoint block.now))) (Follows h rows words kept.new) }
+    ensures change { (h : HeaderValue) (words : ℕ → ℕ) (w : World) → Follows h words kept.old w →
+        IsChange result (told h w block.now (w.ring_of (slot block.now) (endpoint block.now))) (Follows h words kept.new) }
     ensures refused { result ≡ false → kept.new ≡ kept.old }
     ensures rest { KeepsRun kept.old kept.new }
 {
@@ -241,8 +240,8 @@ pub(crate) fn report<M: WordMemory>(
     step: u64,
 ) -> Result<Seen, StepFault>
     requires { step ≡ kept.old.progress.steps + 1 }
-    ensures step { (rows : List Row) (w : World) → Follows header.now rows (M.words memory.old) kept.old w →
-        IsStep result (reported header.now w block.now) (Posted (address_of (event_shape header.now) w.posted)) (Follows header.now rows (M.words memory.new) kept.new) }
+    ensures step { (w : World) → Follows header.now (M.words memory.old) kept.old w →
+        IsStep result (reported header.now w block.now) (Posted (address_of (event_shape header.now) w.posted)) (Follows header.now (M.words memory.new) kept.new) }
     ensures refused { result ≡ Err StepFault.NotPossible → kept.new ≡ kept.old }
     ensures memory { result ≡ Err StepFault.NotPossible → M.words memory.new ≡ M.words memory.old }
 {

@@ -5,8 +5,8 @@ ghost use Rattle.traces.specs.declared.header.Header.{Header as HeaderValue};
 ghost use Rattle.traces.specs.declared.row.Row.{Row as RowValue};
 ghost use Rattle.traces.specs.Header.{ring_with};
 ghost use Rattle.world_state.specs.World.{World};
-ghost use Rattle.traces.specs.declared.trace_row.TraceRow.{TraceRow as TraceRowValue};
-ghost use Rattle.world_state.specs.RingRows.{emptied, is_in_way, listed, may_come, without_descriptor, without_ring};
+ghost use Rattle.world_state.specs.RingRows.{emptied, is_in_way, listed, may_come, without_descriptor};
+ghost use Rattle.traces.specs.LivingRings.{without_ring};
 ghost use Rattle.controller_model.specs.RingHarms.{FollowsScene};
 ghost use Rattle.world_state.specs.Scenes.{Scene, with_coming};
 ghost use Rattle.controller_model.specs.declared.kept.Kept.{Kept as KeptValue};
@@ -19,8 +19,8 @@ use traces::{Header, Ring};
 
 /// Nothing is declared on the ring with this ID any more, and nothing has happened.
 fn empty(kept: &mut Kept, id: u8)
-    ensures { (h g : HeaderValue) (rows : List RowValue) (words : ℕ → ℕ) (w : World) → ((r : ℕ) → r ≢ id → ring_with g r ≡ ring_with h r) →
-        Follows h rows words kept.old w → Follows g rows words kept.new (emptied w id) }
+    ensures { (h g : HeaderValue) (words : ℕ → ℕ) (w : World) → ((r : ℕ) → r ≢ id → ring_with g r ≡ ring_with h r) →
+        Follows h words kept.old w → Follows g words kept.new (emptied w id) }
 {
     let state = &mut kept.rings[usize::from(id)];
     state.declared.clear();
@@ -91,7 +91,7 @@ fn may_come(live: &Header, ring: &Ring) -> bool
 
 /// A ring comes, and nothing has happened on it; where one that lives is in its way nothing is changed (xHCI 4.9).
 pub(crate) fn add_ring(rings: &mut Rings, kept: &mut Kept, ring: &Ring) -> Result<(), AllocError>
-    ensures { OnOk result ((rows : List TraceRowValue) (words : ℕ → ℕ) (x : Scene) → FollowsScene rings.old rows words kept.old x →
+    ensures { OnOk result ((rows : List RowValue) (words : ℕ → ℕ) (x : Scene) → FollowsScene rings.old rows words kept.old x →
         FollowsScene rings.new rows words kept.new (if may_come x.live ring.now then with_coming x ring.now else x)) }
 {
     if !may_come(&rings.live, ring) {
@@ -105,7 +105,7 @@ pub(crate) fn add_ring(rings: &mut Rings, kept: &mut Kept, ring: &Ring) -> Resul
 
 /// The life of the ring with this ID ends: it is declared still, with all that happened on it (xHCI 4.9).
 pub(crate) fn end_life(rings: &mut Rings, id: u8)
-    ensures { (rows : List TraceRowValue) (words : ℕ → ℕ) (k : KeptValue) (x : Scene) → FollowsScene rings.old rows words k x →
+    ensures { (rows : List RowValue) (words : ℕ → ℕ) (k : KeptValue) (x : Scene) → FollowsScene rings.old rows words k x →
         FollowsScene rings.new rows words k (record x { live = without_ring x.live id }) }
 {
     drop_ring(&mut rings.live, id);
@@ -113,8 +113,8 @@ pub(crate) fn end_life(rings: &mut Rings, id: u8)
 
 /// The descriptor that begins at a position of a ring is withdrawn (xHCI 4.6.9, 6.4.1.4.1).
 pub(crate) fn withdraw(kept: &mut Kept, ring: u8, position: u64)
-    ensures { (h : HeaderValue) (rows : List RowValue) (words : ℕ → ℕ) (w : World) → Follows h rows words kept.old w →
-        Follows h rows words kept.new (without_descriptor w ring position) }
+    ensures { (h : HeaderValue) (words : ℕ → ℕ) (w : World) → Follows h words kept.old w →
+        Follows h words kept.new (without_descriptor w ring position) }
 {
     let state = &mut kept.rings[usize::from(ring)];
     state.declared.withdraw(position);

@@ -1,6 +1,5 @@
-ghost use Rattle.std.specs.Prelude.{◌≡◌, ◌≢◌, ℕ, ◌+◌, ◌<◌, List, OnOk, OnErr, IfOk, length, Option, Some, None, is_ok};
+ghost use Rattle.std.specs.Prelude.{◌≡◌, ◌≢◌, ℕ, ◌+◌, ◌<◌, OnOk, OnErr, IfOk, length, Option, Some, None, is_ok};
 ghost use Rattle.traces.specs.declared.header.Header.{Header as HeaderValue};
-ghost use Rattle.traces.specs.declared.row.Row.{Row as RowValue};
 ghost use Rattle.world_state.specs.World.{World, stored};
 ghost use Rattle.world_state.specs.DriverRows.{declared, register_row, bell_row, event_read};
 ghost use Rattle.controller_model.specs.Following.{Follows};
@@ -21,8 +20,8 @@ pub(crate) fn write<M: WordMemory>(
     step: u64,
 ) -> Result<(), AllocError>
     requires { step ≡ kept.old.progress.steps + 1 }
-    ensures { OnOk result ((h : HeaderValue) (rows : List RowValue) (w : World) → Follows h rows (M.words memory.old) kept.old w →
-        Follows h rows (M.words memory.new) kept.new (stored w at word)) }
+    ensures { OnOk result ((h : HeaderValue) (w : World) → Follows h (M.words memory.old) kept.old w →
+        Follows h (M.words memory.new) kept.new (stored w at word)) }
 {
     store(memory, &mut kept.stamps, at, word, step)?;
     Ok(())
@@ -31,8 +30,8 @@ pub(crate) fn write<M: WordMemory>(
 /// The driver declares the blocks of one descriptor.
 pub(crate) fn declare(kept: &mut Kept, ring: u8, blocks: &[Block]) -> Result<(), AllocError>
     requires { 0 < length blocks.now }
-    ensures { OnOk result ((h : HeaderValue) (rows : List RowValue) (words : ℕ → ℕ) (w : World) → Follows h rows words kept.old w →
-        Follows h rows words kept.new (declared h w ring blocks.now)) }
+    ensures { OnOk result ((h : HeaderValue) (words : ℕ → ℕ) (w : World) → Follows h words kept.old w →
+        Follows h words kept.new (declared h w ring blocks.now)) }
 {
     let state = &mut kept.rings[usize::from(ring)];
     state.declared.declare(blocks)?;

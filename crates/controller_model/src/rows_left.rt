@@ -3,22 +3,22 @@ ghost use Rattle.std.specs.Option.{option_copied};
 ghost use Rattle.traces.specs.TraceRows.{IsTraceRow};
 
 use std::marker::Model;
-use traces::TraceRow;
+use traces::Row;
 
 /// The rows of a trace that are still to come. Contracts see the list.
 #[derive(Drop)]
 pub struct RowsLeft<'t> {
-    rows: &'t [TraceRow],
+    rows: &'t [Row],
     /// The number of the next row, from 0.
     next: usize,
 }
 
 impl<'t> Model for RowsLeft<'t> {
     ghost use Rattle.std.specs.Prelude.{All, List, drop};
-    ghost use Rattle.traces.specs.declared.trace_row.TraceRow.{TraceRow};
+    ghost use Rattle.traces.specs.declared.row.Row.{Row};
     ghost use Rattle.traces.specs.TraceRows.{IsTraceRow};
 
-    ghost Value = { List TraceRow };
+    ghost Value = { List Row };
 
     ghost view = { λ r. drop r.next r.rows.now };
 
@@ -27,7 +27,7 @@ impl<'t> Model for RowsLeft<'t> {
 
 impl<'t> RowsLeft<'t> {
     /// All of these rows.
-    pub(crate) fn new(rows: &'t [TraceRow]) -> RowsLeft<'t>
+    pub(crate) fn new(rows: &'t [Row]) -> RowsLeft<'t>
         requires { All IsTraceRow rows.now }
         ensures { result ≡ rows.now }
     {
@@ -35,7 +35,7 @@ impl<'t> RowsLeft<'t> {
     }
 
     /// The next row, if there is one.
-    pub(crate) fn first(&self) -> Option<&'t TraceRow>
+    pub(crate) fn first(&self) -> Option<&'t Row>
         ensures row { option_copied result ≡ slice_get self.now 0 }
         ensures fits { IfSome result (λ row. IsTraceRow row.now) }
     {

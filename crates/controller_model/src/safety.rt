@@ -2,17 +2,14 @@ ghost use Rattle.std.specs.Prelude.{◌≡◌, ℕ, ◌&&◌, ◌==◌, ◌-◌,
 ghost use Rattle.trb.specs.Block.{block_at, cycle as cycle_bit};
 ghost use Rattle.traces.specs.declared.header.Header.{Header as HeaderValue};
 ghost use Rattle.traces.specs.declared.row.Row.{Row as RowValue};
-ghost use Rattle.traces.specs.Header.{event_size, shape_of};
+ghost use Rattle.traces.specs.Header.{event_size, shape_of, ring_with};
 ghost use Rattle.world_state.specs.World.{World};
 ghost use Rattle.world_state.specs.Harms.{harm_of, has_changed_context, has_other_words, is_inside_descriptor, is_out_of_order, waits};
 ghost use Rattle.traces.specs.declared.step.Step.TheVariants.{Look};
-ghost use Rattle.world_state.specs.DriverRows.{row_done};
 ghost use Rattle.world_state.specs.Steps.{stepped};
-ghost use Rattle.world_state.specs.Scenes.{Scene, step_made};
-ghost use Rattle.traces.specs.declared.trace_row.TraceRow.{TraceRow as TraceRowValue};
+ghost use Rattle.world_state.specs.Scenes.{Scene, row_made, step_made};
 ghost use Rattle.controller_model.specs.declared.kept.Kept.{Kept as KeptValue};
 ghost use Rattle.controller_model.specs.declared.life.Rings.{Rings as RingsValue};
-ghost use Rattle.traces.specs.Header.{ring_with};
 ghost use Rattle.controller_model.specs.Following.{Follows, FollowsRing, ring_held};
 ghost use Rattle.controller_model.specs.RingHarms.{FollowsScene, HasRingHarms};
 
@@ -23,7 +20,7 @@ use crate::memory::word_at;
 use crate::posts::event_ring;
 use crate::rows_left::RowsLeft;
 use guest_memory::WordMemory;
-use traces::{Header, Row, Step, TraceRow};
+use traces::{Header, Row, Step};
 use world_state::Harm;
 
 /// Which harms the takes and the waiting of some ring show.
@@ -36,7 +33,7 @@ pub struct RingHarms {
 
 /// The harms of all rings.
 pub(crate) fn ring_harms<M: WordMemory>(header: &Header, memory: &M, kept: &Kept) -> RingHarms
-    ensures { (rows : List RowValue) (w : World) → Follows header.now rows (M.words memory.now) kept.now w → HasRingHarms header.now w result }
+    ensures { (w : World) → Follows header.now (M.words memory.now) kept.now w → HasRingHarms header.now w result }
 {
     let mut harms = RingHarms {
         out_of_order: false,
@@ -78,7 +75,7 @@ fn waits_inside<M: WordMemory>(memory: &M, state: &RingState) -> bool
 /// Whether the controller posted over an unread event (xHCI 4.9.4).
 #[tactic(auto, using(crate::proofs::SafetyLemmas::posts_nowhere, crate::proofs::SafetyLemmas::posts_there), unfolding(traces::specs::Header::event_shape))]
 fn posts_over_unread(header: &Header, kept: &Kept) -> bool
-    ensures { (rows : List RowValue) (words : ℕ → ℕ) (w : World) → Follows header.now rows words kept.now w →
+    ensures { (words : ℕ → ℕ) (w : World) → Follows header.now words kept.now w →
         result ≡ (nat_lt 0 (event_size header.now) && nat_le (event_size header.now) (w.posted - w.reads)) }
 {
     match event_ring(header) {
@@ -93,7 +90,7 @@ fn posts_over_unread(header: &Header, kept: &Kept) -> bool
 /// Whether the input context of the command under way was changed since its control word was last written (xHCI 4.6, 6.2.5).
 #[tactic(auto, using(crate::proofs::SafetyLemmas::context_idle, crate::proofs::SafetyLemmas::context_of_none, crate::proofs::SafetyLemmas::context_unnamed))]
 fn has_changed_context(header: &Header, kept: &Kept) -> bool
-    ensures { (rows : List RowValue) (words : ℕ → ℕ) (w : World) → Follows header.now rows words kept.now w →
+    ensures { (words : ℕ → ℕ) (w : World) → Follows header.now words kept.now w →
         result ≡ has_changed_context header.now w w.under_way }
 {
     let pending = match kept.under_way {
@@ -144,8 +141,8 @@ fn harms_after_look<M: WordMemory>(
     before: RingHarms,
     ring: u8,
 ) -> RingHarms
-    ensures { (live : HeaderValue) (rows : List RowValue) (w v : World) → HasRingHarms header.now w before → stepped header.now live w (Look ring) ≡ Some v →
-        Follows header.now rows (M.words memory.now) kept.now v → HasRingHarms header.now v result }
+    ensures { (live : HeaderValue) (w v : World) → HasRingHarms header.now w before → stepped header.now live w (Look ring) ≡ Some v →
+        Follows header.now (M.words memory.now) kept.now v → HasRingHarms header.now v result }
 {
     if is_any(before) {
         return ring_harms(header, memory, kept);
@@ -164,7 +161,7 @@ pub(crate) fn harms_after<M: WordMemory>(
     before: RingHarms,
     step: &Step,
 ) -> RingHarms
-    ensures { (rows : List TraceRowValue) (x y : Scene) → HasRingHarms x.header x.world before → step_made x step.now ≡ Some y →
+    ensures { (rows : List RowValue) (x y : Scene) → HasRingHarms x.header x.world before → step_made x step.now ≡ Some y →
         FollowsScene rings.now rows (M.words memory.now) kept.now y → HasRingHarms y.header y.world result }
 {
     let header = &rings.declared;
@@ -177,8 +174,8 @@ pub(crate) fn harms_after<M: WordMemory>(
 /// Whether a row surely leaves the rings' harms as they are: it declares blocks, reads an event, or writes a word that keeps its
 /// lowest bit, where a control word has the Cycle bit.
 fn keeps_harms<M: WordMemory>(memory: &M, row: &Row) -> bool
-    ensures { (h : HeaderValue) (w v : World) (x : RingHarms) → M.words memory.now ≡ w.memory → result ≡ true → row_done h w row.now ≡ Some v →
-        HasRingHarms h w x → HasRingHarms h v x }
+    ensures { (x y : Scene) (harms : RingHarms) → M.words memory.now ≡ x.world.memory → result ≡ true → row_made x row.now ≡ Some y →
+        HasRingHarms x.header x.world harms → HasRingHarms y.header y.world harms }
 {
     match row {
         Row::Sub { .. } => true,
@@ -195,8 +192,8 @@ pub(crate) fn is_quiet<M: WordMemory>(left: &RowsLeft, memory: &M, step: &Step) 
 {
     match step {
         Step::NextRow => match left.first() {
-            Some(TraceRow::Plain(row)) => keeps_harms(memory, row),
-            _ => false,
+            Some(row) => keeps_harms(memory, row),
+            None => false,
         },
         _ => false,
     }
@@ -205,7 +202,7 @@ pub(crate) fn is_quiet<M: WordMemory>(left: &RowsLeft, memory: &M, step: &Step) 
 /// The least harm of a world with these harms of its rings.
 #[tactic(auto, using(crate::proofs::SafetyLemmas::harm_is))]
 pub(crate) fn harm_of(header: &Header, kept: &Kept, rings: RingHarms) -> Option<Harm>
-    ensures { (rows : List RowValue) (words : ℕ → ℕ) (w : World) → Follows header.now rows words kept.now w → HasRingHarms header.now w rings →
+    ensures { (words : ℕ → ℕ) (w : World) → Follows header.now words kept.now w → HasRingHarms header.now w rings →
         result ≡ harm_of header.now w }
 {
     if rings.out_of_order {

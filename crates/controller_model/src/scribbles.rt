@@ -1,10 +1,9 @@
-ghost use Rattle.std.specs.Prelude.{◌≡◌, ℕ, ◌+◌, ◌&&◌, ◌*◌, ◌^◌, ◌≤◌, ◌<◌, ◌%◌, Err, List};
+ghost use Rattle.std.specs.Prelude.{◌≡◌, ℕ, ◌+◌, ◌&&◌, ◌*◌, ◌^◌, ◌≤◌, ◌<◌, ◌%◌, Err};
 ghost use Rattle.guest_memory.specs.Memory.{long_at};
 ghost use Rattle.std.specs.List.{list_any, range_with_len};
 ghost use Rattle.segments.specs.Places.{is_in};
 ghost use Rattle.contexts.specs.Contexts.{device_context, device_context_bytes};
 ghost use Rattle.traces.specs.declared.header.Header.{Header as HeaderValue};
-ghost use Rattle.traces.specs.declared.row.Row.{Row as RowValue};
 ghost use Rattle.world_state.specs.World.{World};
 ghost use Rattle.controller_model.specs.declared.seen.Seen.TheVariants.{Scribbled};
 ghost use Rattle.world_state.specs.Steps.{scribbled, is_scribbled};
@@ -48,7 +47,7 @@ fn is_in(address: u64, base: u64, size: ContextSize) -> bool
 /// Whether the word at an address belongs to the device context of a slot, and the controller may write that.
 #[tactic(auto, unfolding(world_state::specs::Steps::is_scribbled))]
 fn is_scribbled<M: WordMemory>(header: &Header, memory: &M, kept: &Kept, at: Addr, slot: u8) -> bool
-    ensures { (rows : List RowValue) (w : World) → Follows header.now rows (M.words memory.now) kept.now w →
+    ensures { (w : World) → Follows header.now (M.words memory.now) kept.now w →
         result ≡ is_scribbled header.now w at slot }
 {
     if !kept.slots[usize::from(slot)].scribbles {
@@ -61,7 +60,7 @@ fn is_scribbled<M: WordMemory>(header: &Header, memory: &M, kept: &Kept, at: Add
 /// Whether the word at an address belongs to a device context that the controller may write.
 #[tactic(auto, using(world_state::proofs::Ranges::none_in_range))]
 fn may_scribble<M: WordMemory>(header: &Header, memory: &M, kept: &Kept, at: Addr) -> bool
-    ensures { (rows : List RowValue) (w : World) → Follows header.now rows (M.words memory.now) kept.now w →
+    ensures { (w : World) → Follows header.now (M.words memory.now) kept.now w →
         result ≡ list_any (is_scribbled header.now w at) (range_with_len 0 256) }
 {
     for slot in 0..=255 {
@@ -82,8 +81,8 @@ pub(crate) fn scribble<M: WordMemory>(
     step: u64,
 ) -> Result<Seen, StepFault>
     requires { step ≡ kept.old.progress.steps + 1 }
-    ensures step { (rows : List RowValue) (w : World) → Follows header.now rows (M.words memory.old) kept.old w →
-        IsStep result (scribbled header.now w at word) Scribbled (Follows header.now rows (M.words memory.new) kept.new) }
+    ensures step { (w : World) → Follows header.now (M.words memory.old) kept.old w →
+        IsStep result (scribbled header.now w at word) Scribbled (Follows header.now (M.words memory.new) kept.new) }
     ensures refused { result ≡ Err StepFault.NotPossible → kept.new ≡ kept.old }
     ensures memory { result ≡ Err StepFault.NotPossible → M.words memory.new ≡ M.words memory.old }
 {

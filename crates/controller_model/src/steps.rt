@@ -1,7 +1,6 @@
-ghost use Rattle.std.specs.Prelude.{◌≡◌, ◌≢◌, ℕ, ◌+◌, Err, List, OnOk};
+ghost use Rattle.std.specs.Prelude.{◌≡◌, ◌≢◌, ℕ, ◌+◌, Err, OnOk};
 ghost use Rattle.traces.specs.declared.step.Step.TheVariants.{NextRow};
 ghost use Rattle.traces.specs.declared.header.Header.{Header as HeaderValue};
-ghost use Rattle.traces.specs.declared.row.Row.{Row as RowValue};
 ghost use Rattle.world_state.specs.World.{World};
 ghost use Rattle.controller_model.specs.Showing.{shows};
 ghost use Rattle.world_state.specs.Steps.{counted, made, stepped};
@@ -26,8 +25,8 @@ use traces::{Header, Step};
 
 /// One more step was made.
 pub(crate) fn count(kept: &mut Kept) -> Result<(), AllocError>
-    ensures { OnOk result ((h : HeaderValue) (rows : List RowValue) (words : ℕ → ℕ) (w : World) → Follows h rows words kept.old w →
-        Follows h rows words kept.new (counted h w)) }
+    ensures { OnOk result ((h : HeaderValue) (words : ℕ → ℕ) (w : World) → Follows h words kept.old w →
+        Follows h words kept.new (counted h w)) }
 {
     let steps = kept.progress.steps.checked_add(1);
     kept.progress.steps = steps.ok_or(AllocError)?;
@@ -43,9 +42,9 @@ fn make<M: WordMemory>(
     number: u64,
 ) -> Result<Seen, StepFault>
     requires { number ≡ kept.old.progress.steps + 1 }
-    ensures step { (rows : List RowValue) (w : World) → step.now ≢ NextRow → Lists rings.now.declared rings.now.live →
-        Follows rings.now.declared rows (M.words memory.old) kept.old w →
-        IsStep result (made rings.now.declared rings.now.live w step.now) (shows rings.now.declared w step.now) (Follows rings.now.declared rows (M.words memory.new) kept.new) }
+    ensures step { (w : World) → step.now ≢ NextRow → Lists rings.now.declared rings.now.live →
+        Follows rings.now.declared (M.words memory.old) kept.old w →
+        IsStep result (made rings.now.declared rings.now.live w step.now) (shows rings.now.declared w step.now) (Follows rings.now.declared (M.words memory.new) kept.new) }
     ensures refused { result ≡ Err StepFault.NotPossible → kept.new ≡ kept.old }
     ensures memory { result ≡ Err StepFault.NotPossible → M.words memory.new ≡ M.words memory.old }
 {
@@ -72,9 +71,9 @@ fn make_counted<M: WordMemory>(
     number: u64,
 ) -> Result<Seen, StepFault>
     requires { number ≡ kept.old.progress.steps + 1 }
-    ensures step { (rows : List RowValue) (w : World) → step.now ≢ NextRow → Lists rings.now.declared rings.now.live →
-        Follows rings.now.declared rows (M.words memory.old) kept.old w →
-        IsStep result (stepped rings.now.declared rings.now.live w step.now) (shows rings.now.declared w step.now) (Follows rings.now.declared rows (M.words memory.new) kept.new) }
+    ensures step { (w : World) → step.now ≢ NextRow → Lists rings.now.declared rings.now.live →
+        Follows rings.now.declared (M.words memory.old) kept.old w →
+        IsStep result (stepped rings.now.declared rings.now.live w step.now) (shows rings.now.declared w step.now) (Follows rings.now.declared (M.words memory.new) kept.new) }
     ensures refused { result ≡ Err StepFault.NotPossible → kept.new ≡ kept.old }
     ensures memory { result ≡ Err StepFault.NotPossible → M.words memory.new ≡ M.words memory.old }
 {

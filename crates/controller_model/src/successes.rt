@@ -1,11 +1,10 @@
-ghost use Rattle.std.specs.Prelude.{◌≡◌, ℕ, ◌+◌, ◌%◌, ◌≤◌, ◌^◌, nat_lt, true, is_some, List, Some};
+ghost use Rattle.std.specs.Prelude.{◌≡◌, ℕ, ◌+◌, ◌%◌, ◌≤◌, ◌^◌, nat_lt, true, is_some, Some};
 ghost use Rattle.commands.specs.Changes.{changes};
 ghost use Rattle.commands.specs.Command.{named_context, named_endpoint, named_slot};
 ghost use Rattle.commands.specs.States.{can_succeed, endpoint_meant, endpoint_success, is_slot_enabled, slot_meant, slot_success};
 ghost use Rattle.contexts.specs.Contexts.{context_pointer, input_context_bytes};
 ghost use Rattle.traces.specs.declared.header.Header.{Header as HeaderValue};
 ghost use Rattle.traces.specs.declared.register.Register.TheVariants.{Config};
-ghost use Rattle.traces.specs.declared.row.Row.{Row};
 ghost use Rattle.traces.specs.Header.{ring_having};
 ghost use Rattle.traces.specs.Register.{register_or_zero};
 ghost use Rattle.world_state.specs.World.{World};
@@ -56,7 +55,7 @@ fn slot_meant(command: &Command, slot: u8) -> u8
 
 /// Whether the command can succeed from the state of the slot that it means (xHCI 4.5.3).
 fn slot_allows(kept: &Kept, command: &Command, slot: u8) -> bool
-    ensures { (h : HeaderValue) (rows : List Row) (words : ℕ → ℕ) (w : World) → Follows h rows words kept.now w →
+    ensures { (h : HeaderValue) (words : ℕ → ℕ) (w : World) → Follows h words kept.now w →
         result ≡ is_some (slot_success command.now (w.slot_state (slot_meant slot (named_slot command.now)))) }
 {
     let meant = slot_meant(command, slot);
@@ -67,7 +66,7 @@ fn slot_allows(kept: &Kept, command: &Command, slot: u8) -> bool
 /// The state of the endpoint that the command names.
 fn endpoint_meant(kept: &Kept, command: &Command) -> EndpointState
     requires { IsWell command.now }
-    ensures { (h : HeaderValue) (rows : List Row) (words : ℕ → ℕ) (w : World) → Follows h rows words kept.now w →
+    ensures { (h : HeaderValue) (words : ℕ → ℕ) (w : World) → Follows h words kept.now w →
         result ≡ endpoint_meant w.endpoint_state (named_endpoint command.now) }
 {
     match command.endpoint() {
@@ -79,7 +78,7 @@ fn endpoint_meant(kept: &Kept, command: &Command) -> EndpointState
 /// Whether the command can succeed from the state of the endpoint that it names (xHCI 4.8.3).
 fn endpoint_allows(kept: &Kept, command: &Command) -> bool
     requires { IsWell command.now }
-    ensures { (h : HeaderValue) (rows : List Row) (words : ℕ → ℕ) (w : World) → Follows h rows words kept.now w →
+    ensures { (h : HeaderValue) (words : ℕ → ℕ) (w : World) → Follows h words kept.now w →
         result ≡ is_some (endpoint_success command.now (endpoint_meant w.endpoint_state (named_endpoint command.now))) }
 {
     endpoint_meant(kept, command).after(command, 1).is_some()
@@ -99,7 +98,7 @@ fn is_slot_enabled(config: u64, command: &Command, slot: u8) -> bool
 #[tactic(auto, unfolding(commands::specs::States::can_succeed))]
 fn can_succeed(kept: &Kept, command: &Command, slot: u8) -> bool
     requires { IsWell command.now }
-    ensures { (h : HeaderValue) (rows : List Row) (words : ℕ → ℕ) (w : World) → Follows h rows words kept.now w →
+    ensures { (h : HeaderValue) (words : ℕ → ℕ) (w : World) → Follows h words kept.now w →
         result ≡ can_succeed w.slot_state w.endpoint_state (register_or_zero w.register Config) slot command.now }
 {
     let slot_allows = slot_allows(kept, command, slot);
@@ -118,7 +117,7 @@ fn can_address<M: WordMemory>(
 ) -> bool
     requires aligned { context % 16 ≡ 0 }
     requires end { context + input_context_bytes header.now.context_size ≤ 2 ^ 64 }
-    ensures { (h : HeaderValue) (rows : List Row) (words : ℕ → ℕ) (w : World) → Follows h rows words kept.now w →
+    ensures { (h : HeaderValue) (words : ℕ → ℕ) (w : World) → Follows h words kept.now w →
         result ≡ may_get w slot 1 (ring_having header.now (context_pointer header.now.context_size (M.words memory.now) context 1)) }
 {
     let pointer = context_of(memory, header.context_size, context, 1).pointer;
@@ -130,7 +129,7 @@ fn can_address<M: WordMemory>(
 fn can_apply<M: WordMemory>(header: &Header, memory: &M, kept: &Kept, command: &Command) -> bool
     requires well { IsWell command.now }
     requires end { HasRoom header.now.context_size command.now }
-    ensures { (h : HeaderValue) (rows : List Row) (words : ℕ → ℕ) (n : ℕ) (w : World) → Follows h rows words kept.now w →
+    ensures { (h : HeaderValue) (words : ℕ → ℕ) (n : ℕ) (w : World) → Follows h words kept.now w →
         result ≡ is_some (changed_by_all header.now command.now w (changes header.now.context_size (M.words memory.now) n command.now)) }
 {
     match *command {
@@ -163,7 +162,7 @@ pub(crate) fn succeeds<M: WordMemory>(
     slot: u8,
 ) -> bool
     requires { IsWell command.now }
-    ensures value { (h : HeaderValue) (rows : List Row) (w : World) → Follows h rows (M.words memory.now) kept.now w →
+    ensures value { (h : HeaderValue) (w : World) → Follows h (M.words memory.now) kept.now w →
         result ≡ is_some (succeeded header.now w slot (Some command.now)) }
     ensures room { result ≡ true → HasRoom header.now.context_size command.now }
 {

@@ -1,10 +1,9 @@
-ghost use Rattle.std.specs.Prelude.{◌≡◌, ℕ, ◌+◌, ◌<◌, ◌%◌, ◌≤◌, ◌^◌, ◌==◌, ◌&&◌, ◌||◌, not, false, true, if◌then◌else◌, length, is_some, List, Option, Some, None};
+ghost use Rattle.std.specs.Prelude.{◌≡◌, ℕ, ◌+◌, ◌<◌, ◌%◌, ◌≤◌, ◌^◌, ◌==◌, ◌&&◌, ◌||◌, not, false, true, if◌then◌else◌, length, is_some, Option, Some, None};
 ghost use Rattle.commands.specs.declared.command.Command.{Command};
 ghost use Rattle.commands.specs.declared.command.Command.TheVariants.{ConfigureEndpoint};
 ghost use Rattle.commands.specs.Changes.{changes};
 ghost use Rattle.contexts.specs.Contexts.{input_context_bytes};
 ghost use Rattle.traces.specs.declared.header.Header.{Header as HeaderValue};
-ghost use Rattle.traces.specs.declared.row.Row.{Row};
 ghost use Rattle.traces.specs.Header.{is_ring};
 ghost use Rattle.world_state.specs.World.{World};
 ghost use Rattle.world_state.specs.Bindings.{changed_by_all, is_had_by_another};
@@ -71,7 +70,7 @@ fn has_own(rings: &[Option<u8>], index: u8, ring: u8) -> bool
 
 /// Whether another endpoint has the ring, where those of a slot have these.
 fn is_held(kept: &Kept, rings: &[Option<u8>], slot: u8, index: u8, ring: u8) -> bool
-    ensures { (h : HeaderValue) (rows : List Row) (words : ℕ → ℕ) (w v : World) → Follows h rows words kept.now w → Sees rings.now slot w v →
+    ensures { (h : HeaderValue) (words : ℕ → ℕ) (w v : World) → Follows h words kept.now w → Sees rings.now slot w v →
         result ≡ is_had_by_another v slot index ring }
 {
     let elsewhere = is_elsewhere(ring_state(kept, ring).holder, slot);
@@ -95,9 +94,9 @@ fn try_added<M: WordMemory>(
     requires end { context + input_context_bytes header.now.context_size ≤ 2 ^ 64 }
     requires first { 1 ≤ index }
     requires last { index < 32 }
-    ensures refused { (h : HeaderValue) (rows : List Row) (words : ℕ → ℕ) (c : Command) (w v : World) → result ≡ false → Follows h rows words kept.now w → Sees rings.old slot w v →
+    ensures refused { (h : HeaderValue) (words : ℕ → ℕ) (c : Command) (w v : World) → result ≡ false → Follows h words kept.now w → Sees rings.old slot w v →
         changed_by_all header.now c v (places_from header.now.context_size (M.words memory.now) slot context index) ≡ None }
-    ensures made { (h : HeaderValue) (rows : List Row) (words : ℕ → ℕ) (c : Command) (w v : World) → result ≡ true → Follows h rows words kept.now w → Sees rings.old slot w v →
+    ensures made { (h : HeaderValue) (words : ℕ → ℕ) (c : Command) (w v : World) → result ≡ true → Follows h words kept.now w → Sees rings.old slot w v →
         GoesOnAs rings.new slot w
         (changed_by_all header.now c v (places_from header.now.context_size (M.words memory.now) slot context index))
         (λ u. changed_by_all header.now c u (places_from header.now.context_size (M.words memory.now) slot context (index + 1))) }
@@ -129,7 +128,7 @@ pub(crate) fn can_add_all<M: WordMemory>(
     requires many { length rings.old ≡ 32 }
     requires aligned { context % 16 ≡ 0 }
     requires end { context + input_context_bytes header.now.context_size ≤ 2 ^ 64 }
-    ensures { (h : HeaderValue) (rows : List Row) (words : ℕ → ℕ) (c : Command) (w v : World) → Follows h rows words kept.now w → Sees rings.old slot w v →
+    ensures { (h : HeaderValue) (words : ℕ → ℕ) (c : Command) (w v : World) → Follows h words kept.now w → Sees rings.old slot w v →
         result ≡ is_some (changed_by_all header.now c v (places_from header.now.context_size (M.words memory.now) slot context 2)) }
 {
     for index in 2..32 {
@@ -143,7 +142,7 @@ pub(crate) fn can_add_all<M: WordMemory>(
 /// The ring that an endpoint has behind the drops of a command.
 fn left_at(kept: &Kept, slot: u8, named: Named, index: u8) -> Option<u8>
     requires { index < 32 }
-    ensures { (h : HeaderValue) (rows : List Row) (words : ℕ → ℕ) (w : World) → Follows h rows words kept.now w →
+    ensures { (h : HeaderValue) (words : ℕ → ℕ) (w : World) → Follows h words kept.now w →
         result ≡ (if named_by named index then None else w.ring_of slot index) }
 {
     if is_named(named, index) {
@@ -155,7 +154,7 @@ fn left_at(kept: &Kept, slot: u8, named: Named, index: u8) -> Option<u8>
 
 /// The rings that a slot's endpoints have behind the drops of a command.
 fn left(kept: &Kept, slot: u8, named: Named) -> [Option<u8>; 32]
-    ensures { (h : HeaderValue) (rows : List Row) (words : ℕ → ℕ) (w : World) → Follows h rows words kept.now w →
+    ensures { (h : HeaderValue) (words : ℕ → ℕ) (w : World) → Follows h words kept.now w →
         (j : ℕ) → j < 32 → own_ring result j ≡ (if named_by named j then None else w.ring_of slot j) }
 {
     let mut rings = [None; 32];
@@ -176,7 +175,7 @@ pub(crate) fn can_configure<M: WordMemory>(
 ) -> bool
     requires aligned { context % 16 ≡ 0 }
     requires end { HasRoom header.now.context_size (ConfigureEndpoint slot deconfigure context) }
-    ensures { (h : HeaderValue) (rows : List Row) (words : ℕ → ℕ) (c : Command) (n : ℕ) (w : World) → Follows h rows words kept.now w →
+    ensures { (h : HeaderValue) (words : ℕ → ℕ) (c : Command) (n : ℕ) (w : World) → Follows h words kept.now w →
         result ≡ is_some (changed_by_all header.now c w (changes header.now.context_size (M.words memory.now) n (ConfigureEndpoint slot deconfigure context))) }
 {
     if deconfigure {

@@ -5,6 +5,7 @@ pub mod Came
 pub mod Went
 pub mod AtRest
 pub mod OneRing
+pub mod KeptRings
 pub mod Withdrawn
 pub mod PassedFlips
 pub mod GivenAt

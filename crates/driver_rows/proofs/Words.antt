@@ -19,7 +19,7 @@ pub use Rattle.driver_rows.specs.RingBindings.Slots.{is_below, names_below}
 pub use Rattle.driver_rows.specs.RingRows.GivenCommands.{GivesCommandAt}
 pub use Rattle.driver_rows.specs.RingRows.RingSteps.{HasOneMore, IsClear, IsTransferAt}
 pub use Rattle.driver_rows.specs.RingRows.Withdrawing.{NamesTransfer}
-unfoldable pub use Rattle.driver_rows.specs.RingRows.Withdrawing.{is_no_descriptor, is_passed, withdraws_badly}
+unfoldable pub use Rattle.ownership_rules.specs.Withdrawals.{is_no_descriptor, is_passed, withdraws_badly}
 pub use Rattle.driver_rows.specs.WriteEffects.Starting.{EntryFits, IsInserted, IsWith, LiesOnWords, MayBeGiven, address_taken, binds_ring_if}
 pub use Rattle.driver_rows.specs.declared.bindings.binding.RingBinding.{RingBinding}
 pub use Rattle.driver_rows.specs.declared.bindings.context.Bound.{Bound}

@@ -16,11 +16,9 @@ use ring_findings::{
     GoingOn, bad_descriptor, bad_free, bad_ring, bad_withdraw, link_fault, never_submitted,
     not_as_submitted, not_declared, not_restored, not_whole, ring_full, write_to_owned,
 };
-use row_history::{
-    Case, Finding, NOT_JUDGED, command_at, general_head, known_after, line_of, why_refused,
-};
+use row_history::{Case, Finding, command_at, general_head, known_after, line_of, why_refused};
 use std::alloc::{AllocError, Global};
-use traces::{Row, Trace, TraceRow};
+use traces::{Row, Trace};
 
 /// What is told of a refused row of a text, of which the lines up to that row are read again.
 pub fn explain_refused(
@@ -98,48 +96,43 @@ pub fn diagnostic_of(
     let rows = trace.rows.as_slice();
     let index = (row.saturating_sub(trace.first) as usize).min(rows.len());
     let behind = known_after(alloc, &trace.header, &rows[..index])?;
-    let case = Case {
-        alloc,
-        header: &behind.header,
-        first: trace.first,
-        before: &rows[..index],
-        known: &behind.known,
-    };
-    let finding = match rows.get(index) {
-        Some(refused) => finding_of(&case, refused, refusal)?,
-        None => general(&case, refusal)?,
-    };
-    diagnosed(&case, text, row, refusal, finding)
+    let mut case = Case::new(alloc, trace.first, &rows[..index], &behind);
+    match rows.get(index) {
+        Some(refused) => tell(&mut case, refused, refusal),
+        None => tell_rule(&mut case, refusal),
+    }
+    let matter = Matter::Rule(refusal);
+    diagnosed(alloc, text, trace.first, row, matter, case.finding()?)
 }
 
-/// The diagnostic of a row of which this was found.
-fn diagnosed(
-    case: &Case,
+/// The diagnostic of a line of which this was found, in a text whose first row stands at `first`.
+pub(crate) fn diagnosed(
+    alloc: Global,
     text: &[u8],
-    row: u32,
-    refusal: Refusal,
+    first: u32,
+    line: u32,
+    matter: Matter,
     finding: Finding,
 ) -> Result<Diagnostic, AllocError>
-    ensures rule { IfOk result (λ diagnostic. diagnostic.matter ≡ Matter.Rule refusal) }
-    ensures row { IfOk result (λ diagnostic. diagnostic.refused.line ≡ row) }
+    ensures matter { IfOk result (λ diagnostic. diagnostic.matter ≡ matter) }
+    ensures line { IfOk result (λ diagnostic. diagnostic.refused.line ≡ line) }
 {
-    let alloc = case.alloc;
     let Finding {
         head,
         here,
         earlier,
         notes,
         help,
+        unjudged,
     } = finding;
     let earlier = match earlier {
-        Some(mark) => Some(quote(alloc, text, line_of(case.first, mark.index), mark.label)?),
+        Some(mark) => Some(quote(alloc, text, line_of(first, mark.index), mark.label)?),
         None => None,
     };
-    let unjudged = notes.iter().any(|note| note.as_str() == NOT_JUDGED);
     Ok(Diagnostic {
-        matter: Matter::Rule(refusal),
+        matter,
         head,
-        refused: quote(alloc, text, row, here)?,
+        refused: quote(alloc, text, line, here)?,
         earlier,
         notes,
         help,
@@ -147,104 +140,93 @@ fn diagnosed(
     })
 }
 
-/// What is found of a row that breaks a rule.
-fn finding_of(case: &Case, row: &TraceRow, refusal: Refusal) -> Result<Finding, AllocError> {
+/// Says what is found of a row that breaks a rule.
+fn tell(case: &mut Case, row: &Row, refusal: Refusal) {
     match (refusal, row) {
         (Refusal::AfterStop, _) => after_stop(case),
-        (_, TraceRow::Plain(row)) => found_of_driver(case, row, refusal),
-        (Refusal::BadRing, TraceRow::Comes(ring)) => bad_ring(case, ring.as_ring()),
-        (Refusal::BadFree, TraceRow::Goes(id)) => bad_free(case, *id),
-        (Refusal::BadWithdraw, TraceRow::Withdraws { ring, position }) => {
-            bad_withdraw(case, *ring, *position)
+        (Refusal::NotInProfile, _) => not_in_profile(case, row),
+        (Refusal::BadRing, Row::Ring { ring }) => bad_ring(case, ring.as_ring()),
+        (Refusal::BadFree, Row::Free { ring }) => bad_free(case, *ring),
+        (Refusal::BadWithdraw, Row::Nop { ring, position }) => {
+            bad_withdraw(case, *ring, *position);
         }
-        _ => general(case, refusal),
+        _ => tell_driver(case, row, refusal),
     }
 }
 
-/// What is found of what the driver did, or of an event that it read, where that breaks a rule.
-fn found_of_driver(case: &Case, row: &Row, refusal: Refusal) -> Result<Finding, AllocError> {
+/// Says what is found of what the driver did, or of an event that it read, where that breaks a rule.
+fn tell_driver(case: &mut Case, row: &Row, refusal: Refusal) {
     match (refusal, row) {
-        (Refusal::WriteToOwned, Row::Write { at, word }) => write_to_owned(case, at.get(), *word),
         (Refusal::NotDeclared, Row::Sub { ring, .. }) => not_declared(case, *ring),
-        (Refusal::LinkFault, Row::Write { at, word }) => link_fault(case, at.get(), *word),
         (Refusal::RingFull, Row::Sub { ring, blocks }) => {
-            ring_full(case, *ring, blocks.as_slice().len())
+            ring_full(case, *ring, blocks.as_slice().len());
         }
         (Refusal::BadDescriptor, Row::Sub { ring, blocks }) => {
-            bad_descriptor(case, *ring, blocks.as_slice())
+            bad_descriptor(case, *ring, blocks.as_slice());
         }
         (Refusal::BadRegister, Row::Reg { register, value }) => {
-            bad_register(case, *register, *value)
+            bad_register(case, *register, *value);
         }
         (Refusal::BadErdp, Row::Reg { value, .. }) => bad_erdp(case, *value),
         (Refusal::BadDoorbell, Row::Bell { slot, target }) => bad_doorbell(case, *slot, *target),
         (Refusal::ImpossibleEvent, Row::Read { event }) => impossible_event(case, *event),
-        (Refusal::NotInProfile, row) => not_in_profile(case, row),
         (Refusal::NotRestored, Row::Bell { slot, target }) => {
-            let found = bell_unrestored(case, *slot, *target)?;
-            found_or_general(case, refusal, found)
+            let (slot, target) = (*slot, *target);
+            if !tell_unrestored(case, slot, target, GoingOn::Bell { slot, target }) {
+                tell_rule(case, refusal);
+            }
         }
         (_, Row::Write { at, word }) => {
-            let found = found_of_write(case, *at, *word, refusal)?;
-            found_or_general(case, refusal, found)
+            if !tell_write(case, *at, *word, refusal) {
+                tell_rule(case, refusal);
+            }
         }
-        _ => general(case, refusal),
+        _ => tell_rule(case, refusal),
     }
 }
 
-/// What is found of a write, by which rings and commands are looked at.
-fn found_of_write(
-    case: &Case,
-    at: Addr,
-    word: u32,
-    refusal: Refusal,
-) -> Result<Option<Finding>, AllocError> {
+/// Says what is found of a write, by which memory, rings and commands are looked at. Whether something is found.
+fn tell_write(case: &mut Case, at: Addr, word: u32, refusal: Refusal) -> bool {
     match refusal {
+        Refusal::WriteToOwned => {
+            write_to_owned(case, at.get(), word);
+            true
+        }
+        Refusal::LinkFault => {
+            link_fault(case, at.get(), word);
+            true
+        }
         Refusal::BadMove => bad_move(case, at.get(), word),
         Refusal::NotAsSubmitted => not_as_submitted(case, at, word),
         Refusal::NotDeclared => never_submitted(case, at, word),
         Refusal::NotWhole => not_whole(case, at, word),
         Refusal::BadCommand => bad_command(case, at.get(), word),
         Refusal::Busy => busy(case, at, word),
-        Refusal::NotRestored => move_unrestored(case, at.get(), word),
-        _ => Ok(None),
+        Refusal::NotRestored => match command_at(case, at.get(), word) {
+            Some(Command::SetTrDequeue { slot, endpoint, .. }) => {
+                tell_unrestored(case, slot, endpoint, GoingOn::Move)
+            }
+            _ => false,
+        },
+        _ => false,
     }
 }
 
-/// A doorbell that lets a ring go on before its withdrawn TDs are No Ops.
-fn bell_unrestored(case: &Case, slot: u8, target: u8) -> Result<Option<Finding>, AllocError> {
-    match case.known.devices.ring_of(slot, target) {
-        Some(id) => not_restored(case, id, GoingOn::Bell { slot, target }),
-        None => Ok(None),
-    }
-}
-
-/// A Set TR Dequeue Pointer that moves a ring before its withdrawn TDs are No Ops.
-fn move_unrestored(case: &Case, address: u64, word: u32) -> Result<Option<Finding>, AllocError> {
-    let Some(Command::SetTrDequeue { slot, endpoint, .. }) = command_at(case, address, word) else {
-        return Ok(None);
-    };
+/// Says that the ring of an endpoint goes on before its withdrawn TDs are No Ops. Whether it is so.
+fn tell_unrestored(case: &mut Case, slot: u8, endpoint: u8, how: GoingOn) -> bool {
     match case.known.devices.ring_of(slot, endpoint) {
-        Some(id) => not_restored(case, id, GoingOn::Move),
-        None => Ok(None),
+        Some(id) => not_restored(case, id, how),
+        None => false,
     }
 }
 
-/// What was found, or else what is said of every row that breaks the rule.
-fn found_or_general(
-    case: &Case,
-    refusal: Refusal,
-    found: Option<Finding>,
-) -> Result<Finding, AllocError> {
-    match found {
-        Some(finding) => Ok(finding),
-        None => general(case, refusal),
+/// Says what is said of every row that breaks a rule.
+fn tell_rule(case: &mut Case, refusal: Refusal) {
+    case.head(general_head(refusal), &[]);
+    case.here("refused", &[]);
+    if refusal == Refusal::NotInProfile {
+        case.not_judged();
+    } else {
+        case.say(why_refused(refusal));
     }
-}
-
-/// What is said of every row that breaks a rule.
-fn general(case: &Case, refusal: Refusal) -> Result<Finding, AllocError> {
-    let mut finding = Finding::new(case.alloc, general_head(refusal), "refused")?;
-    finding.say(case.alloc, why_refused(refusal))?;
-    Ok(finding)
 }

@@ -3,11 +3,12 @@ ghost use Rattle.std.specs.Prelude.{◌≡◌, IfOk, IsOk, string_bytes};
 ghost use Rattle.diagnostics.specs.Layout.{IsToldOf};
 ghost use Rattle.trace_reader.specs.Plans.{plan_of};
 
-use command_findings::left_out_among;
-use diagnostics::{Diagnostic, Matter, View, quote};
+use crate::explain::diagnosed;
+use command_findings::note_left_out;
+use diagnostics::{Diagnostic, Matter, View};
 use ownership_rules::Refusal;
 use ring_findings::no_td;
-use row_history::Finding;
+use row_history::{Behind, Case, Shown};
 use std::alloc::{AllocError, Global};
 use trace_reader::{ReadFault, read_plan};
 use traces::{Plan, PlanLine};
@@ -62,47 +63,23 @@ pub fn diagnostic_of_plan(
     ensures matter { IfOk result (λ diagnostic. diagnostic.matter ≡ matter) }
     ensures line { IfOk result (λ diagnostic. diagnostic.refused.line ≡ line) }
 {
-    let finding = finding_at(alloc, plan, line, matter)?;
-    let earlier = if matter == Matter::Rule(Refusal::NotDeclared) {
-        let label = String::from_str(alloc, "the plan's ring")?;
-        Some(quote(alloc, text, RING, label)?)
-    } else {
-        None
-    };
-    let Finding {
-        head,
-        here,
-        notes,
-        help,
-        ..
-    } = finding;
-    Ok(Diagnostic {
-        matter,
-        head,
-        refused: quote(alloc, text, line, here)?,
-        earlier,
-        notes,
-        help,
-        unjudged: false,
-    })
+    let behind = Behind::nothing(alloc)?;
+    let mut case = Case::new(alloc, RING, &[], &behind);
+    tell_line(&mut case, plan, line, matter);
+    diagnosed(alloc, text, RING, line, matter, case.finding()?)
 }
 
-/// What is wrong with a line of a plan.
-fn finding_at(
-    alloc: Global,
-    plan: &Plan,
-    line: u32,
-    matter: Matter,
-) -> Result<Finding, AllocError> {
+/// Says what is wrong with a line of a plan.
+fn tell_line(case: &mut Case, plan: &Plan, line: u32, matter: Matter) {
     let lines = plan.lines.as_slice();
     let index = (line.saturating_sub(FIRST) as usize).min(lines.len());
     let done = done_by(&lines[..index]);
     match lines.get(index) {
         Some(PlanLine::Sub { ring, blocks }) => {
-            sub_finding(alloc, plan, done, *ring, blocks.as_slice(), matter)
+            tell_sub(case, plan, done, *ring, blocks.as_slice(), matter);
         }
-        Some(PlanLine::Ret { upto }) => ret_finding(alloc, done, *upto),
-        None => Finding::new(alloc, "the line can't be followed", ""),
+        Some(PlanLine::Ret { upto }) => tell_ret(case, done, *upto),
+        None => case.head("the line can't be followed", &[]),
     }
 }
 
@@ -128,96 +105,79 @@ fn done_by(lines: &[PlanLine]) -> Done {
     done
 }
 
-/// What is wrong with a line that puts TRBs on the ring.
-fn sub_finding(
-    alloc: Global,
-    plan: &Plan,
-    done: Done,
-    id: u8,
-    blocks: &[Block],
-    matter: Matter,
-) -> Result<Finding, AllocError> {
+/// Says what is wrong with a line that puts TRBs on the ring.
+fn tell_sub(case: &mut Case, plan: &Plan, done: Done, id: u8, blocks: &[Block], matter: Matter) {
     match matter {
         Matter::Rule(Refusal::NotDeclared) => {
-            let own = plan.ring.id;
-            let here = format!(in alloc; "ring {id:02x} is another one")?;
-            let mut finding = Finding::new(
-                alloc,
-                "the line names another ring than the plan's",
-                here.as_str(),
-            )?;
-            let help = format!(in alloc; "a plan has one ring: name ring {own:02x}")?;
-            finding.help(alloc, help.as_str())?;
-            Ok(finding)
+            case.head("the line names another ring than the plan's", &[]);
+            case.here("ring {} is another one", &[Shown::Id(id)]);
+            case.mark(Some(0), "the plan's ring", &[]);
+            case.help(
+                "a plan has one ring: name ring {}",
+                &[Shown::Id(plan.ring.id)],
+            );
         }
-        Matter::Rule(Refusal::BadDescriptor) => no_td(alloc, plan.ring.shape.kind(), blocks),
-        Matter::Rule(Refusal::NotInProfile) => left_out(alloc, blocks),
-        _ => no_room(alloc, plan, done, blocks.len()),
+        Matter::Rule(Refusal::BadDescriptor) => no_td(case, plan.ring.shape.kind(), blocks),
+        Matter::Rule(Refusal::NotInProfile) => {
+            case.head("not in the checker's profile", &[]);
+            case.here("left out", &[]);
+            note_left_out(case, blocks);
+            case.advise("leave the line out: xHCI allows this, the profile doesn't");
+        }
+        _ => tell_no_room(case, plan, done, blocks.len()),
     }
 }
 
-/// TRBs of a form that isn't written.
-fn left_out(alloc: Global, blocks: &[Block]) -> Result<Finding, AllocError> {
-    let mut finding = Finding::new(alloc, "not in the checker's profile", "left out")?;
-    let what = left_out_among(alloc, blocks)?;
-    finding.note(what)?;
-    finding.help(
-        alloc,
-        "leave the line out: xHCI allows this, the profile doesn't",
-    )?;
-    Ok(finding)
-}
-
-/// No room for the TRBs.
-fn no_room(alloc: Global, plan: &Plan, done: Done, count: usize) -> Result<Finding, AllocError> {
-    let noun = if count == 1 { "TRB" } else { "TRBs" };
-    let here = format!(in alloc; "{count} {noun}")?;
-    let mut finding = Finding::new(alloc, "the ring has no room for this TD", here.as_str())?;
+/// Says that there is no room for some TRBs.
+fn tell_no_room(case: &mut Case, plan: &Plan, done: Done, count: usize) {
     let (id, places) = (plan.ring.id, plan.ring.shape.places());
-    let usable = places.saturating_sub(1);
-    let note = format!(in alloc;
-        "ring {id:02x} has {places} TRBs beside its Link TRBs, of which one stays free: {usable} may be in use"
-    )?;
-    finding.note(note)?;
-    let (put, back) = (done.put, done.back);
-    let used = put.saturating_sub(back);
-    let note = format!(in alloc;
-        "{put} were put on the ring, and `ret` lines gave back the first {back}: {used} are in use"
-    )?;
-    finding.note(note)?;
-    let help = if count as u64 > u64::from(usable) {
+    let (count, usable) = (count as u64, u64::from(places.saturating_sub(1)));
+    case.head("the ring has no room for this TD", &[]);
+    let noun = if count == 1 { "TRB" } else { "TRBs" };
+    case.here("{} {}", &[Shown::Number(count), Shown::Name(noun)]);
+    case.note(
+        "ring {} has {} TRBs beside its Link TRBs, of which one stays free: {} may be in use",
+        &[
+            Shown::Id(id),
+            Shown::Number(u64::from(places)),
+            Shown::Number(usable),
+        ],
+    );
+    let used = done.put.saturating_sub(done.back);
+    case.note(
+        "{} were put on the ring, and `ret` lines gave back the first {}: {} are in use",
+        &[
+            Shown::Number(done.put),
+            Shown::Number(done.back),
+            Shown::Number(used),
+        ],
+    );
+    case.advise(if count > usable {
         "use a longer ring: the TD never fits into this one"
     } else {
         "give TRBs back by a `ret P` line before it, or use a longer ring"
-    };
-    finding.help(alloc, help)?;
-    Ok(finding)
+    });
 }
 
-/// What is wrong with a line that gives TRBs back.
-fn ret_finding(alloc: Global, done: Done, upto: u64) -> Result<Finding, AllocError> {
-    let here = format!(in alloc; "the first {upto}")?;
+/// Says what is wrong with a line that gives TRBs back.
+fn tell_ret(case: &mut Case, done: Done, upto: u64) {
     let head = if upto < done.back {
         "TRBs come back that came back before"
     } else {
         "TRBs come back that were never put on the ring"
     };
-    let mut finding = Finding::new(alloc, head, here.as_str())?;
-    let (put, back) = (done.put, done.back);
-    let note = format!(in alloc;
-        "TRBs put on the ring so far: {put}; of these come back: the first {back}"
-    )?;
-    finding.note(note)?;
-    if put == back {
-        finding.help(
-            alloc,
-            "leave the line out: all that was put on the ring has come back",
-        )?;
-        return Ok(finding);
+    case.head(head, &[]);
+    case.here("the first {}", &[Shown::Number(upto)]);
+    case.note(
+        "TRBs put on the ring so far: {}; of these come back: the first {}",
+        &[Shown::Number(done.put), Shown::Number(done.back)],
+    );
+    if done.put == done.back {
+        case.advise("leave the line out: all that was put on the ring has come back");
+    } else {
+        case.help(
+            "write {} to {}: P counts TRBs from the plan's first one, without Link TRBs",
+            &[Shown::Address(done.back), Shown::Address(done.put)],
+        );
     }
-    let help = format!(in alloc;
-        "write {back:016x} to {put:016x}: P counts TRBs from the plan's first one, without Link TRBs"
-    )?;
-    finding.help(alloc, help.as_str())?;
-    Ok(finding)
 }

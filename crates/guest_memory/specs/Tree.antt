@@ -2,8 +2,8 @@
 -- from the first page to the one with this number
 use Rattle.std.specs.Prelude.{ℕ, zero, suc, List, [], length, map, Option, Some, None, ◌≡◌, ◌<◌, ◌≤◌, ◌+◌, ◌*◌, ◌^◌, ◌/◌, ◌%◌, ◌==◌, if◌then◌else◌, slice_index, slice_index_or}
 use Rattle.guest_memory.specs.declared.page.Page.{Page}
-use Rattle.guest_memory.specs.declared.page_memory.Way.{Way}
-use Rattle.guest_memory.specs.declared.page_memory.Way.TheVariants.{Found, Free}
+use Rattle.guest_memory.specs.declared.sparse_memory.Way.{Way}
+use Rattle.guest_memory.specs.declared.sparse_memory.Way.TheVariants.{Found, Free}
 
 -- the pages' numbers
 abbrev pub numbers : List Page → List ℕ

@@ -4,8 +4,8 @@
 mod addr;
 mod memory;
 mod page;
-mod page_memory;
+mod sparse_memory;
 
 pub use addr::Addr;
 pub use memory::WordMemory;
-pub use page_memory::PageMemory;
+pub use sparse_memory::SparseMemory;

@@ -2,13 +2,13 @@
 pub use Rattle.knowledge_page.specs.Shown.{IfNoRow, IsLast, IsNoRow, IsRange, verdict_on}
 pub use Rattle.knowledge_page.specs.declared.shown.ShowFault.{ShowFault}
 pub use Rattle.knowledge_page.specs.declared.shown.ShowFault.TheVariants.{Memory, NoRow}
-pub use Rattle.leases.specs.RingLeases.RingLents.{ring_lents}
-pub use Rattle.ownership_checker.specs.RingPasses.Rules.{ring_verdict, row_broken}
-unfoldable pub use Rattle.ownership_checker.specs.RingPasses.Rules.{ring_verdict_from}
-unfoldable pub use Rattle.ownership_rules.specs.Rules.{first_or}
+pub use Rattle.leases.specs.LeaseBooks.Lents.{lents}
+pub use Rattle.ownership_rules.specs.Rules.{trace_verdict, row_broken}
+unfoldable pub use Rattle.ownership_rules.specs.Rules.{verdict_from, first_or}
 pub use Rattle.ownership_rules.specs.declared.refusal.Refusal.{Refusal}
 pub use Rattle.ring_knowledge.specs.Known.{Known, nothing}
-pub use Rattle.safety.specs.RingChanges.Histories.{header_after, header_now, known_after}
+pub use Rattle.traces.specs.LivingRings.{header_after}
+pub use Rattle.ring_knowledge.specs.Histories.{header_now, known_after}
 pub use Rattle.std.proofs.Common.{List, None, Option, Some, [], ap, arith, inl, inr, length, refl, subst, suc, sym, zero, ℕ, ◌+◌, ◌-◌, ◌<◌, ◌∷◌, ◌≡◌, ◌≤◌, ◌⊎◌}
 pub use Rattle.std.proofs.lemmas.Grind.{common_steps}
 pub use Rattle.std.proofs.lemmas.List.Elements.{All-take, All-weaker}
@@ -20,5 +20,5 @@ pub use Rattle.trace_reader.specs.Reading.{TraceText}
 pub use Rattle.traces.specs.Header.{IsHeader}
 pub use Rattle.traces.specs.TraceRows.{AreRowsOf, IsRowOf, IsTraceRow}
 pub use Rattle.traces.specs.declared.header.Header.{Header}
-pub use Rattle.traces.specs.declared.trace_row.TraceRow.{TraceRow}
+pub use Rattle.traces.specs.declared.row.Row.{Row}
 pub use Rattle.traces.specs.declared.version.Version.{Version}

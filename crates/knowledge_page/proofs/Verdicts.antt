@@ -1,5 +1,5 @@
 -- Where among rows the first stands that breaks a rule
-use Rattle.knowledge_page.proofs.BaseWords.{◌≡◌, ℕ, zero, suc, ◌+◌, ◌<◌, ◌≤◌, List, [], ◌∷◌, Option, Some, None, ◌⊎◌, inl, inr, refl, sym, subst, ap, arith, length, take, common_steps, same_Some, TraceRow, Header, TraceText, Known, nothing, Refusal, first_or, header_after, known_after, ring_verdict, ring_verdict_from, row_broken, IfNoRow, IsLast, IsNoRow, IsRange, verdict_on, ShowFault, NoRow, Memory}
+use Rattle.knowledge_page.proofs.BaseWords.{◌≡◌, ℕ, zero, suc, ◌+◌, ◌<◌, ◌≤◌, List, [], ◌∷◌, Option, Some, None, ◌⊎◌, inl, inr, refl, sym, subst, ap, arith, length, take, common_steps, same_Some, Row, Header, TraceText, Known, nothing, Refusal, first_or, header_after, known_after, trace_verdict, verdict_from, row_broken, IfNoRow, IsLast, IsNoRow, IsRange, verdict_on, ShowFault, NoRow, Memory}
 
 -- it is this row, or one behind it
 here_or : (cs : List Refusal) (n row many : ℕ) (c : Refusal) (later : Option (ℕ × Refusal)) →
@@ -11,11 +11,11 @@ here_or (d ∷ ds) n row many c later behind e =
     (omega (arith, same), omega (arith, same))
 
 -- it is one of the rows
-pub in_rows : (h : Header) (k : Known) (n : ℕ) (rows : List TraceRow) (row : ℕ) (c : Refusal) → ring_verdict_from h k n rows ≡ Some (row, c) → (n ≤ row) × (row < n + length rows)
-unfolding ring_verdict_from
+pub in_rows : (h : Header) (k : Known) (n : ℕ) (rows : List Row) (row : ℕ) (c : Refusal) → verdict_from h k n rows ≡ Some (row, c) → (n ≤ row) × (row < n + length rows)
+unfolding verdict_from
 in_rows h k n [] row c e = absurd (cc)
 in_rows h k n (x ∷ rest) row c e =
-    here_or (row_broken h k x) n row (length rest) c (ring_verdict_from (header_after h x) (known_after h k x) (n + 1) rest) (λ later. in_rows (header_after h x) (known_after h k x) (n + 1) rest row c later) e
+    here_or (row_broken h k x) n row (length rest) c (verdict_from (header_after h x) (known_after h k x) (n + 1) rest) (λ later. in_rows (header_after h x) (known_after h k x) (n + 1) rest row c later) e
 
 same_or : (cs : List Refusal) (n row : ℕ) (c : Refusal) (few all : Option (ℕ × Refusal)) →
     (few ≡ Some (row, c) → all ≡ Some (row, c)) → first_or cs n few ≡ Some (row, c) → first_or cs n all ≡ Some (row, c)
@@ -24,12 +24,12 @@ same_or [] n row c few all behind e = behind e
 same_or (d ∷ ds) n row c few all behind e = e
 
 -- the first among some rows from the first on is the first of all
-pub of_all : (h : Header) (k : Known) (n i : ℕ) (rows : List TraceRow) (row : ℕ) (c : Refusal) → ring_verdict_from h k n (take i rows) ≡ Some (row, c) → ring_verdict_from h k n rows ≡ Some (row, c)
-unfolding ring_verdict_from
+pub of_all : (h : Header) (k : Known) (n i : ℕ) (rows : List Row) (row : ℕ) (c : Refusal) → verdict_from h k n (take i rows) ≡ Some (row, c) → verdict_from h k n rows ≡ Some (row, c)
+unfolding verdict_from
 of_all h k n zero rows row c e = absurd (cc)
 of_all h k n (suc i) [] row c e = e
 of_all h k n (suc i) (x ∷ rest) row c e =
-    same_or (row_broken h k x) n row c (ring_verdict_from (header_after h x) (known_after h k x) (n + 1) (take i rest)) (ring_verdict_from (header_after h x) (known_after h k x) (n + 1) rest)
+    same_or (row_broken h k x) n row c (verdict_from (header_after h x) (known_after h k x) (n + 1) (take i rest)) (verdict_from (header_after h x) (known_after h k x) (n + 1) rest)
     (λ behind. of_all (header_after h x) (known_after h k x) (n + 1) i rest row c behind) e
 
 module _ (t : TraceText) where
@@ -54,11 +54,11 @@ module _ (t : TraceText) where
   pub range_of_all : (last : ℕ) → verdict_on t ≡ None → last + 1 ≡ t.first + length t.rows → IsRange t t.first last
   range_of_all last e is = record { begins = refl; ends = subst (λ (o : Option (ℕ × Refusal)). IsLast o (t.first + length t.rows) last) (sym e) is }
 
-  taken : (n : ℕ) (rows : List TraceRow) → n ≤ length rows → length (take n rows) ≡ n
+  taken : (n : ℕ) (rows : List Row) → n ≤ length rows → length (take n rows) ≡ n
   taken n rows few = grind (arith, common_steps, few)
 
   -- a row behind one that breaks a rule is none of them
-  pub behind_broken : (n asked row : ℕ) (c : Refusal) → n ≤ length t.rows → asked ≡ t.first + n → ring_verdict t.header t.first (take n t.rows) ≡ Some (row, c) → IsNoRow t (Some asked) t.first row
+  pub behind_broken : (n asked row : ℕ) (c : Refusal) → n ≤ length t.rows → asked ≡ t.first + n → trace_verdict t.header t.first (take n t.rows) ≡ Some (row, c) → IsNoRow t (Some asked) t.first row
   behind_broken n asked row c few is e =
       let among = in_rows t.header nothing t.first (take n t.rows) row c e in
       let right = among.1 in

@@ -2,7 +2,7 @@
 use Rattle.std.specs.Prelude.{◌≡◌, ◌⊎◌, ℕ, ◌+◌, ◌-◌, ◌<◌, ◌≤◌, length, take, Option, Some, None}
 use Rattle.trace_reader.specs.Reading.{TraceText}
 use Rattle.ownership_rules.specs.declared.refusal.Refusal.{Refusal}
-use Rattle.ownership_checker.specs.RingPasses.Rules.{ring_verdict}
+use Rattle.ownership_rules.specs.Rules.{trace_verdict}
 use Rattle.knowledge_page.specs.Standing.{IsStanding}
 use Rattle.knowledge_page.specs.declared.standing.Standing.{Standing}
 use Rattle.knowledge_page.specs.declared.shown.Place.{Place}
@@ -19,7 +19,7 @@ pub record IsBefore (trace : TraceText) (row : ℕ) (s : Standing) : Type 0 wher
 
 -- the first row of a trace that breaks a rule, by its line, and the least rule that it breaks
 abbrev pub verdict_on : TraceText → Option (ℕ × Refusal)
-verdict_on trace = ring_verdict trace.header trace.first trace.rows
+verdict_on trace = trace_verdict trace.header trace.first trace.rows
 
 -- where a page stands that was asked for so: before the row that was named; where none was, before the first that breaks a rule, with
 -- the least rule that it breaks, or behind all rows

@@ -3,16 +3,16 @@ ghost use Rattle.std.specs.Prelude.{◌≡◌, ◌+◌, ◌≤◌, All, Some, le
 ghost use Rattle.traces.specs.Header.{IsHeader};
 ghost use Rattle.traces.specs.Limits.{most_streamed_lines};
 ghost use Rattle.traces.specs.TraceRows.{IsTraceRow};
-ghost use Rattle.ownership_checker.specs.RingPasses.Rules.{ring_verdict};
+ghost use Rattle.ownership_rules.specs.Rules.{trace_verdict};
 ghost use Rattle.ownership_checker.specs.Verdicts.{IfRefusedAt};
 ghost use Rattle.knowledge_page.specs.Standing.{IsStanding};
 
 use crate::standing::Standing;
-use guest_memory::PageMemory;
+use guest_memory::SparseMemory;
 use leases::LeaseBook;
 use ownership_checker::{Behind, CheckFault, Passed, pass_kept};
 use std::alloc::Global;
-use traces::{Header, TraceRow};
+use traces::{Header, Row};
 
 /// What is known, and what is lent, behind rows, `first` the line of the first; or the first of them that breaks a rule, and the least
 /// rule that it breaks. `Memory` is answered only where a growth was refused.
@@ -20,17 +20,17 @@ pub(crate) fn standing_behind(
     alloc: Global,
     header: &Header,
     first: u32,
-    rows: &[TraceRow],
+    rows: &[Row],
 ) -> Result<Standing, CheckFault>
     requires headed { IsHeader header.now }
     requires fitting { All IsTraceRow rows.now }
     requires within { first + length rows.now ≤ most_streamed_lines + 1 }
     ensures standing { IfOk result (IsStanding header.now first rows.now) }
-    ensures refused { IfErr result (λ e. IfRefusedAt e (λ row c. ring_verdict header.now first rows.now ≡ Some (row, c))) }
+    ensures refused { IfErr result (λ e. IfRefusedAt e (λ row c. trace_verdict header.now first rows.now ≡ Some (row, c))) }
 {
     let own = header.copy(alloc)?;
     let book = LeaseBook::new(alloc, &own)?;
-    match pass_kept(alloc, own, first, rows, book, PageMemory::new(alloc))? {
+    match pass_kept(alloc, own, first, rows, book, SparseMemory::new(alloc))? {
         Passed::Whole(pass) => {
             let Behind {
                 header,

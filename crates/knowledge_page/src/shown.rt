@@ -9,7 +9,7 @@ use ownership_checker::CheckFault;
 use ownership_rules::Refusal;
 use std::alloc::Global;
 use thiserror::Error;
-use traces::{Trace, TraceRow};
+use traces::{Row, Trace};
 
 /// Where in a trace a page stands. Rows are named by their lines, which count from 1.
 #[derive(Clone, Copy, Debug, PartialEq, Eq)]
@@ -91,7 +91,7 @@ fn standing_before(alloc: Global, trace: &Trace, row: u32) -> Result<Standing, S
 }
 
 /// So many of the first rows.
-fn first_rows(rows: &[TraceRow], count: usize) -> &[TraceRow]
+fn first_rows(rows: &[Row], count: usize) -> &[Row]
     requires { count ≤ length rows.now }
     ensures { result.now ≡ take count rows.now }
 {

@@ -1,7 +1,7 @@
 //! What is known, and what is lent, behind rows.
 ghost use Rattle.traces.specs.Header.{IsHeader};
 
-use guest_memory::PageMemory;
+use guest_memory::SparseMemory;
 use ring_knowledge::Lease;
 use trace_record::TraceRecord;
 use traces::Header;
@@ -13,7 +13,7 @@ pub struct Standing {
     pub header: Header,
     /// Rings, registers, slots and endpoints, unfinished commands.
     pub kept: TraceRecord,
-    pub memory: PageMemory,
+    pub memory: SparseMemory,
     /// The leases of the rows, in their order, those that are over too.
     pub leases: Vec<Lease>,
     pub ghost headed: { IsHeader header },

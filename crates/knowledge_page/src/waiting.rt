@@ -11,7 +11,7 @@ use commands::{Command, EndpointState};
 use event_ring::EventPlace;
 use row_history::{last_read, last_register, line_of};
 use std::alloc::{AllocError, Global};
-use traces::{Register, Trace, TraceRow};
+use traces::{Register, Row, Trace};
 use trb::RingKind;
 
 /// What waits. Rows are named by their lines.
@@ -101,7 +101,7 @@ pub enum Taker {
 #[derive(Clone, Copy)]
 pub(crate) struct Past<'a> {
     pub(crate) first: u32,
-    pub(crate) rows: &'a [TraceRow],
+    pub(crate) rows: &'a [Row],
 }
 
 /// What waits at the end of a trace that is shown; nothing is told of another place, nor behind rows that don't leave the controller

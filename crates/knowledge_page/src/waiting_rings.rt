@@ -14,7 +14,7 @@ use ring_knowledge::RingRecord;
 use row_history::{last_bell, line_of};
 use segments::{RingShape, Spot};
 use std::alloc::AllocError;
-use traces::{Ring, Row, TraceRow};
+use traces::{Ring, Row};
 use trb::RingKind;
 
 /// What of a ring isn't handed over though it is needed next.
@@ -148,10 +148,10 @@ fn count_of(group: Option<Group>) -> u64 {
 }
 
 /// The row that submitted the TRB at a position of a ring.
-fn submitting(rows: &[TraceRow], of: u8, position: u64) -> Option<usize> {
+fn submitting(rows: &[Row], of: u8, position: u64) -> Option<usize> {
     let mut behind = 0u64;
     for (index, row) in rows.iter().enumerate() {
-        if let TraceRow::Plain(Row::Sub { ring, blocks }) = row {
+        if let Row::Sub { ring, blocks } = row {
             if *ring == of {
                 behind = behind.saturating_add(blocks.as_slice().len() as u64);
                 if position < behind {

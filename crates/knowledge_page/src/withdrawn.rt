@@ -8,7 +8,7 @@ ghost use Rattle.knowledge_page.specs.Rings.{AreWithdrawn};
 
 use crate::leased::{Piece, runs_of, write_list};
 use crate::standing::Standing;
-use guest_memory::PageMemory;
+use guest_memory::SparseMemory;
 use ring_knowledge::{Lease, RingRecord};
 use segments::RingShape;
 use std::alloc::{AllocError, Global};
@@ -27,7 +27,7 @@ pub fn withdrawn_of(
     alloc: Global,
     shape: &RingShape,
     known: &RingRecord,
-    memory: &PageMemory,
+    memory: &SparseMemory,
 ) -> Result<Withdrawn, AllocError>
     requires { IsShape shape.now }
     ensures { IfOk result (λ withdrawn. (v : RingView) → FollowsRing shape.now v known.now → AreWithdrawn shape.now v (word_in memory.now) withdrawn) }

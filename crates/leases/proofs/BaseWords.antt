@@ -2,7 +2,7 @@
 pub use Rattle.commands.specs.declared.state.EndpointState.TheVariants.{Error}
 pub use Rattle.contexts.specs.Contexts.{context_cycle, context_pointer}
 pub use Rattle.contexts.specs.declared.size.ContextSize.TheVariants.{Bytes32}
-pub use Rattle.controller_model.proofs.Words.{result_ok}
+pub use Rattle.std.specs.Result.{result_ok}
 pub use Rattle.event_ring.specs.EventRing.{table_bytes}
 pub use Rattle.guest_memory.specs.Memory.{long_at}
 pub use Rattle.leases.specs.CertificateLogs.Agreement.{test_of}
@@ -15,19 +15,18 @@ unfoldable pub use Rattle.leases.specs.LeaseBooks.Coming.{come_to}
 unfoldable pub use Rattle.leases.specs.LeaseBooks.Endings.{ended_at, is_open_as}
 pub use Rattle.leases.specs.LeaseBooks.InStep.{AreOpen, FreeWasGiven, IsInStep}
 pub use Rattle.leases.specs.LeaseBooks.IndexTables.{index_at, index_in, index_of}
-pub use Rattle.leases.specs.LeaseBooks.Lents.{Lent, is_passed, newly_open, share_a_place}
+pub use Rattle.leases.specs.LeaseBooks.Lents.{Lent, is_passed, newly_open, open_now, share_a_place}
 unfoldable pub use Rattle.leases.specs.LeaseBooks.Lents.{begun_at, ended_where, grown, in_turn, is_place_free, is_unended, lease_of, lents, passed_on, precedes, with_begun, with_leased}
 pub use Rattle.leases.specs.LeaseBooks.LettingGo.{devices_without, let_go, slot_disabled, slot_left, slot_ranges}
 unfoldable pub use Rattle.leases.specs.LeaseBooks.Opening.{segment_lease}
 pub use Rattle.leases.specs.LeaseBooks.OtherShapes.{AreShapedAlike, IsShapedAlike}
 pub use Rattle.leases.specs.LeaseBooks.Ranges.{FindsRanges, IsRangeFound, IsUseFound, StandsAt, command_place, share_a_use, shares_use}
 unfoldable pub use Rattle.leases.specs.LeaseBooks.Ranges.{is_lent, is_use_free}
-pub use Rattle.leases.specs.LeaseRows.CleanRows.{FollowsBook, HoldsAll, IsCleanRow, IsNextRow, IsOtherRow}
+pub use Rattle.leases.specs.LeaseRows.CleanRows.{HoldsAll, IsNextRow, IsOtherRow}
 pub use Rattle.leases.specs.LeaseRows.LeftBehind.{AreLent, EntriesFit, FloorsMove, IsMovedTo, IsOtherRing, MovesOn, is_behind, is_moved_past, moved_by, moved_on, moved_ring, moved_when, slot_let_go}
 pub use Rattle.leases.specs.LeaseRows.Taking.{EntryFits, SlotIsFree, command_taken, slot_taken}
 pub use Rattle.leases.specs.RingLeases.Moving.{MovesRing}
-pub use Rattle.leases.specs.RingLeases.RingLents.{is_freed, is_of_ring, is_withdrawn, open_now}
-unfoldable pub use Rattle.leases.specs.RingLeases.RingLents.{ring_lents}
+pub use Rattle.leases.specs.RingLeases.RingLents.{is_freed, is_of_ring, is_withdrawn}
 pub use Rattle.leases.specs.declared.book.indexes.IndexTables.{IndexTables}
 pub use Rattle.leases.specs.declared.book.indexes.Indexes.{Indexes}
 pub use Rattle.leases.specs.declared.book.lease_book.LeaseBook.{LeaseBook}
@@ -35,7 +34,6 @@ pub use Rattle.leases.specs.declared.book.ranges.RangeIndexes.{RangeIndexes}
 pub use Rattle.leases.specs.declared.log.certificate_log.CertificateLog.{CertificateLog}
 pub use Rattle.leases.specs.declared.log.followed.FollowedList.{FollowedList}
 pub use Rattle.ownership_rules.proofs.Among.{among_is, both_ways, in_among, leased_is, leased_itself}
-pub use Rattle.ownership_rules.specs.Clean.{IsLenient}
 unfoldable pub use Rattle.ownership_rules.specs.Leases.{as_lease, begun, comes_before, end_from, in_order, leases, leases_from, with_ends, with_lease, without_end}
 unfoldable pub use Rattle.ownership_rules.specs.Moves.{binding_in, binds, has_repeats, ring_bound}
 unfoldable pub use Rattle.ownership_rules.specs.OnLiterals.{rules_on_literals}
@@ -59,7 +57,6 @@ pub use Rattle.safety.proofs.CleanRows.{EventFacts, event_facts, register_facts}
 pub use Rattle.safety.proofs.CommandRing.{due_has_ring}
 pub use Rattle.safety.proofs.DeviceFrames.{entry_same}
 pub use Rattle.safety.proofs.DevicesWritten.{and_then_parts, contains_first, written_devices}
-pub use Rattle.safety.proofs.DriverHistories.{driver_keeps}
 pub use Rattle.safety.proofs.DriverRings.{rings_of}
 pub use Rattle.safety.proofs.DriverRows.{ring_elsewhere}
 pub use Rattle.safety.proofs.EndpointPut.{at_number}
@@ -70,7 +67,6 @@ pub use Rattle.safety.proofs.Headers.{ring_shape, transfer_driver, transfer_not_
 pub use Rattle.safety.proofs.KeptClean.{taking}
 pub use Rattle.safety.proofs.KeptRegisters.{registered}
 pub use Rattle.safety.proofs.KeptRings.{completion_facts, next_at_floor, still_of}
-pub use Rattle.safety.proofs.NothingFree.{nothing_free}
 pub use Rattle.safety.proofs.Placings.{Ready, ReadyAt, address_ready, all_ready, dropped, ready_next, ring_at}
 pub use Rattle.safety.proofs.RingChanges.ListedRings.{none_found}
 pub use Rattle.safety.proofs.RingChanges.OtherRings.{OtherRings}
@@ -83,16 +79,16 @@ pub use Rattle.safety.proofs.SameDriver.{SameDriver, event_same, view_after}
 pub use Rattle.safety.proofs.StandingTargets.{target_here, target_placed}
 pub use Rattle.safety.proofs.TestsPassed.{any_of_map, clean_tests, each_fails}
 pub use Rattle.safety.proofs.Words.{AddressDevice, All-head, All-tail, Bell, BlockKind, Change, Command, CommandCompletion, ConfigureEndpoint, DeviceLeft, DisableSlot, Disables, DriverKeeps, EndpointState, Erstba, Evt, Header, Holds, IsDriverRing, IsHeader, IsIn, Known, MayChangeAll, Places, Reaches, Read, Reg, Ring, RingChange, RingKind, RingSpot, RingView, Row, SetTrDequeue, Shape, SlotGoesOn, Spot, Stopped, Sub, TransferEvent, Write, Writes, Xfer, address_inside, address_of, after, cases_Bool, changed, code, command_of, cond-false, cond_both, device_context_bytes, drop_all, false≢true, flat_map, floor_number, from_filter, fun_ext, gives, gives_crossing, gives_crossing_is, gives_is, in_filter, input_context_bytes, is_command_completion, is_command_kind, is_crossing, is_driver_kind, is_dropped, is_inside, is_off, is_ring, is_stopping, is_success, is_transfer_event, is_transfer_kind, kind, link_address, link_address_inside, list_any, list_any-append, named_context, none-some, number, or_parts, place_count, placed_by_context, position_given_is, put, range_with_len, register_or_zero, ring_with, same_Some, shape_or, slice_get_within, slot, target_ahead}
-unfoldable pub use Rattle.safety.proofs.Words.{added_endpoints, bound_to, ceiling, changed_by, changed_by_all, changes, command_at, command_given, command_id, command_ring, completed, context_ranges, crossings_given, device_ranges, disabled, driver_rings, due_positions, entry_of, entry_ranges, event_at, finished, given_by, given_of, held_at_ceiling, in_state, known, learned, moved, moved_to, next_command, nothing, on_ring, open_leases, open_on, open_ranges, pointed, positions_given, range_of_command, range_of_context, range_of_device, range_of_entry, ring_having, segment_ranges, set_to, shape_of, slots, stop_ended, succeeded, table_range, taken_device, target, unfinished_positions, with_device, with_word, written}
+unfoldable pub use Rattle.safety.proofs.Words.{added_endpoints, bound_to, ceiling, changed_by, changed_by_all, changes, command_at, command_given, command_id, command_ring, completed, context_ranges, crossings_given, device_ranges, disabled, driver_rings, due_positions, entry_of, entry_ranges, event_at, finished, given_by, given_of, held_at_ceiling, in_state, learned, moved, moved_to, next_command, nothing, on_ring, open_leases, open_on, open_ranges, pointed, positions_given, range_of_command, range_of_context, range_of_device, range_of_entry, ring_having, segment_ranges, set_to, shape_of, slots, stop_ended, succeeded, table_range, taken_device, target, unfinished_positions, with_device, with_word, written}
 pub use Rattle.safety.proofs.WriteBeside.{rules_of}
 pub use Rattle.safety.proofs.WrittenKnown.{after_write, taken, written_device, written_device_none}
 pub use Rattle.safety.specs.Keeps.{IsTransferRing}
 pub use Rattle.safety.specs.Placings.{StillHolds}
-pub use Rattle.safety.specs.RingChanges.Changes.{IsComing}
-unfoldable pub use Rattle.safety.specs.RingChanges.Changes.{forgotten, is_bad_free, is_bad_ring, with_ring, without_ring}
-pub use Rattle.safety.specs.RingChanges.Histories.{header_now, known_now}
-pub use Rattle.safety.specs.RingChanges.Withdrawals.{restored}
-unfoldable pub use Rattle.safety.specs.RingChanges.Withdrawals.{restored_on, ring_moved, ring_restored}
+pub use Rattle.traces.specs.Rows.{IsComing}
+unfoldable pub use Rattle.ring_knowledge.specs.Histories.{forgotten, restored_on, ring_moved, ring_restored}
+unfoldable pub use Rattle.ownership_rules.specs.Rings.{is_bad_free, is_bad_ring}
+unfoldable pub use Rattle.traces.specs.LivingRings.{with_ring, without_ring}
+pub use Rattle.ring_knowledge.specs.Histories.{header_now, known_now, restored}
 pub use Rattle.segments.proofs.Giving.{GivesCrossing, due_is}
 pub use Rattle.segments.proofs.Named.{ceiling_within, named_ahead}
 pub use Rattle.segments.proofs.OneGiving.{gives_one}
@@ -126,8 +122,7 @@ pub use Rattle.traces.specs.Header.{is_event_kind}
 unfoldable pub use Rattle.traces.specs.Header.{event_ring, event_shape}
 pub use Rattle.traces.specs.Register.{base_address}
 pub use Rattle.traces.specs.declared.register.Register.TheVariants.{Dcbaap}
-pub use Rattle.traces.specs.declared.trace_row.TraceRow.{TraceRow}
-pub use Rattle.traces.specs.declared.trace_row.TraceRow.TheVariants.{Comes, Goes, Plain}
+pub use Rattle.traces.specs.declared.row.Row.TheVariants.{Ring as RingRow, Free as FreeRow}
 pub use Rattle.traces.specs.declared.version.Version.TheVariants.{Three}
 pub use Rattle.trb.specs.Block.{endpoint}
 pub use Rattle.trb.specs.CompletionCode.{is_halting, is_trb_error}

@@ -10,4 +10,3 @@ pub mod EntriesFit
 pub mod FloorsStay
 pub mod FloorsMove
 pub mod LentEvents
-pub mod Histories

@@ -1,6 +1,6 @@
 -- The words and the lemmas that most files here cite, passed on by one file
 pub use Rattle.leases.proofs.BaseWords.{Begins, Block, Bool, CertificateLog, Dcbaap, DeviceContext, EntryFits, Err, Evt, FollowedList, FollowsCertificate, FollowsList, Header, HoldsAll, HoldsLents, IfOk, InputContext, IsFound, IsNextRow, IsOtherRow, IsPlaced, Known, Lease, LeaseBook, Lent, Link, List, MovesOn, None, Ok, OnOk, Option, Range, Result, Ring, Row, Segment, SegmentTable, SlotEntry, SlotIsFree, Some, [], among_at, ap, arith, cases_Bool, code, command_place, crossing_positive, driven, drop, drop-cons, drop_all, endpoint, eqb-true, false, false≢true, floor_number, get_or, index_at, index_in, index_of, inl, inr, is_command_kind, is_crossing, is_event_kind, is_of_ring, is_passed, is_some, length, link_crossed, map, none_here, number, option_copied, place_count, refl, register_or_zero, ring_here, same_leased, shape_or, shape_there, share_a_place, slice_get, subst, suc, sym, take, take_all, touches, true, unwrap_or, vec_len, ℕ, ◌%◌, ◌*◌, ◌+◌, ◌-◌, ◌<◌, ◌==◌, ◌^◌, ◌||◌, ◌∙◌, ◌∷◌, ◌≡◌, ◌≤◌}
-unfoldable pub use Rattle.leases.proofs.BaseWords.{come_to, comes_before, command_at, command_id, device_named, ended_at, ended_where, entry_of, event_shape, grown, in_order, is_among, is_use_free, known, lents, link_of, named, next_command, open_leases, passed_on, segment_lease, shape_of, taken_device, target, with_begun, with_lease}
+unfoldable pub use Rattle.leases.proofs.BaseWords.{come_to, comes_before, command_at, command_id, device_named, ended_at, ended_where, entry_of, event_shape, grown, in_order, is_among, is_use_free, lents, link_of, named, next_command, open_leases, passed_on, segment_lease, shape_of, taken_device, target, with_begun, with_lease}
 pub use Rattle.leases.proofs.CertificateLogs.Beginning.{HasBegun, all_begun, next_begins, nothing_begun}
 pub use Rattle.leases.proofs.CertificateLogs.EndingOne.{another_numbered, another_there, none_numbered, this_numbered, this_there}
 pub use Rattle.leases.proofs.CertificateLogs.Following.{goes_on}

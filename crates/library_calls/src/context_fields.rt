@@ -1,13 +1,13 @@
 use contexts::{ContextSize, EndpointContext, InputContext};
-use guest_memory::{Addr, PageMemory, WordMemory};
+use guest_memory::{Addr, SparseMemory, WordMemory};
 use std::test::Fail;
 
 /// Where the input context lies.
 const AT: u64 = 0x60000;
 
 /// Memory with these words, each by its address.
-fn memory(rt: &HostRuntime, words: &[(u64, u32)]) -> Result<PageMemory, Fail> {
-    let mut memory = PageMemory::new(rt.alloc());
+fn memory(rt: &HostRuntime, words: &[(u64, u32)]) -> Result<SparseMemory, Fail> {
+    let mut memory = SparseMemory::new(rt.alloc());
     for &(at, word) in words {
         memory.set(Addr::new(at).ok_or("no address of a word")?, word)?;
     }
@@ -35,7 +35,7 @@ fn reads_the_flags_and_the_first_endpoint(rt: HostRuntime) -> Result<(), Fail> {
 
 #[test]
 fn ends_with_the_address_space(rt: HostRuntime) -> Result<(), Fail> {
-    let memory = PageMemory::new(rt.alloc());
+    let memory = SparseMemory::new(rt.alloc());
     let last = [
         (ContextSize::Bytes32, 0xffff_ffff_ffff_fbe0),
         (ContextSize::Bytes64, 0xffff_ffff_ffff_f7c0),

@@ -1,5 +1,5 @@
 use event_ring::EventPlace;
-use guest_memory::{Addr, PageMemory, WordMemory};
+use guest_memory::{Addr, SparseMemory, WordMemory};
 use segments::RingShape;
 use std::test::Fail;
 use trb::{Block, RingKind};
@@ -60,7 +60,7 @@ fn reads_the_other_cycle_in_the_second_lap(rt: HostRuntime) -> Result<(), Fail> 
 /// Whether a segment table with one entry, of so many TRBs at 0x20000, isn't that of the ring.
 fn is_fault(rt: &HostRuntime, trbs: u32) -> Result<bool, Fail> {
     let shape = RingShape::new(rt.alloc(), RingKind::Evt, &[(0x20000, 16)])?;
-    let mut memory = PageMemory::new(rt.alloc());
+    let mut memory = SparseMemory::new(rt.alloc());
     for (at, word) in [(0x40000, 0x20000), (0x40008, trbs)] {
         memory.set(Addr::new(at).ok_or("no address of a word")?, word)?;
     }

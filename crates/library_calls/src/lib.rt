@@ -27,8 +27,6 @@ mod ring_rows;
 #[cfg(test)]
 mod ring_shapes;
 #[cfg(test)]
-mod runs;
-#[cfg(test)]
 mod sinks;
 #[cfg(test)]
 mod sources;

@@ -1,6 +1,6 @@
 ghost use Rattle.std.specs.Prelude.{◌≡◌, ℕ};
 
-use guest_memory::{Addr, PageMemory, WordMemory};
+use guest_memory::{Addr, SparseMemory, WordMemory};
 use std::test::Fail;
 
 fn at(value: u64) -> Result<Addr, Fail> {
@@ -28,7 +28,7 @@ fn word_of_zeros<M: WordMemory>(memory: &M, at: Addr) -> u32
 
 #[test]
 fn reads_back_what_was_written(rt: HostRuntime) -> Result<(), Fail> {
-    let mut memory = PageMemory::new(rt.alloc());
+    let mut memory = SparseMemory::new(rt.alloc());
     assert_eq!(rt; word_of_zeros(&memory, at(0x30000)?), 0);
     let words = around(&mut memory, at(0x2fffc)?, at(0x30000)?, at(0x30004)?)?;
     assert_eq!(rt; words, [0, 0xffff_ffff, 0]);
@@ -39,7 +39,7 @@ fn reads_back_what_was_written(rt: HostRuntime) -> Result<(), Fail> {
 
 #[test]
 fn a_page_ends_where_the_next_begins(rt: HostRuntime) -> Result<(), Fail> {
-    let mut memory = PageMemory::new(rt.alloc());
+    let mut memory = SparseMemory::new(rt.alloc());
     memory.set(at(0x30ffc)?, 1)?;
     for other in [0x31000, 0x30ff8, 0x2fffc] {
         assert_eq!(rt; memory.word(at(other)?), 0);
@@ -49,7 +49,7 @@ fn a_page_ends_where_the_next_begins(rt: HostRuntime) -> Result<(), Fail> {
 
 #[test]
 fn has_a_last_word(rt: HostRuntime) -> Result<(), Fail> {
-    let mut memory = PageMemory::new(rt.alloc());
+    let mut memory = SparseMemory::new(rt.alloc());
     let last = at(0xffff_ffff_ffff_fffc)?;
     memory.set(last, 7)?;
     assert_eq!(rt; memory.word(last), 7);

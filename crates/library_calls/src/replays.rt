@@ -1,5 +1,5 @@
 use controller_model::{StepFault, World};
-use guest_memory::{Addr, PageMemory, WordMemory};
+use guest_memory::{Addr, SparseMemory, WordMemory};
 use std::alloc::{AllocError, Global};
 use std::test::Fail;
 use trace_reader::{read_schedule, read_trace};
@@ -126,7 +126,7 @@ fn each_refused_write_is_told_and_then_no_step_is_made(rt: HostRuntime) -> Resul
     let schedule = read_schedule(alloc, SCHEDULE)?;
     let steps = schedule.steps.as_slice();
     for left in 0..WRITES {
-        let memory = PageMemory::new(alloc);
+        let memory = SparseMemory::new(alloc);
         let mut world = World::new(alloc, &trace, Few { memory, left })?;
         assert_eq!(rt;
             first_fault(&mut world, steps),
@@ -137,7 +137,7 @@ fn each_refused_write_is_told_and_then_no_step_is_made(rt: HostRuntime) -> Resul
             assert_eq!(rt; world.step(step), Err(StepFault::Spent), "{left}");
         }
     }
-    let memory = PageMemory::new(alloc);
+    let memory = SparseMemory::new(alloc);
     let mut world = World::new(
         alloc,
         &trace,

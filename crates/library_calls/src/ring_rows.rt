@@ -3,7 +3,7 @@ ghost use Rattle.std.specs.Prelude.{◌+◌, ◌≤◌, length, IfOk};
 ghost use Rattle.traces.specs.Limits.{most_lines};
 
 use controller_model::{Seen, World};
-use guest_memory::PageMemory;
+use guest_memory::SparseMemory;
 use ownership_checker::{CheckFault, check, check_in};
 use ownership_rules::Refusal;
 use replayer::{
@@ -13,9 +13,7 @@ use ring_knowledge::Lease;
 use std::alloc::{AllocError, Global};
 use std::process::Abort;
 use std::test::Fail;
-use trace_reader::{
-    MOST_LINES, print_schedule, print_trace, read_long_trace, read_schedule, read_trace,
-};
+use trace_reader::{print_schedule, print_trace, read_long_trace, read_schedule, read_trace};
 use traces::Trace;
 use verifier::verify;
 use world_state::Harm;
@@ -83,15 +81,11 @@ fn text(alloc: Global, version: u8, trbs: &str, rows: &str) -> Result<String, Al
     )
 }
 
-/// The trace of a text, which has no more lines than one of which a schedule can be made.
+/// The trace of a text.
 fn trace_of(alloc: Global, text: &str) -> Result<Trace, Fail>
     ensures { IfOk result (λ trace. trace.first + length trace.rows ≤ most_lines + 1) }
 {
-    let trace = read_trace(alloc, text.as_bytes())?;
-    if trace.first as usize + trace.rows.as_slice().len() > MOST_LINES as usize + 1 {
-        return Err("too many lines".into());
-    }
-    Ok(trace)
+    Ok(read_trace(alloc, text.as_bytes())?)
 }
 
 fn freed(alloc: Global) -> Result<Trace, Fail>
@@ -111,7 +105,7 @@ fn stopped(alloc: Global, version: u8, rows: &str) -> Result<Trace, Fail>
 /// The leases of the trace by both checks, which a verifier finds to be its own, and none fewer.
 fn leases_of(rt: &impl Abort, alloc: Global, trace: &Trace) -> Result<Vec<Lease>, Fail> {
     let leases = check(alloc, trace)?.leases;
-    let again = check_in(alloc, trace, PageMemory::new(alloc))?.leases;
+    let again = check_in(alloc, trace, SparseMemory::new(alloc))?.leases;
     assert_eq!(rt; again.as_slice(), leases.as_slice());
     assert_eq!(rt; verify(alloc, trace, &leases), Ok(true));
     assert_eq!(rt;
@@ -243,9 +237,6 @@ fn harm_is_found_of_a_command_ring_that_goes(rt: HostRuntime) -> Result<(), Fail
     let refusal = Refusal::BadFree;
     let refused = CheckFault::Refused { row: 33, refusal };
     assert_eq!(rt; check(alloc, &trace), Err(refused));
-    if trace.first > 33 || trace.rows.as_slice().len() <= (33 - trace.first) as usize {
-        return Err("there is no row 33".into());
-    }
     let schedule = harmful_schedule(alloc, &trace, 33)?.ok_or("no harm is found")?;
     let wanted = format!(in alloc; "{ADDRESSED_RUN}{COMMANDS_FREED_RUN}")?;
     assert_eq!(rt;
@@ -269,7 +260,7 @@ fn a_world_makes_each_row(rt: HostRuntime) -> Result<(), Fail> {
     ] {
         let text = format!(in alloc; "{ADDRESSED_RUN}{run}")?;
         let schedule = read_schedule(alloc, text.as_bytes())?;
-        let mut world = World::new(alloc, &trace, PageMemory::new(alloc))?;
+        let mut world = World::new(alloc, &trace, SparseMemory::new(alloc))?;
         let mut rows = 0usize;
         for step in schedule.steps.as_slice() {
             if world.step(step) == Ok(Seen::Row) {

@@ -1,6 +1,6 @@
 //! Traces that are checked and verified as they are read: the same at every cut of the bytes, and a failed read is told.
 use crate::sources::device_of;
-use guest_memory::PageMemory;
+use guest_memory::SparseMemory;
 use ownership_checker::{StreamCheckFault, check_stream, count_stream};
 use ownership_rules::Refusal;
 use ring_knowledge::Lease;
@@ -61,10 +61,14 @@ fn leases_of(
     let mut source = device_of(text, most, fails_at, ErrorKind::Other);
     let mut again = device_of(text, most, fails_at, ErrorKind::Other);
     [
-        check_stream(rt.alloc(), false, &mut source, PageMemory::new(rt.alloc())).map(
-            |certificate| certificate.leases.len(),
-        ),
-        count_stream(rt.alloc(), &mut again, PageMemory::new(rt.alloc())),
+        check_stream(
+            rt.alloc(),
+            false,
+            &mut source,
+            SparseMemory::new(rt.alloc()),
+        )
+        .map(|certificate| certificate.leases.len()),
+        count_stream(rt.alloc(), &mut again, SparseMemory::new(rt.alloc())),
     ]
 }
 
@@ -76,7 +80,12 @@ fn verifies(
     fails_at: u64,
 ) -> Result<bool, StreamFault> {
     let mut source = device_of(text, most, fails_at, ErrorKind::Other);
-    verify_stream(rt.alloc(), &mut source, PageMemory::new(rt.alloc()), leases)
+    verify_stream(
+        rt.alloc(),
+        &mut source,
+        SparseMemory::new(rt.alloc()),
+        leases,
+    )
 }
 
 #[test]

@@ -1,7 +1,7 @@
 use std::alloc::AllocError;
 use std::test::Fail;
 use trace_reader::{
-    LineFault, PlanLine, ReadFault, Step, TraceRow, print_schedule, print_trace, read_plan,
+    LineFault, PlanLine, ReadFault, Row, Step, print_schedule, print_trace, read_plan,
     read_schedule, read_trace,
 };
 
@@ -37,13 +37,13 @@ fn reads_and_prints_rows_of_each_kind(rt: HostRuntime) -> Result<(), Fail> {
         matches!(
             trace.rows.as_slice(),
             [
-                TraceRow::Plain(_),
-                TraceRow::Comes(_),
-                TraceRow::Withdraws {
+                Row::Write { at: _, word: 10 },
+                Row::Ring { ring: _ },
+                Row::Nop {
                     ring: 2,
                     position: 1,
                 },
-                TraceRow::Goes(3),
+                Row::Free { ring: 3 },
             ]
         )
     );

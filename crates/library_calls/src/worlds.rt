@@ -1,5 +1,5 @@
 use controller_model::{Seen, StepFault, World};
-use guest_memory::{Addr, PageMemory, WordMemory};
+use guest_memory::{Addr, SparseMemory, WordMemory};
 use std::alloc::AllocError;
 use std::test::Fail;
 use trace_reader::read_trace;
@@ -31,7 +31,7 @@ const ONE_WRITE: &[u8] =
 fn makes_a_row_and_no_more(rt: HostRuntime) -> Result<(), Fail> {
     let alloc = rt.alloc();
     let trace = read_trace(alloc, ONE_WRITE)?;
-    let mut world = World::new(alloc, &trace, PageMemory::new(alloc))?;
+    let mut world = World::new(alloc, &trace, SparseMemory::new(alloc))?;
     assert_eq!(rt;
         world.step(&Step::Look { ring: 2 }),
         Err(StepFault::NotPossible)

@@ -8,7 +8,7 @@ ghost use Rattle.world_state.specs.Scenes.{Scene};
 ghost use Rattle.controller_model.specs.Worlds.{StandsFor};
 
 use controller_model::{Seen, World};
-use guest_memory::{PageMemory, WordMemory};
+use guest_memory::{SparseMemory, WordMemory};
 use std::io::{self, Read};
 use trace_reader::read_trace;
 use traces::{Step, Trace};
@@ -55,7 +55,7 @@ fn look_around<M: WordMemory + Drop>(
 
 /// Makes the rows, and looks at the rings behind each.
 fn run(rt: &HostRuntime, trace: &Trace) -> io::Result<()> {
-    let memory = PageMemory::new(rt.alloc());
+    let memory = SparseMemory::new(rt.alloc());
     let mut world = World::new(rt.alloc(), trace, memory)?;
     for (index, _) in trace.rows.as_slice().iter().enumerate() {
         let line = u64::from(trace.first).saturating_add(index as u64);

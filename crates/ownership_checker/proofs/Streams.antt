@@ -1,5 +1,5 @@
 -- What a pass over the rows of a trace says of it, by the log of their leases
-use Rattle.ownership_checker.proofs.Words.{arith, ◌≡◌, ◌+◌, ◌∷◌, ◌++◌, ◌∙◌, ℕ, Bool, List, [], Option, Err, ap, sym, length, map, reverse, length-append, length-map, TraceText, Header, TraceRow, Lease, Leased, Lent, ended_where, with_begun, ring_lents, StreamFault, Line, Device, IsOpened, IfBadLine, IsBadLine, IsWholeLog, joined_behind, calls_say_the_text, IsSound, IsBehindAll, IsRingLogged, RingPass, header_now, lents}
+use Rattle.ownership_checker.proofs.Words.{arith, ◌≡◌, ◌+◌, ◌∷◌, ◌++◌, ◌∙◌, ℕ, Bool, List, [], Option, Err, ap, sym, length, map, reverse, length-append, length-map, TraceText, Header, Row, Lease, Leased, Lent, ended_where, with_begun, lents, StreamFault, Line, Device, IsOpened, IfBadLine, IsBadLine, IsWholeLog, joined_behind, calls_say_the_text, IsSound, IsBehindAll, IsRingLogged, RingPass, header_now}
 use Rattle.trace_reader.specs.declared.row_reader.fault.StreamFault.TheVariants.{Memory}
 use Rattle.ownership_checker.specs.RingPasses.Accepted.{leases_of}
 unfoldable use Rattle.trace_reader.specs.Streaming.WholeTexts.{read_by_calls}
@@ -10,13 +10,13 @@ module _ {B : Type 0} (Holds : Header → List Lent → B → Type 0) (trace : T
   sound_so leases certified = record { accepted = record { verdict = w.verdict; certified = certified }; walk = w.walk; harmless = w.harmless }
 
   -- as many as were counted
-  pub sound_count : (count : ℕ) → count ≡ length (ring_lents trace.header trace.first (reverse trace.rows)) → (leases : List Lease) × IsSound trace leases × (count ≡ length leases)
+  pub sound_count : (count : ℕ) → count ≡ length (lents trace.header trace.first (reverse trace.rows)) → (leases : List Lease) × IsSound trace leases × (count ≡ length leases)
   sound_count count is = grind (arith, sound_so, length-map)
 
 -- behind rows that are kept in memory
 module _ {B M : Type 0} (words : M → ℕ → ℕ) (holds : List Lease → Header → List Lent → B → Type 0) (trace : TraceText) (log : B) (pass : RingPass B M) where
   pub kept_whole : IsBehindAll words holds trace.header trace.first trace.rows log pass → (list : List Lease) → holds list trace.header (lents trace.header trace.first []) log → (kept : B) →
-      ((list : List Lease) (h : Header) (first : ℕ) (past : List TraceRow) → IsRingLogged (holds list) h first past pass → holds list (header_now h past) (ring_lents h first past) kept) →
+      ((list : List Lease) (h : Header) (first : ℕ) (past : List Row) → IsRingLogged (holds list) h first past pass → holds list (header_now h past) (lents h first past) kept) →
       IsWholeLog (holds list) trace kept
   kept_whole all list begins kept logs = record {
     verdict = all.verdict;

@@ -6,8 +6,9 @@ pub use Rattle.driver_rows.proofs.RingRows.GivenAt.{command_drives, gives_at, no
 pub use Rattle.driver_rows.proofs.RingRows.Lists.{read_there}
 pub use Rattle.driver_rows.specs.RingRows.GivenCommands.{GivesCommandAt}
 pub use Rattle.driver_rows.specs.RingRows.RingSteps.{IsRingStep, IsTransferAt}
-pub use Rattle.driver_rows.specs.RingRows.Withdrawing.{NamesTransfer, is_passed}
-unfoldable pub use Rattle.driver_rows.specs.RingRows.Withdrawing.{withdraws_badly}
+pub use Rattle.driver_rows.specs.RingRows.Withdrawing.{NamesTransfer}
+pub use Rattle.ownership_rules.specs.Withdrawals.{is_passed}
+unfoldable pub use Rattle.ownership_rules.specs.Withdrawals.{withdraws_badly, is_bad_withdraw, is_left, some_flips}
 pub use Rattle.event_ring.specs.EventPlaceValue.{EventState}
 pub use Rattle.event_rows.proofs.TransferEvents.Reports.{left_out as left_out_transfer}
 pub use Rattle.leases.proofs.LeaseBooks.FirstBook.{first_list}
@@ -31,7 +32,6 @@ pub use Rattle.leases.specs.LeaseRows.CleanRows.{HoldsAll, IsNextRow}
 pub use Rattle.leases.specs.LeaseRows.LeftBehind.{EntriesFit}
 pub use Rattle.leases.specs.RingLeases.Moving.{MovesRing}
 pub use Rattle.leases.specs.RingLeases.RingLents.{is_of_ring}
-unfoldable pub use Rattle.leases.specs.RingLeases.RingLents.{ring_lents}
 pub use Rattle.leases.specs.declared.book.ranges.RangeIndexes.{RangeIndexes}
 pub use Rattle.ownership_checker.specs.JudgedRows.Tracking.{IsLeastFrom, IsStepFrom, IsTracked}
 pub use Rattle.ownership_checker.specs.RingPasses.Accepted.{IsSound}
@@ -39,8 +39,8 @@ pub use Rattle.ownership_checker.specs.RingPasses.Clean.{AreClean, IsLeastOfRow}
 pub use Rattle.ownership_checker.specs.RingPasses.KeptRows.{IsBehindAll}
 pub use Rattle.ownership_checker.specs.RingPasses.Passing.{IsRingLogged, IsRingPassed, NothingFree}
 pub use Rattle.ownership_checker.specs.RingPasses.Reading.{Begins, IfRefusedRow, IsWholeLog, OfTrace, with_rows}
-pub use Rattle.ownership_checker.specs.RingPasses.Rules.{broken_alone, broken_restored, driver_broken, ring_verdict, row_broken}
-unfoldable pub use Rattle.ownership_checker.specs.RingPasses.Rules.{ring_verdict_from}
+pub use Rattle.ownership_rules.specs.Rules.{broken_restored, row_broken, trace_verdict, lenient}
+unfoldable pub use Rattle.ownership_rules.specs.Rules.{verdict_from, broken, first_or, lenient_tests, tests}
 pub use Rattle.ownership_checker.specs.declared.lease_count.LeaseCount.{LeaseCount}
 pub use Rattle.ownership_checker.specs.declared.pass.reading.Passed.{Passed}
 pub use Rattle.ownership_checker.specs.declared.pass.ring_pass.RingPass.{RingPass}
@@ -55,14 +55,12 @@ unfoldable pub use Rattle.ownership_rules.specs.Leases.{without_end}
 unfoldable pub use Rattle.ownership_rules.specs.Older.{older, stricter}
 pub use Rattle.ownership_rules.specs.OpenLeases.{Leased, open_leases}
 pub use Rattle.ownership_rules.specs.Refusal.{broken_of, first_broken, first_of}
-pub use Rattle.ownership_rules.specs.Rules.{lenient}
-unfoldable pub use Rattle.ownership_rules.specs.Rules.{broken, first_or, lenient_tests, tests}
 pub use Rattle.ownership_rules.specs.declared.refusal.Refusal.{Refusal}
 pub use Rattle.ownership_rules.specs.declared.refusal.Refusal.TheVariants.{AfterStop, BadDoorbell, BadFree, BadRing, BadWithdraw, ImpossibleEvent, NotInProfile, NotRestored, WriteToOwned}
 pub use Rattle.ring_knowledge.specs.Completions.{completed}
 pub use Rattle.ring_knowledge.specs.Known.{Known}
 unfoldable pub use Rattle.ring_knowledge.specs.Known.{nothing}
-unfoldable pub use Rattle.ring_knowledge.specs.Learned.{event_read, known, learned}
+unfoldable pub use Rattle.ring_knowledge.specs.Learned.{event_read, learned}
 pub use Rattle.ring_knowledge.specs.RingRecords.{FollowsRing, positions_of}
 pub use Rattle.ring_knowledge.specs.Rings.{unfinished}
 unfoldable pub use Rattle.ring_knowledge.specs.Rings.{command_at, on_ring}
@@ -79,6 +77,7 @@ pub use Rattle.safety.proofs.NothingFree.{free_same}
 pub use Rattle.safety.proofs.NothingKept.{nothing_kept}
 pub use Rattle.safety.proofs.RingChanges.GoneRings.{gone_ring_kept}
 pub use Rattle.safety.proofs.RingChanges.Headline.{headline}
+pub use Rattle.safety.proofs.RingChanges.KeptRings.{kept_coming, kept_going, kept_withdrawing}
 pub use Rattle.safety.proofs.RingChanges.LiveHeadline.{now_keeps}
 pub use Rattle.safety.proofs.RingChanges.Restored.{row_comes, row_keeps, row_keeps as restored_keeps, stopped_still}
 pub use Rattle.safety.proofs.RingChanges.RingRuns.{comes_keeps}
@@ -90,14 +89,14 @@ pub use Rattle.safety.proofs.StillPlacing.{still_reads}
 pub use Rattle.safety.proofs.TestsPassed.{AllFail, clean_tests, tests_fail}
 pub use Rattle.safety.proofs.UnfinishedBehind.{listed_unfinished}
 pub use Rattle.safety.proofs.Words.{no_flips}
-pub use Rattle.safety.specs.EndpointsKeep.{is_transfer_ring}
+pub use Rattle.ownership_rules.specs.Rings.{is_transfer_ring, is_bad_ring}
 pub use Rattle.safety.specs.Harmless.{DoNoHarm}
 pub use Rattle.safety.specs.Keeps.{DriverKeeps, IsDriverRing, IsTransferRing}
-pub use Rattle.safety.specs.RingChanges.Changes.{IsComing, is_bad_ring}
-unfoldable pub use Rattle.safety.specs.RingChanges.Changes.{forgotten, is_bad_free}
-pub use Rattle.safety.specs.RingChanges.Histories.{AreKept, FitsFields, IsKept, header_now, known_after, known_now}
-pub use Rattle.safety.specs.RingChanges.Withdrawals.{restored}
-unfoldable pub use Rattle.safety.specs.RingChanges.Withdrawals.{is_bad_withdraw, is_left, restored_on, ring_moved, ring_restored, some_flips}
+pub use Rattle.traces.specs.Rows.{IsComing, IsRow, is_ring_row}
+unfoldable pub use Rattle.ring_knowledge.specs.Histories.{forgotten, restored_on, ring_moved, ring_restored}
+unfoldable pub use Rattle.ownership_rules.specs.Rings.{is_bad_free}
+pub use Rattle.safety.specs.RingChanges.Histories.{AreKept, IsKept}
+pub use Rattle.ring_knowledge.specs.Histories.{header_now, known_after, known_now, restored}
 pub use Rattle.safety.specs.RingsKeep.{RingsKeep}
 pub use Rattle.segments.proofs.WalkReads.{walk_reads}
 pub use Rattle.segments.specs.Descriptors.{length_from}
@@ -155,9 +154,7 @@ pub use Rattle.traces.specs.declared.header.Header.{Header}
 pub use Rattle.traces.specs.declared.register.Register.TheVariants.{Crcr}
 pub use Rattle.traces.specs.declared.ring.Ring.{Ring}
 pub use Rattle.traces.specs.declared.row.Row.{Row}
-pub use Rattle.traces.specs.declared.row.Row.TheVariants.{Bell, Read, Reg, Sub, Write}
-pub use Rattle.traces.specs.declared.trace_row.TraceRow.{TraceRow}
-pub use Rattle.traces.specs.declared.trace_row.TraceRow.TheVariants.{Comes, Goes, Plain, Withdraws}
+pub use Rattle.traces.specs.declared.row.Row.TheVariants.{Bell, Read, Reg, Sub, Write, Ring as RingRow, Free as FreeRow, Nop as NopRow}
 pub use Rattle.trb.specs.Block.{aligned, cycle, kind, pointer}
 pub use Rattle.trb.specs.Descriptor.{is_command_left_out}
 pub use Rattle.trb.specs.Kind.{is_event, is_transfer_event}
@@ -166,5 +163,5 @@ pub use Rattle.trb.specs.declared.kind.BlockKind.{BlockKind}
 pub use Rattle.trb.specs.declared.kind.BlockKind.TheVariants.{CommandCompletion, TransferEvent}
 pub use Rattle.trb.specs.declared.ring_kind.RingKind.{RingKind}
 pub use Rattle.trb.specs.declared.ring_kind.RingKind.TheVariants.{Evt, Xfer}
-pub use Rattle.world_state.specs.RingRows.{header_after, without_ring}
-unfoldable pub use Rattle.world_state.specs.RingRows.{with_ring}
+pub use Rattle.traces.specs.LivingRings.{header_after, without_ring}
+unfoldable pub use Rattle.traces.specs.LivingRings.{with_ring}

@@ -1,4 +1,3 @@
-pub mod Rules
 pub mod Clean
 pub mod Passing
 pub mod Accepted

@@ -8,7 +8,7 @@ use Rattle.ownership_checker.specs.declared.fault.StreamCheckFault.TheVariants.{
 pub use Rattle.trace_reader.specs.Streaming.Streams.{IfBadLine, IsBadLine, OfStream}
 pub use Rattle.ownership_checker.specs.RingPasses.Accepted.{IsAccepted as IsAcceptedText, IsSound}
 pub use Rattle.ownership_checker.specs.RingPasses.Reading.{OfTrace}
-pub use Rattle.ownership_checker.specs.RingPasses.Rules.{ring_verdict}
+pub use Rattle.ownership_rules.specs.Rules.{trace_verdict}
 
 -- a refused row, by its number
 abbrev pub IfRefusedIn : StreamCheckFault → (ℕ → Refusal → Type 0) → Type 0

@@ -13,6 +13,5 @@ pub use certificate::Certificate;
 pub use fault::{CheckFault, StreamCheckFault};
 pub use lease_count::LeaseCount;
 pub use pass::{Behind, Passed, RingPass, pass_kept, pass_rows};
-pub use rows::check_row;
 pub use stream_check::{check_stream, count_stream};
 pub use trace_check::{check, check_in};

@@ -3,4 +3,4 @@
 mod events;
 mod row;
 
-pub use row::check_row;
+pub(crate) use row::check_row;

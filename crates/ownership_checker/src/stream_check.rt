@@ -4,7 +4,7 @@ ghost use Rattle.trace_reader.specs.Streaming.Streams.{IsBadLine};
 ghost use Rattle.ring_knowledge.specs.declared.lease.Lease.{Lease};
 ghost use Rattle.ownership_checker.specs.RingPasses.Accepted.{IsSound};
 ghost use Rattle.ownership_checker.specs.RingPasses.Reading.{OfTrace};
-ghost use Rattle.ownership_checker.specs.RingPasses.Rules.{ring_verdict};
+ghost use Rattle.ownership_rules.specs.Rules.{trace_verdict};
 ghost use Rattle.ownership_checker.specs.Streams.{IfBadLineIn, IfRefusedIn, told_in_check};
 
 use crate::certificate::Certificate;
@@ -28,7 +28,7 @@ pub fn check_stream<S: Source, M: WordMemory + Drop>(
     requires zero { (a : ℕ) → M.words memory a ≡ 0 }
     ensures accepted { IfOk result (λ certificate. OfTrace keeps (S.held source.old) (S.held source.new) (λ trace. IsSound trace certificate.leases.items)) }
     ensures refused { IfErr result (λ e. IfRefusedIn e (λ row c. OfTrace keeps (S.held source.old) (S.held source.new) (λ trace.
-        ring_verdict trace.header trace.first trace.rows ≡ Some (row, c)))) }
+        trace_verdict trace.header trace.first trace.rows ≡ Some (row, c)))) }
     ensures line { IfErr result (λ e. IfBadLineIn e (IsBadLine keeps (S.held source.old) (S.held source.new))) }
     ensures failures { S.failed source.new ≡ told_in_check (S.failed source.old) result }
 {
@@ -51,7 +51,7 @@ pub fn count_stream<S: Source, M: WordMemory + Drop>(
     requires zero { (a : ℕ) → M.words memory a ≡ 0 }
     ensures accepted { IfOk result (λ count. OfTrace false (S.held source.old) (S.held source.new) (λ trace. (leases : List Lease) × IsSound trace leases × (count ≡ length leases))) }
     ensures refused { IfErr result (λ e. IfRefusedIn e (λ row c. OfTrace false (S.held source.old) (S.held source.new) (λ trace.
-        ring_verdict trace.header trace.first trace.rows ≡ Some (row, c)))) }
+        trace_verdict trace.header trace.first trace.rows ≡ Some (row, c)))) }
     ensures line { IfErr result (λ e. IfBadLineIn e (IsBadLine false (S.held source.old) (S.held source.new))) }
     ensures failures { S.failed source.new ≡ told_in_check (S.failed source.old) result }
 {

@@ -2,13 +2,13 @@
 ghost use Rattle.std.specs.Prelude.{◌≡◌, ℕ, Some, IfErr, IfOk};
 ghost use Rattle.trace_reader.specs.Entries.{text_of};
 ghost use Rattle.ownership_checker.specs.RingPasses.Accepted.{IsSound};
-ghost use Rattle.ownership_checker.specs.RingPasses.Rules.{ring_verdict};
+ghost use Rattle.ownership_rules.specs.Rules.{trace_verdict};
 ghost use Rattle.ownership_checker.specs.Verdicts.{IfRefusedAt};
 
 use crate::certificate::Certificate;
 use crate::fault::CheckFault;
 use crate::pass::{Passed, pass_kept};
-use guest_memory::{PageMemory, WordMemory};
+use guest_memory::{SparseMemory, WordMemory};
 use leases::LeaseBook;
 use std::alloc::Global;
 use traces::Trace;
@@ -18,9 +18,9 @@ use traces::Trace;
 /// beside its rows every world is safe. `Memory` is answered only where a growth was refused.
 pub fn check(alloc: Global, trace: &Trace) -> Result<Certificate, CheckFault>
     ensures accepted { IfOk result (λ certificate. IsSound (text_of trace.now) certificate.leases.items) }
-    ensures refused { IfErr result (λ e. IfRefusedAt e (λ row c. ring_verdict trace.now.header trace.now.first trace.now.rows ≡ Some (row, c))) }
+    ensures refused { IfErr result (λ e. IfRefusedAt e (λ row c. trace_verdict trace.now.header trace.now.first trace.now.rows ≡ Some (row, c))) }
 {
-    check_in(alloc, trace, PageMemory::new(alloc))
+    check_in(alloc, trace, SparseMemory::new(alloc))
 }
 
 /// Checks a trace in one pass; its leases. The memory is all zero.
@@ -31,7 +31,7 @@ pub fn check_in<M: WordMemory + Drop>(
 ) -> Result<Certificate, CheckFault>
     requires zero { (a : ℕ) → M.words memory a ≡ 0 }
     ensures accepted { IfOk result (λ certificate. IsSound (text_of trace.now) certificate.leases.items) }
-    ensures refused { IfErr result (λ e. IfRefusedAt e (λ row c. ring_verdict trace.now.header trace.now.first trace.now.rows ≡ Some (row, c))) }
+    ensures refused { IfErr result (λ e. IfRefusedAt e (λ row c. trace_verdict trace.now.header trace.now.first trace.now.rows ≡ Some (row, c))) }
 {
     let header = trace.header.copy(alloc)?;
     let book = LeaseBook::new(alloc, &header)?;

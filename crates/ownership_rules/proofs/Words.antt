@@ -11,8 +11,7 @@ pub use Rattle.ownership_rules.specs.Rules.{verdict_from}
 pub use Rattle.ownership_rules.specs.declared.refusal.Refusal.{Refusal}
 pub use Rattle.ownership_rules.specs.declared.refusal.Refusal.TheVariants.{BadErdp, Busy, LinkFault, NotDeclared, NotInProfile, NotWhole, RingFull, WriteToOwned}
 pub use Rattle.ring_knowledge.specs.Known.{Known, nothing}
-pub use Rattle.ring_knowledge.specs.Learned.{learned}
-unfoldable pub use Rattle.ring_knowledge.specs.Learned.{known}
+pub use Rattle.ring_knowledge.specs.Histories.{header_now, known_after, known_now}
 pub use Rattle.ring_knowledge.specs.declared.lease.Lease.{Lease}
 pub use Rattle.segments.proofs.Crossings.{crossing_positive}
 pub use Rattle.segments.specs.Places.{overlap}
@@ -23,6 +22,7 @@ pub use Rattle.std.proofs.lemmas.Bool.Decides.{nat_tests}
 pub use Rattle.std.proofs.lemmas.List.Folds.{list_any-append}
 pub use Rattle.std.specs.List.{flat_map, list_any}
 pub use Rattle.traces.specs.Header.{driver_rings, event_shape}
+pub use Rattle.traces.specs.LivingRings.{header_after}
 pub use Rattle.traces.specs.declared.header.Header.{Header}
 pub use Rattle.traces.specs.declared.register.Register.TheVariants.{Config, Crcr, Dcbaap, Erdp, Erstba, Erstsz, Usbcmd}
 pub use Rattle.traces.specs.declared.ring.Ring.{Ring}

@@ -8,8 +8,9 @@ pub mod Writes
 pub mod Registers
 pub mod Doorbells
 pub mod Events
+pub mod Rings
+pub mod Withdrawals
 pub mod Older
 pub mod Rules
-pub mod Clean
 pub mod Leases
 pub mod OnLiterals

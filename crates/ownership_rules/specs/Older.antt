@@ -4,7 +4,8 @@ use Rattle.commands.specs.declared.command.Command.{Command}
 use Rattle.traces.specs.declared.header.Header.{Header}
 use Rattle.traces.specs.declared.row.Row.{Row}
 use Rattle.traces.specs.declared.register.Register.TheVariants.{Erstsz, Erdp}
-use Rattle.traces.specs.declared.row.Row.TheVariants.{Write, Reg}
+use Rattle.traces.specs.declared.row.Row.TheVariants.{Write, Reg, Nop as NopRow}
+use Rattle.traces.specs.Header.{shape_of}
 use Rattle.traces.specs.Versions.{is_three}
 use Rattle.ring_knowledge.specs.Known.{Known}
 use Rattle.ownership_rules.specs.declared.refusal.Refusal.{Refusal}
@@ -14,6 +15,7 @@ use Rattle.ownership_rules.specs.Commands as commands
 use Rattle.ownership_rules.specs.Moves as moves
 use Rattle.ownership_rules.specs.Registers as registers
 use Rattle.ownership_rules.specs.Writes as writes
+use Rattle.ownership_rules.specs.Withdrawals.{is_passed}
 
 module _ (h : Header) where
   -- WriteToOwned: a word under lease, also one that the write leaves as it is; Busy: a command beside any other of its slot; NotInProfile: an isochronous endpoint (xHCI 4.14.2), also one that stays
@@ -29,6 +31,7 @@ module _ (h : Header) where
 
   -- what the trace's version refuses besides, by this rule
   unfoldable pub stricter : Known → Row → Refusal → Bool
+  stricter k (NopRow r p) rule = is_passed h (shape_of h r) (k.ring r) p
   stricter k row rule = older k row rule && not (is_three h.version)
 
   -- the write breaks WriteToOwned, by the trace's version

@@ -12,7 +12,6 @@ use Rattle.contexts.specs.declared.size.ContextSize.TheVariants.{Bytes32}
 use Rattle.traces.specs.declared.row.Row.{Row}
 use Rattle.traces.specs.declared.row.Row.TheVariants.{Sub as SubRow, Write}
 use Rattle.trace_reader.specs.Plans.{PlanText}
-use Rattle.traces.specs.declared.trace_row.TraceRow.TheVariants.{Plain}
 use Rattle.trace_reader.specs.Reading.{TraceText}
 use Rattle.trace_reader.specs.Spelling.{printed_line, row_fields, size_fields, version_fields}
 use Rattle.plan_writer.specs.declared.fault.PlanRefusal.{PlanRefusal}
@@ -63,7 +62,7 @@ plan_refusal plan = refusal_from plan.ring.id (start_of plan) 3 plan.lines
 -- the trace of a plan: contexts of 32 bytes, its ring, and the rows of its lines
 abbrev pub plan_trace : PlanText → TraceText
 plan_trace plan =
-    record { header = record { version = One; context_size = Bytes32; rings = plan.ring ∷ [] }; first = 4; rows = map Plain (rows_from (start_of plan) plan.lines) }
+    record { header = record { version = One; context_size = Bytes32; rings = plan.ring ∷ [] }; first = 4; rows = rows_from (start_of plan) plan.lines }
 
 -- rows as they are printed
 abbrev pub rows_text : List Row → List ℕ

@@ -11,8 +11,7 @@ unfoldable pub use Rattle.contexts.specs.Contexts.{added_endpoints}
 pub use Rattle.contexts.specs.View.{View}
 pub use Rattle.contexts.specs.declared.size.ContextSize.{ContextSize}
 pub use Rattle.controller_model.proofs.RingRowLemmas.{none_dropped, nothing_listed, one_dropped, without_is}
-unfoldable pub use Rattle.controller_model.specs.Showing.{scene_replayed, scene_seen_by, scene_seen_from}
-unfoldable pub use Rattle.controller_model.specs.Showing.{shows}
+unfoldable pub use Rattle.controller_model.specs.Showing.{scene_replayed, scene_seen_by, scene_seen_from, shows}
 pub use Rattle.controller_model.specs.Worlds.{StandsFor}
 pub use Rattle.controller_model.specs.declared.fault.StepFault.TheVariants.{NotPossible}
 pub use Rattle.controller_model.specs.declared.seen.Seen.{Seen}
@@ -22,11 +21,11 @@ pub use Rattle.event_rows.proofs.CommandCompletions.Finished.{has_room, was_star
 pub use Rattle.event_rows.proofs.CommandCompletions.Succeeded.{words_are}
 pub use Rattle.event_rows.proofs.TransferEvents.Reports.{driven}
 pub use Rattle.event_rows.specs.TransferEvents.NamedSpots.{IsNamedAt}
-pub use Rattle.ownership_checker.proofs.RingPasses.Histories.{kept_now}
+pub use Rattle.ownership_checker.proofs.RingPasses.Histories.{kept_now, driven_after, header_driven}
 pub use Rattle.ownership_checker.proofs.RingPasses.Verdicts.{row_refused}
 pub use Rattle.ownership_checker.specs.RingPasses.Clean.{AreClean, IsLeastOfRow}
 pub use Rattle.ownership_checker.specs.RingPasses.Passing.{IsRingPassed}
-pub use Rattle.ownership_checker.specs.RingPasses.Rules.{ring_verdict}
+pub use Rattle.ownership_rules.specs.Rules.{trace_verdict}
 pub use Rattle.ownership_checker.specs.declared.pass.ring_pass.RingPass.{RingPass}
 unfoldable pub use Rattle.ownership_rules.specs.Events.{is_impossible_by_kind, is_impossible_completion}
 unfoldable pub use Rattle.ownership_rules.specs.Moves.{binding_in, binds, has_repeats, is_among, ring_bound}
@@ -66,6 +65,7 @@ pub use Rattle.safety.proofs.LazyRuns.WholeRuns.{all_are_read}
 pub use Rattle.safety.proofs.Placings.{ReadyAt, all_ready, dropped, map_map, ready_next, ring_at}
 pub use Rattle.safety.proofs.RingChanges.GoneRings.{gone_ring_header}
 pub use Rattle.safety.proofs.RingChanges.Headline.{headline}
+pub use Rattle.safety.proofs.RingChanges.KeptRings.{kept_coming, kept_going}
 pub use Rattle.safety.proofs.RingChanges.LiveHeadline.{now_keeps}
 pub use Rattle.safety.proofs.RingChanges.RingRuns.{comes_header}
 pub use Rattle.safety.proofs.RingIds.{having_transfer, none_has_256}
@@ -80,11 +80,13 @@ pub use Rattle.safety.specs.Keeps.{DriverKeeps, IsTransferRing}
 pub use Rattle.safety.specs.LazyRuns.LateEvents.{IsTimely}
 pub use Rattle.safety.specs.LazyRuns.Law.{ContainsAll}
 unfoldable pub use Rattle.safety.specs.LazyRuns.Lazy.{behind_taken, brought, command_taken, further, goals, lazy_run, lazy_steps, looks_to, open_goals, pointers_after, pointers_at, pointers_for, post_of, report_goals, spots_before, steps_before, steps_for, stop_goal, stopped_goals, taken_up_to}
-unfoldable pub use Rattle.safety.specs.LazyRuns.Needs.{begins_anew, ends_need, is_placed, is_placed_by, is_placed_by_all, need, number_behind, number_needed, number_reported, ring_placed}
+unfoldable pub use Rattle.safety.specs.LazyRuns.Needs.{begins_anew, ends_need, is_placed, is_placed_by, is_placed_by_all, need, number_behind, number_reported, ring_placed}
 pub use Rattle.safety.specs.Placings.{StillHolds}
-pub use Rattle.safety.specs.RingChanges.Histories.{AreKept, FitsFields, IsKept, header_after, header_now, known_after, known_now}
-pub use Rattle.safety.specs.RingChanges.Withdrawals.{restored}
-unfoldable pub use Rattle.safety.specs.RingChanges.Withdrawals.{restored_on, ring_restored}
+pub use Rattle.safety.specs.RingChanges.Histories.{AreKept, IsKept}
+pub use Rattle.traces.specs.Rows.{IsRow, AreSteps, IsStep, is_ring_row}
+pub use Rattle.traces.specs.LivingRings.{header_after}
+pub use Rattle.ring_knowledge.specs.Histories.{header_now, known_after, known_now, restored}
+unfoldable pub use Rattle.ring_knowledge.specs.Histories.{restored_on, ring_restored}
 pub use Rattle.safety.specs.RingsKeep.{RingsKeep}
 pub use Rattle.segments.proofs.Words.{nat_tests, next, position_or_len, spots_from, take_more}
 pub use Rattle.segments.specs.RingView.{floor_number}
@@ -112,25 +114,23 @@ pub use Rattle.trace_record.specs.declared.trace_record.TraceRecord.{TraceRecord
 pub use Rattle.traces.specs.Header.{IsHeader, is_transfer_kind, may_stand_together, no_shape, ring_with}
 unfoldable pub use Rattle.traces.specs.Header.{command_id, command_ring, ring_having, shape_of}
 pub use Rattle.traces.specs.Limits.{most_lines, most_streamed_lines}
-pub use Rattle.traces.specs.Rows.{AreSteps, IsStep}
 pub use Rattle.traces.specs.TraceRows.{AreRowsOf, IsRowOf, IsTraceRow}
 pub use Rattle.traces.specs.declared.header.Header.{Header}
 pub use Rattle.traces.specs.declared.ring.Ring.{Ring}
 pub use Rattle.traces.specs.declared.row.Row.{Row}
-pub use Rattle.traces.specs.declared.row.Row.TheVariants.{Bell, Read}
+pub use Rattle.traces.specs.declared.row.Row.TheVariants.{Bell, Read, Ring as RingRow, Free as FreeRow, Nop as NopRow}
 pub use Rattle.traces.specs.declared.step.Step.TheVariants.{Finish, Other, Report}
-pub use Rattle.traces.specs.declared.trace_row.TraceRow.{TraceRow}
 pub use Rattle.traces.specs.declared.version.Version.{Version}
-pub use Rattle.traces.specs.declared.trace_row.TraceRow.TheVariants.{Comes, Goes, Plain, Withdraws}
 pub use Rattle.trb.specs.Block.{code, kind, slot}
 pub use Rattle.trb.specs.CompletionCode.{is_stopping}
 pub use Rattle.trb.specs.declared.block.Block.{Block}
 pub use Rattle.trb.specs.declared.kind.BlockKind.{BlockKind}
 pub use Rattle.trb.specs.declared.kind.BlockKind.TheVariants.{CommandCompletion, TransferEvent}
 unfoldable pub use Rattle.world_state.specs.Harms.{harm_of}
-unfoldable pub use Rattle.world_state.specs.RingRows.{with_ring}
+unfoldable pub use Rattle.traces.specs.LivingRings.{with_ring}
 pub use Rattle.world_state.specs.Scenes.{Scene, scene_before, scene_reached, step_made}
 unfoldable pub use Rattle.world_state.specs.Scenes.{scene_ending_from}
 pub use Rattle.world_state.specs.Steps.{Harmful, Harmful as HarmfulAt, NoHarm}
 unfoldable pub use Rattle.world_state.specs.Steps.{judged}
 pub use Rattle.world_state.specs.declared.harm.Harm.{Harm}
+pub use Rattle.ownership_checker.proofs.JudgedRows.Kinds.{driven_by}

@@ -5,7 +5,7 @@ ghost use Rattle.replayer.specs.Replays.{IsReplay};
 
 use crate::fault::ReplayFault;
 use controller_model::{Seen, StepFault, World};
-use guest_memory::{PageMemory, WordMemory};
+use guest_memory::{SparseMemory, WordMemory};
 use std::alloc::{AllocError, Global};
 use traces::{Schedule, Step, Trace};
 
@@ -69,6 +69,6 @@ pub fn replay(alloc: Global, trace: &Trace, schedule: &Schedule) -> Result<Vec<S
         alloc,
         trace,
         schedule.steps.as_slice(),
-        PageMemory::new(alloc),
+        SparseMemory::new(alloc),
     )
 }

@@ -1,5 +1,5 @@
 -- The test of a move, at the one spot that a pointer and a cycle state name
-use Rattle.ring_knowledge.proofs.LowerLaws.{rules, ◌≡◌, ◌+◌, ◌-◌, ◌<◌, ◌≤◌, ◌∷◌, ◌∙◌, ◌&&◌, ◌||◌, ℕ, List, [], Bool, true, false, Some, None, refl, ap, sym, arith, inl, inr, All, find, list_any, cases_Bool, cond-true, cond-false, and_parts, or_cases, false≢true, none-some, All-head, All-tail, All-weaker, Spot, Shape, IsShape, place_count, number, RingView, is_target, spots_between, may_move_to, is_move, found_is, between, target_parts, one_between}
+use Rattle.ring_knowledge.proofs.LowerLaws.{rules, ◌≡◌, ◌+◌, ◌<◌, ◌≤◌, ◌∷◌, ◌∙◌, ◌&&◌, ◌||◌, ℕ, List, [], Bool, true, false, Some, None, refl, ap, sym, arith, inl, inr, All, find, list_any, cases_Bool, cond-true, cond-false, and_parts, or_cases, false≢true, none-some, All-head, All-tail, All-weaker, Spot, Shape, IsShape, place_count, number, RingView, is_target, spots_between, may_move_to, is_move, found_is, between, target_parts, one_between}
 
 module _ (f g : Spot → Bool) where
   -- where none passes the first test, none passes both

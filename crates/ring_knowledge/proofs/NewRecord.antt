@@ -1,5 +1,5 @@
 -- A new record follows a ring on which nothing happened
-use Rattle.ring_knowledge.proofs.MiddleLaws.{drop, slice_index, ◌-◌, ◌≡◌, ◌≤◌, ◌&&◌, ℕ, List, [], Bool, false, Some, arith, length, get_or, replicate, cases_lt, common_steps, length-map, Data, Shape, IsShape, place_count, new_ring, length_from, crossing_positive, RingRecord, is_noted, FollowsMarks, list_any, is_at, nat_cmp, false≢true, rules, noted_due, noted_past}
+use Rattle.ring_knowledge.proofs.MiddleLaws.{drop, slice_index, ◌≡◌, ◌≤◌, ◌&&◌, ℕ, List, [], Bool, false, Some, arith, length, get_or, replicate, cases_lt, common_steps, length-map, Data, Shape, IsShape, place_count, new_ring, length_from, crossing_positive, RingRecord, is_noted, FollowsMarks, list_any, is_at, nat_cmp, false≢true, rules, noted_due, noted_past}
 
 -- with no mark nothing is noted from the least due number on
 none_noted : (least count : ℕ) (marks : List Bool) (many i n : ℕ) → marks ≡ replicate many false → least ≤ n → is_noted least count marks i n ≡ false

@@ -1,5 +1,5 @@
 -- A spot at which a controller may have stopped is one before which all is given, on a ring that a record follows
-use Rattle.ring_knowledge.proofs.UpperLaws.{in_range_all, all_in_range, ◌≡◌, ◌≢◌, ◌+◌, ◌-◌, ◌<◌, ◌≤◌, ◌∙◌, ◌||◌, ℕ, suc, zero, Bool, true, false, None, Some, refl, ap, sym, arith, inl, inr, not, is_some, nat_lt, nat_le, lt-ltb, le-ltb, le-leb, leb-true, ltb-true, eq-eqb, eqb-true, ne_eqb, cases_lt, and_parts, and_from, or_cases, or_left, or_right, false≢true, Spot, Data, Link, Shape, place_count, is_crossing, link_crossed, RingView, is_way_given, is_step_given, given_count, is_stop_spot, stopped_number, is_reached, are_given, are_ways_given, link_of, is_crossing-from, RingRecord, is_noted, FollowsMarks, FollowsRing, least_crossing, rules, link_of-crossed, count_is}
+use Rattle.ring_knowledge.proofs.UpperLaws.{in_range_all, all_in_range, ◌≡◌, ◌≢◌, ◌+◌, ◌<◌, ◌≤◌, ◌∙◌, ◌||◌, ℕ, suc, zero, Bool, true, false, None, Some, refl, ap, sym, arith, inl, inr, not, is_some, nat_lt, nat_le, lt-ltb, le-ltb, le-leb, leb-true, ltb-true, eq-eqb, eqb-true, ne_eqb, cases_lt, and_parts, and_from, or_cases, or_left, or_right, false≢true, Spot, Data, Link, Shape, place_count, is_crossing, link_crossed, RingView, is_way_given, is_step_given, given_count, is_stop_spot, stopped_number, is_reached, are_given, are_ways_given, link_of, is_crossing-from, RingRecord, is_noted, FollowsMarks, FollowsRing, least_crossing, rules, link_of-crossed, count_is}
 
 same_tests : (a b : Bool) → (a ≡ true → b ≡ true) → (b ≡ true → a ≡ true) → a ≡ b
 same_tests a b f g = grind arith

@@ -1,5 +1,5 @@
--- What each row adds, and what is known after the rows so far
-use Rattle.std.specs.Prelude.{◌+◌, List, [], ◌∷◌}
+-- What each row of an access or an event adds, and what is known after such rows
+use Rattle.std.specs.Prelude.{◌+◌}
 use Rattle.trb.specs.declared.block.Block.{Block}
 use Rattle.trb.specs.declared.kind.BlockKind.{BlockKind}
 use Rattle.trb.specs.declared.kind.BlockKind.TheVariants.{TransferEvent, CommandCompletion}
@@ -8,7 +8,7 @@ use Rattle.segments.specs.RingView.{Declares}
 use Rattle.traces.specs.declared.header.Header.{Header}
 use Rattle.traces.specs.declared.row.Row.{Row}
 use Rattle.traces.specs.declared.row.Row.TheVariants.{Sub, Write, Reg, Bell, Read}
-use Rattle.ring_knowledge.specs.Known.{Known, nothing}
+use Rattle.ring_knowledge.specs.Known.{Known}
 use Rattle.ring_knowledge.specs.Rings.{on_ring}
 use Rattle.ring_knowledge.specs.Writes as writes
 use Rattle.ring_knowledge.specs.Registers as registers
@@ -21,15 +21,11 @@ module _ (h : Header) where
   event_read k CommandCompletion b = completions.completed h k b
   event_read k _ b = k
 
-  -- what is known after one more row
+  -- what is known after one more row, of which no ring comes or goes, and no descriptor is withdrawn
   unfoldable pub learned : Known → Row → Known
   learned k (Sub r blocks) = on_ring h k r (Declares blocks)
   learned k (Write a word) = writes.written h k a word
   learned k (Reg r v) = registers.register_written h k r v
   learned k (Bell s t) = registers.rung h k s t
   learned k (Read b) = record (event_read k (kind b) b) { reads = k.reads + 1 }
-
-  -- what is known after the rows so far, the newest first
-  unfoldable pub known : List Row → Known
-  known [] = nothing
-  known (row ∷ past) = learned (known past) row
+  learned k row = k

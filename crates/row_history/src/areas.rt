@@ -1,16 +1,17 @@
 //! What the controller has beside rings: the Event Ring Segment Table, Input Contexts, entries of the DCBAA and Device Contexts.
-use crate::finding::{Case, Finding};
+use crate::finding::{Case, Shown};
+use crate::known::Known;
 use crate::rows::{last_register, last_write, register_value};
-use crate::unfinished::all_unfinished;
-use crate::words::{NOT_JUDGED, ring_of_kind};
-use std::alloc::AllocError;
+use crate::unfinished::Unfinished;
+use crate::words::ring_of_kind;
+use std::alloc::{AllocError, Global};
 use std::fmt;
-use traces::Register;
+use traces::{Header, Register, Row};
 use trb::RingKind;
 
 /// What an area is.
 #[derive(Clone, Copy, PartialEq, Eq)]
-enum AreaKind {
+pub enum AreaKind {
     Table,
     InputContext,
     /// The entry of this slot.
@@ -32,7 +33,7 @@ impl fmt::Display for AreaKind {
 
 /// An area that the controller has.
 #[derive(Clone, Copy)]
-struct Area {
+pub struct Area {
     kind: AreaKind,
     from: u64,
     bytes: u64,
@@ -52,139 +53,137 @@ impl Area {
 }
 
 /// The areas that the controller has: the table first, then Input Contexts, then entries and Device Contexts by slot.
-fn areas(case: &Case) -> Result<Vec<Area>, AllocError> {
-    let mut found = Vec::new(case.alloc);
-    if let Some(table) = table(case) {
+pub(crate) fn areas(
+    alloc: Global,
+    header: &Header,
+    before: &[Row],
+    known: &Known,
+    unfinished: &[Unfinished],
+) -> Result<Vec<Area>, AllocError> {
+    let mut found = Vec::new(alloc);
+    if let Some(table) = table(header, before) {
         found.push(table)?;
     }
-    for given in &all_unfinished(case)? {
+    for given in unfinished {
         if let Some(from) = given.command.input_context() {
             found.push(Area {
                 kind: AreaKind::InputContext,
                 from,
-                bytes: 33 * case.header.context_size.bytes(),
+                bytes: 33 * header.context_size.bytes(),
                 row: given.row,
             })?;
         }
     }
-    for slot in 1..=255u8 {
-        push_device(case, &mut found, slot)?;
-    }
+    push_devices(header, known, &mut found)?;
     Ok(found)
 }
 
 /// The Event Ring Segment Table.
-fn table(case: &Case) -> Option<Area> {
-    let value = register_value(case.before, Register::Erstba)?;
-    let ring = ring_of_kind(case.header.rings.as_slice(), RingKind::Evt)?;
+fn table(header: &Header, before: &[Row]) -> Option<Area> {
+    let value = register_value(before, Register::Erstba)?;
+    let ring = ring_of_kind(header.rings.as_slice(), RingKind::Evt)?;
     Some(Area {
         kind: AreaKind::Table,
         from: value / 64 * 64,
         bytes: (ring.shape.segments().len() as u64).saturating_mul(16),
-        row: last_register(case.before, Register::Erstba),
+        row: last_register(before, Register::Erstba),
     })
 }
 
-/// Adds the DCBAA entry and the Device Context of a slot, where the controller has them.
-fn push_device(case: &Case, found: &mut Vec<Area>, slot: u8) -> Result<(), AllocError> {
-    if let Some(from) = case.known.devices.device(slot) {
-        let row = case.known.taken_by(slot);
-        found.push(Area {
-            kind: AreaKind::Entry(slot),
-            from: case.known.entry_of(slot),
-            bytes: 8,
-            row,
-        })?;
-        found.push(Area {
-            kind: AreaKind::Device(slot),
-            from,
-            bytes: 32 * case.header.context_size.bytes(),
-            row,
-        })?;
+/// Adds the DCBAA entries and the Device Contexts that the controller has, by slot.
+fn push_devices(header: &Header, known: &Known, found: &mut Vec<Area>) -> Result<(), AllocError> {
+    for slot in 1..=255u8 {
+        if let Some(from) = known.devices.device(slot) {
+            let row = known.taken_by(slot);
+            found.push(Area {
+                kind: AreaKind::Entry(slot),
+                from: known.entry_of(slot),
+                bytes: 8,
+                row,
+            })?;
+            found.push(Area {
+                kind: AreaKind::Device(slot),
+                from,
+                bytes: 32 * header.context_size.bytes(),
+                row,
+            })?;
+        }
     }
     Ok(())
 }
 
 /// The area of the controller that has one of some bytes and comes back last: the table, or else the last in the order.
-fn area_touched(case: &Case, from: u64, bytes: u64) -> Result<Option<Area>, AllocError> {
+fn area_touched(case: &Case, from: u64, bytes: u64) -> Option<Area> {
     let mut found: Option<Area> = None;
-    for area in &areas(case)? {
+    for area in case.areas {
         if area.touches(from, bytes) && !found.is_some_and(|kept| kept.kind == AreaKind::Table) {
             found = Some(*area);
         }
     }
-    Ok(found)
+    found
 }
 
 /// A write to a context, an entry of the DCBAA or the segment table.
-pub fn write_to_area(case: &Case, address: u64, word: u32) -> Result<Finding, AllocError> {
-    let Some(area) = area_touched(case, address, 4)? else {
-        return Finding::new(
-            case.alloc,
-            "write to memory that the controller owns",
-            "in use by the controller",
-        );
+pub fn write_to_area(case: &mut Case, address: u64, word: u32) {
+    let Some(area) = area_touched(case, address, 4) else {
+        case.head("write to memory that the controller owns", &[]);
+        case.here("in use by the controller", &[]);
+        return;
     };
     let kind = area.kind;
-    let head = format!(in case.alloc; "write to {kind}, which the controller owns")?;
-    let (offset, bytes, from) = (address.saturating_sub(area.from), area.bytes, area.from);
-    let here = format!(in case.alloc; "byte {offset} of the {bytes} bytes at {from:016x}")?;
-    let mut finding = Finding::new(case.alloc, head.as_str(), here.as_str())?;
-    finding.mark(case.alloc, area.row, "this row hands it to the controller")?;
-    finding.say(case.alloc, comes_back(kind))?;
-    finding.help(case.alloc, instead(kind))?;
+    case.head(
+        "write to {}, which the controller owns",
+        &[Shown::Area(kind)],
+    );
+    case.here(
+        "byte {} of the {} bytes at {}",
+        &[
+            Shown::Number(address.saturating_sub(area.from)),
+            Shown::Number(area.bytes),
+            Shown::Address(area.from),
+        ],
+    );
+    case.mark(area.row, "this row hands it to the controller", &[]);
+    case.note(comes_back(kind), &[]);
+    case.help(instead(kind), &[]);
     if !matches!(kind, AreaKind::Device(_)) {
-        note_unchanged(case, &mut finding, address, word)?;
+        note_unchanged(case, address, word);
     }
-    Ok(finding)
 }
 
 /// Whether some bytes touch an area that the controller has.
-pub fn is_in_area(case: &Case, from: u64, bytes: u64) -> Result<bool, AllocError> {
-    let area = area_touched(case, from, bytes)?;
-    Ok(area.is_some())
+pub fn is_in_area(case: &Case, from: u64, bytes: u64) -> bool {
+    area_touched(case, from, bytes).is_some()
 }
 
 /// Notes which area of the controller some bytes touch, when it comes back, and points at the row that handed it over.
-pub fn note_area(
-    case: &Case,
-    finding: &mut Finding,
-    from: u64,
-    bytes: u64,
-) -> Result<(), AllocError> {
-    let Some(area) = area_touched(case, from, bytes)? else {
-        return Ok(());
+pub fn note_area(case: &mut Case, from: u64, bytes: u64) {
+    let Some(area) = area_touched(case, from, bytes) else {
+        return;
     };
-    let (kind, base, size) = (area.kind, area.from, area.bytes);
-    let note = format!(in case.alloc; "{kind} has the {size} bytes at {base:016x}")?;
-    finding.note(note)?;
-    finding.mark(case.alloc, area.row, "this row hands it to the controller")?;
-    finding.say(case.alloc, comes_back(kind))
+    let size = Shown::Number(area.bytes);
+    case.note(
+        "{} has the {} bytes at {}",
+        &[Shown::Area(area.kind), size, Shown::Address(area.from)],
+    );
+    case.mark(area.row, "this row hands it to the controller", &[]);
+    case.note(comes_back(area.kind), &[]);
 }
 
 /// Notes that a write to memory which the controller only reads leaves the word as it is. Whether it does.
-pub fn note_unchanged(
-    case: &Case,
-    finding: &mut Finding,
-    address: u64,
-    word: u32,
-) -> Result<bool, AllocError> {
+pub fn note_unchanged(case: &mut Case, address: u64, word: u32) -> bool {
     if case.known.word(address) != word {
-        return Ok(false);
+        return false;
     }
-    match last_write(case.before, address) {
-        Some(_) => finding.say(
-            case.alloc,
-            "the word is the same as before: no controller sees a difference",
-        )?,
-        None => finding.say(
-            case.alloc,
+    let note = match last_write(case.before, address) {
+        Some(_) => "the word is the same as before: no controller sees a difference",
+        None =>
             "the word was never written and counts as 0, which it stays: no controller sees a difference",
-        )?,
-    }
-    finding.say(case.alloc, NOT_JUDGED)?;
-    finding.help(case.alloc, "leave out the second write")?;
-    Ok(true)
+    };
+    case.note(note, &[]);
+    case.not_judged();
+    case.help("leave out the second write", &[]);
+    true
 }
 
 /// When an area comes back.
@@ -218,31 +217,46 @@ pub enum Beside {
     All,
 }
 
+/// Why an area of the driver may not lie where it does.
+#[derive(Clone, Copy)]
+pub enum NoArea {
+    TooHigh,
+    /// It touches the ring with this ID.
+    Ring(u8),
+    /// It touches what the controller has there.
+    Area { kind: AreaKind, from: u64 },
+}
+
+impl fmt::Display for NoArea {
+    fn fmt<W: fmt::Write>(&self, f: &mut fmt::Formatter<W>) -> fmt::Result {
+        match *self {
+            NoArea::TooHigh => f.write_str("ends above 2^64"),
+            NoArea::Ring(id) => write!(f, "touches ring {id:02x}"),
+            NoArea::Area { kind, from } => {
+                write!(f, "touches {kind} at {from:016x}, which the controller has")
+            }
+        }
+    }
+}
+
 /// Why an area of the driver may not lie where it does, where it may not: it ends above 2^64, or touches a ring, or what the controller has.
-pub fn clash(
-    case: &Case,
-    from: u64,
-    bytes: u64,
-    beside: Beside,
-) -> Result<Option<String>, AllocError> {
+pub fn clash(case: &Case, from: u64, bytes: u64, beside: Beside) -> Option<NoArea> {
     if from > u64::MAX - bytes.saturating_sub(1) {
-        return Ok(Some(String::from_str(case.alloc, "ends above 2^64")?));
+        return Some(NoArea::TooHigh);
     }
     for ring in case.header.rings.as_slice() {
         if ring.shape.overlaps(from, bytes) {
-            let id = ring.id;
-            return Ok(Some(format!(in case.alloc; "touches ring {id:02x}")?));
+            return Some(NoArea::Ring(ring.id));
         }
     }
-    for area in &areas(case)? {
+    for area in case.areas {
         let counts = beside == Beside::All || matches!(area.kind, AreaKind::Device(_));
         if counts && area.touches(from, bytes) {
-            let (kind, base) = (area.kind, area.from);
-            let text = format!(in case.alloc;
-                "touches {kind} at {base:016x}, which the controller has"
-            )?;
-            return Ok(Some(text));
+            return Some(NoArea::Area {
+                kind: area.kind,
+                from: area.from,
+            });
         }
     }
-    Ok(None)
+    None
 }

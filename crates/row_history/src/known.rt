@@ -3,16 +3,18 @@ ghost use Rattle.std.specs.Prelude.{◌≡◌, ◌<◌, ◌%◌, OnOk};
 ghost use Rattle.traces.specs.Header.{IsHeader};
 ghost use Rattle.trace_record.specs.RingFinder.Finding.{IsFinder};
 
+use crate::areas::{Area, areas};
 use crate::live_rings::{add_ring, clashes_with_one, remove_ring};
 use crate::positions::is_handed_over;
 use crate::ring_past::RingPast;
+use crate::unfinished::{Unfinished, all_unfinished};
 use commands::{Command, EndpointState};
-use contexts::{EndpointContext, InputContext};
-use guest_memory::{Addr, PageMemory, WordMemory};
+use contexts::{ContextSize, EndpointContext, InputContext};
+use guest_memory::{Addr, SparseMemory, WordMemory};
 use ring_knowledge::{RingGiving, RingRecord};
 use std::alloc::{AllocError, Global};
 use trace_record::{DeviceRecord, Finder, Named};
-use traces::{Header, Register, Ring, Row, TraceRow};
+use traces::{Header, Register, Ring, Rings, Row, Version};
 use trb::{Block, BlockKind};
 
 /// That an endpoint got a ring.
@@ -58,7 +60,9 @@ pub struct Stopping {
 /// What is known after some rows.
 #[derive(Drop)]
 pub struct Known {
-    pub memory: PageMemory,
+    pub memory: SparseMemory,
+    /// Of each word the row that wrote it last, by its index and one more; 0 of a word that none wrote.
+    writers: SparseMemory,
     /// In the order of the header.
     pub rings: Vec<RingRecord>,
     /// In the order of the header.
@@ -76,15 +80,35 @@ pub struct Known {
     pub array: Option<u64>,
 }
 
-/// Which rings are there after some rows, and what is known.
+/// Which rings are there after some rows, what is known, which commands are unfinished, and what the controller has beside rings.
 #[derive(Drop)]
 pub struct Behind {
     pub header: Header,
     pub known: Known,
+    pub(crate) unfinished: Vec<Unfinished>,
+    pub(crate) areas: Vec<Area>,
+}
+
+impl Behind {
+    /// Where there are neither rings nor rows, as beside a plan.
+    pub fn nothing(alloc: Global) -> Result<Behind, AllocError> {
+        let header = Header {
+            version: Version::Three,
+            context_size: ContextSize::Bytes32,
+            rings: Rings::new(Vec::new(alloc)),
+        };
+        let known = Known::new(alloc, &header)?;
+        Ok(Behind {
+            header,
+            known,
+            unfinished: Vec::new(alloc),
+            areas: Vec::new(alloc),
+        })
+    }
 }
 
 /// What is known after these rows, and of which rings.
-pub fn known_after(alloc: Global, header: &Header, rows: &[TraceRow]) -> Result<Behind, AllocError>
+pub fn known_after(alloc: Global, header: &Header, rows: &[Row]) -> Result<Behind, AllocError>
     requires { IsHeader header.now }
 {
     let mut header = header.copy(alloc)?;
@@ -93,7 +117,14 @@ pub fn known_after(alloc: Global, header: &Header, rows: &[TraceRow]) -> Result<
     for (index, row) in rows.iter().enumerate() {
         known.learn(alloc, &mut header, &mut finder, index, row)?;
     }
-    Ok(Behind { header, known })
+    let unfinished = all_unfinished(alloc, &header, &known)?;
+    let areas = areas(alloc, &header, rows, &known, unfinished.as_slice())?;
+    Ok(Behind {
+        header,
+        known,
+        unfinished,
+        areas,
+    })
 }
 
 impl Known {
@@ -106,7 +137,8 @@ impl Known {
             pasts.push(RingPast::new(alloc))?;
         }
         Ok(Known {
-            memory: PageMemory::new(alloc),
+            memory: SparseMemory::new(alloc),
+            writers: SparseMemory::new(alloc),
             rings,
             pasts,
             devices: DeviceRecord::new(alloc)?,
@@ -118,14 +150,14 @@ impl Known {
         })
     }
 
-    /// Notes one more row.
+    /// Notes one more row: what the driver did, an event that it read, or that a ring came or went, or a TD was withdrawn.
     fn learn(
         &mut self,
         alloc: Global,
         header: &mut Header,
         finder: &mut Finder,
         index: usize,
-        row: &TraceRow,
+        row: &Row,
     ) -> Result<(), AllocError>
         requires headed { IsHeader header.now }
         requires found { IsFinder header.now.rings finder.now }
@@ -133,10 +165,30 @@ impl Known {
         ensures found { OnOk result (IsFinder header.new.rings finder.new) }
     {
         match row {
-            TraceRow::Plain(row) => self.learn_row(header, finder, index, row),
-            TraceRow::Comes(ring) => self.learn_coming(alloc, header, finder, ring.as_ring()),
-            TraceRow::Goes(id) => self.learn_going(alloc, header, finder, *id),
-            TraceRow::Withdraws { ring, position } => {
+            Row::Sub { ring, blocks } => {
+                self.learn_declared(finder, index, *ring, blocks.as_slice())
+            }
+            Row::Write { at, word } => self.learn_word(header, finder, index, *at, *word),
+            Row::Reg { register, value } => {
+                if *register == Register::Dcbaap {
+                    self.array = Some(*value / 64 * 64);
+                }
+                Ok(())
+            }
+            Row::Bell { slot, target } => {
+                self.learn_bell(finder, *slot, *target);
+                Ok(())
+            }
+            Row::Read { event } => match event.kind() {
+                BlockKind::TransferEvent => self.learn_transfer(header, finder, index, *event),
+                BlockKind::CommandCompletion => self.learn_completion(
+                    header, finder, index, *event,
+                ),
+                _ => Ok(()),
+            },
+            Row::Ring { ring } => self.learn_coming(alloc, header, finder, ring.as_ring()),
+            Row::Free { ring: id } => self.learn_going(alloc, header, finder, *id),
+            Row::Nop { ring, position } => {
                 self.learn_withdrawn(header, finder, index, *ring, *position)
             }
         }
@@ -228,42 +280,6 @@ impl Known {
         }
     }
 
-    /// What the driver did, or an event that it read.
-    fn learn_row(
-        &mut self,
-        header: &Header,
-        finder: &Finder,
-        index: usize,
-        row: &Row,
-    ) -> Result<(), AllocError>
-        requires headed { IsHeader header.now }
-        requires found { IsFinder header.now.rings finder.now }
-    {
-        match row {
-            Row::Sub { ring, blocks } => {
-                self.learn_declared(finder, index, *ring, blocks.as_slice())
-            }
-            Row::Write { at, word } => self.learn_word(header, finder, index, *at, *word),
-            Row::Reg { register, value } => {
-                if *register == Register::Dcbaap {
-                    self.array = Some(*value / 64 * 64);
-                }
-                Ok(())
-            }
-            Row::Bell { slot, target } => {
-                self.learn_bell(finder, *slot, *target);
-                Ok(())
-            }
-            Row::Read { event } => match event.kind() {
-                BlockKind::TransferEvent => self.learn_transfer(header, finder, index, *event),
-                BlockKind::CommandCompletion => self.learn_completion(
-                    header, finder, index, *event,
-                ),
-                _ => Ok(()),
-            },
-        }
-    }
-
     /// TRBs were submitted.
     fn learn_declared(
         &mut self,
@@ -301,6 +317,8 @@ impl Known {
         requires found { IsFinder header.now.rings finder.now }
     {
         self.memory.set(at, word)?;
+        let writer = u32::try_from(row).unwrap_or(u32::MAX);
+        self.writers.set(at, writer.saturating_add(1))?;
         let Some(number) = finder.ring_at(header, at.get()) else {
             return Ok(());
         };
@@ -596,6 +614,24 @@ impl Known {
             }
         }
         Ok(())
+    }
+
+    /// The last row that wrote the word at an address.
+    pub fn last_writer(&self, address: u64) -> Option<usize> {
+        let at = Addr::new(address)?;
+        let writer = self.writers.word(at).checked_sub(1)?;
+        Some(writer as usize)
+    }
+
+    /// Which endpoint got a ring last.
+    pub fn last_binding(&self, ring: u8) -> Option<Binding> {
+        let mut last = None;
+        for bound in &self.bindings {
+            if bound.ring == ring {
+                last = Some(*bound);
+            }
+        }
+        last
     }
 
     /// The row by which an endpoint got a ring last.

@@ -15,9 +15,13 @@ mod soiled;
 mod unfinished;
 mod words;
 
-pub use areas::{Beside, clash, is_in_area, note_area, note_unchanged, write_to_area};
+pub use areas::{
+    Area, AreaKind, Beside, NoArea, clash, is_in_area, note_area, note_unchanged, write_to_area,
+};
 pub use event_places::given_back;
-pub use finding::{Case, Finding, Mark, line_of, note_dropped, ring_at, ring_known};
+pub use finding::{
+    Case, Finding, Mark, Shown, line_of, note_dropped, ring_at, ring_known, text_with,
+};
 pub use known::{Behind, Binding, Dropping, Known, Stopping, Taking, known_after};
 pub use positions::{
     NO_OP, begun_with_0, declared_now, is_handed_over, past_of, position_at, position_given,
@@ -31,8 +35,8 @@ pub use rows::{
 };
 pub use soiled::{SoiledWord, soiled_word};
 pub use unfinished::{
-    Unfinished, all_unfinished, binds_ring, command_at, has_block, name_two_endpoints, trb_at,
-    unfinished_beside, unfinished_on, unfinished_touching,
+    Unfinished, binds_ring, command_at, has_block, name_two_endpoints, trb_at, unfinished_beside,
+    unfinished_binding, unfinished_on, unfinished_touching,
 };
 pub use words::{
     NOT_JUDGED, Ordinal, code_name, command_name, endpoint_state_name, general_head, register_name,

@@ -1,9 +1,8 @@
 //! Positions of a ring: which row submitted a TRB, what is declared there now, whether the controller has it, and how a TRB is named.
-use crate::finding::Case;
+use crate::finding::{Case, Shown};
 use crate::ring_past::{RingPast, Submitted};
 use guest_memory::Addr;
 use ring_knowledge::{RingGiving, RingRecord};
-use std::alloc::AllocError;
 use traces::Ring;
 use trb::Block;
 
@@ -78,9 +77,12 @@ pub fn position_at(ring: &Ring, known: &RingRecord, place: u32) -> u64 {
 }
 
 /// The TRB of a position, and where it lies: a TRB has its position's number, a place its address.
-pub fn trb_named(case: &Case, ring: &Ring, position: u64) -> Result<String, AllocError> {
-    let (id, address) = (ring.id, ring.shape.address(position));
-    format!(in case.alloc; "TRB {position} of ring {id:02x}, at {address:016x}")
+pub fn trb_named<'a>(ring: &Ring, position: u64) -> Shown<'a> {
+    Shown::Trb {
+        position,
+        ring: ring.id,
+        address: ring.shape.address(position),
+    }
 }
 
 /// What a controller does that begins a ring with Cycle bit 0.

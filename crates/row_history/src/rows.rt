@@ -2,22 +2,22 @@
 ghost use Rattle.std.specs.Prelude.{◌≡◌, ◌<◌, length, IfSome, true, slice_get};
 ghost use Rattle.row_history.specs.Rows.{is_writer, writes_word};
 
-use traces::{Register, Row, TraceRow};
+use traces::{Register, Row};
 use trb::{Block, BlockKind};
 
 /// Whether a row writes the word at this address.
-fn writes(row: &TraceRow, address: u64) -> bool
+fn writes(row: &Row, address: u64) -> bool
     ensures { result ≡ writes_word address row.now }
 {
     match row {
-        TraceRow::Plain(Row::Write { at, .. }) => at.get() == address,
+        Row::Write { at, .. } => at.get() == address,
         _ => false,
     }
 }
 
 /// The last of the rows that writes the word at this address. Of a TRB that the controller owns its control word was last
 /// written by the row that gave it.
-pub fn last_write(rows: &[TraceRow], address: u64) -> Option<usize>
+pub fn last_write(rows: &[Row], address: u64) -> Option<usize>
     ensures inside { IfSome result (λ index. index < length rows.now) }
     ensures writer { IfSome result (λ index. is_writer address (slice_get rows.now index) ≡ true) }
 {
@@ -25,10 +25,10 @@ pub fn last_write(rows: &[TraceRow], address: u64) -> Option<usize>
 }
 
 /// The word at this address, as the rows left it: memory that they haven't written is 0.
-pub fn word_at(rows: &[TraceRow], address: u64) -> u32 {
+pub fn word_at(rows: &[Row], address: u64) -> u32 {
     let mut found = 0;
     for row in rows {
-        if let TraceRow::Plain(Row::Write { at, word }) = row {
+        if let Row::Write { at, word } = row {
             if at.get() == address {
                 found = *word;
             }
@@ -38,15 +38,13 @@ pub fn word_at(rows: &[TraceRow], address: u64) -> u32 {
 }
 
 /// The last of the rows that writes a register.
-pub fn last_register(rows: &[TraceRow], register: Register) -> Option<usize> {
+pub fn last_register(rows: &[Row], register: Register) -> Option<usize> {
     let mut last = None;
     for (index, row) in rows.iter().enumerate() {
-        if let TraceRow::Plain(
-            Row::Reg {
-                register: written,
-                ..
-            },
-        ) = row
+        if let Row::Reg {
+            register: written,
+            ..
+        } = row
         {
             if *written == register {
                 last = Some(index);
@@ -57,15 +55,13 @@ pub fn last_register(rows: &[TraceRow], register: Register) -> Option<usize> {
 }
 
 /// The last value that the rows write to a register.
-pub fn register_value(rows: &[TraceRow], register: Register) -> Option<u64> {
+pub fn register_value(rows: &[Row], register: Register) -> Option<u64> {
     let mut last = None;
     for row in rows {
-        if let TraceRow::Plain(
-            Row::Reg {
-                register: written,
-                value,
-            },
-        ) = row
+        if let Row::Reg {
+            register: written,
+            value,
+        } = row
         {
             if *written == register {
                 last = Some(*value);
@@ -76,12 +72,12 @@ pub fn register_value(rows: &[TraceRow], register: Register) -> Option<u64> {
 }
 
 /// The row that starts the controller: the first with Run/Stop 1 and HCRST 0.
-pub fn start(rows: &[TraceRow]) -> Option<usize> {
+pub fn start(rows: &[Row]) -> Option<usize> {
     rows.iter().position(|row| runs(row) == Some(true))
 }
 
 /// The row that stops the controller after the start.
-pub fn stop(rows: &[TraceRow]) -> Option<usize> {
+pub fn stop(rows: &[Row]) -> Option<usize> {
     let mut started = false;
     for (index, row) in rows.iter().enumerate() {
         match runs(row) {
@@ -98,20 +94,18 @@ pub fn stop(rows: &[TraceRow]) -> Option<usize> {
 }
 
 /// Of a write of USBCMD: whether Run/Stop is 1 and HCRST 0 there.
-fn runs(row: &TraceRow) -> Option<bool> {
+fn runs(row: &Row) -> Option<bool> {
     match row {
-        TraceRow::Plain(
-            Row::Reg {
-                register: Register::Usbcmd,
-                value,
-            },
-        ) => Some(*value % 4 == 1),
+        Row::Reg {
+            register: Register::Usbcmd,
+            value,
+        } => Some(*value % 4 == 1),
         _ => None,
     }
 }
 
 /// How many events the rows read, and the last row that reads one.
-pub fn last_read(rows: &[TraceRow]) -> Option<usize> {
+pub fn last_read(rows: &[Row]) -> Option<usize> {
     let mut last = None;
     for (index, row) in rows.iter().enumerate() {
         if is_read(row) {
@@ -122,19 +116,19 @@ pub fn last_read(rows: &[TraceRow]) -> Option<usize> {
 }
 
 /// How many events the rows read.
-pub fn reads(rows: &[TraceRow]) -> usize {
+pub fn reads(rows: &[Row]) -> usize {
     rows.iter().filter(|row| is_read(row)).count()
 }
 
-fn is_read(row: &TraceRow) -> bool {
-    matches!(row, TraceRow::Plain(Row::Read { .. }))
+fn is_read(row: &Row) -> bool {
+    matches!(row, Row::Read { .. })
 }
 
 /// The last of the rows that reads an event by which an endpoint came into the state Halted or Error (xHCI 4.8.3).
-pub fn last_halt(rows: &[TraceRow], slot: u8, endpoint: u8) -> Option<usize> {
+pub fn last_halt(rows: &[Row], slot: u8, endpoint: u8) -> Option<usize> {
     let mut last = None;
     for (index, row) in rows.iter().enumerate() {
-        if let TraceRow::Plain(Row::Read { event }) = row {
+        if let Row::Read { event } = row {
             if is_halt(*event, slot, endpoint) {
                 last = Some(index);
             }
@@ -151,10 +145,10 @@ fn is_halt(event: Block, slot: u8, endpoint: u8) -> bool {
 }
 
 /// The last of the rows that reads an event of this type with this pointer.
-pub fn last_event(rows: &[TraceRow], kind: BlockKind, pointer: u64) -> Option<usize> {
+pub fn last_event(rows: &[Row], kind: BlockKind, pointer: u64) -> Option<usize> {
     let mut last = None;
     for (index, row) in rows.iter().enumerate() {
-        if let TraceRow::Plain(Row::Read { event }) = row {
+        if let Row::Read { event } = row {
             if event.kind() == kind && event.pointer() == pointer {
                 last = Some(index);
             }
@@ -164,25 +158,25 @@ pub fn last_event(rows: &[TraceRow], kind: BlockKind, pointer: u64) -> Option<us
 }
 
 /// The last of the rows that rings a doorbell of a slot with a target.
-pub fn last_bell(rows: &[TraceRow], slot: u8, target: u8) -> Option<usize> {
+pub fn last_bell(rows: &[Row], slot: u8, target: u8) -> Option<usize> {
     rows.iter().rposition(|row| rings_bell(row, slot, target))
 }
 
-fn rings_bell(row: &TraceRow, wanted: u8, with: u8) -> bool {
+fn rings_bell(row: &Row, wanted: u8, with: u8) -> bool {
     match row {
-        TraceRow::Plain(Row::Bell { slot, target }) => *slot == wanted && *target == with,
+        Row::Bell { slot, target } => *slot == wanted && *target == with,
         _ => false,
     }
 }
 
 /// The row by which the ring with this ID went.
-pub fn going(rows: &[TraceRow], id: u8) -> Option<usize> {
+pub fn going(rows: &[Row], id: u8) -> Option<usize> {
     rows.iter().position(|row| goes(row, id))
 }
 
-fn goes(row: &TraceRow, id: u8) -> bool {
+fn goes(row: &Row, id: u8) -> bool {
     match row {
-        TraceRow::Goes(gone) => *gone == id,
+        Row::Free { ring: gone } => *gone == id,
         _ => false,
     }
 }

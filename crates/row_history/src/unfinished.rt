@@ -1,11 +1,10 @@
 //! Commands: the one that a write gives, and those that were given and whose completion wasn't read.
-use crate::finding::{Case, Mark, ring_known};
+use crate::finding::Case;
+use crate::known::Known;
 use crate::positions::is_handed_over;
-use crate::rows::last_write;
-use crate::words::{command_name, ring_of_kind};
 use commands::{Command, EndpointState};
-use std::alloc::AllocError;
-use traces::Ring;
+use std::alloc::{AllocError, Global};
+use traces::{Header, Ring};
 use trb::{Block, RingKind};
 
 /// A command that was given and whose completion wasn't read, and the row that gave it.
@@ -16,18 +15,26 @@ pub struct Unfinished {
 }
 
 /// The unfinished commands, in the order of their positions.
-pub fn all_unfinished(case: &Case) -> Result<Vec<Unfinished>, AllocError> {
-    let mut found = Vec::new(case.alloc);
-    let Some(commands) = ring_of_kind(case.header.rings.as_slice(), RingKind::Cmd) else {
+pub(crate) fn all_unfinished(
+    alloc: Global,
+    header: &Header,
+    known: &Known,
+) -> Result<Vec<Unfinished>, AllocError> {
+    let mut found = Vec::new(alloc);
+    let rings = header.rings.as_slice();
+    let number = rings
+        .iter()
+        .position(|ring| ring.shape.kind() == RingKind::Cmd);
+    let (Some(ring), Some(record)) = (
+        rings.get(number.unwrap_or(usize::MAX)),
+        known.rings.get(number.unwrap_or(usize::MAX)),
+    ) else {
         return Ok(found);
     };
-    let Some((ring, known)) = ring_known(case, commands.id) else {
-        return Ok(found);
-    };
-    for position in known.floor_number()..known.declared_count() as u64 {
-        if is_handed_over(ring, known, position) {
-            if let Some(command) = command_of(known.declared(position)) {
-                let row = last_write(case.before, ring.shape.address(position) | 12);
+    for position in record.floor_number()..record.declared_count() as u64 {
+        if is_handed_over(ring, record, position) {
+            if let Some(command) = command_of(record.declared(position)) {
+                let row = known.last_writer(ring.shape.address(position) | 12);
                 found.push(Unfinished { command, row })?;
             }
         }
@@ -36,33 +43,18 @@ pub fn all_unfinished(case: &Case) -> Result<Vec<Unfinished>, AllocError> {
 }
 
 /// The first unfinished command that names an endpoint, or its slot alone.
-pub fn unfinished_on(
-    case: &Case,
-    slot: u8,
-    endpoint: u8,
-) -> Result<Option<Unfinished>, AllocError> {
-    let all = all_unfinished(case)?;
-    Ok(
-        all.iter()
-            .find(|given| is_on(given.command, slot, endpoint))
-            .copied(),
-    )
+pub fn unfinished_on(case: &Case, slot: u8, endpoint: u8) -> Option<Unfinished> {
+    let mut all = case.unfinished.iter();
+    all.find(|given| is_on(given.command, slot, endpoint))
+        .copied()
 }
 
 /// The first unfinished command whose success may change an endpoint.
-pub fn unfinished_touching(
-    case: &Case,
-    slot: u8,
-    endpoint: u8,
-) -> Result<Option<Unfinished>, AllocError> {
-    let all = all_unfinished(case)?;
-    Ok(
-        all.iter()
-            .find(|given| {
-                given.command.slot() == Some(slot) && may_change(case, given.command, endpoint)
-            })
-            .copied(),
-    )
+pub fn unfinished_touching(case: &Case, slot: u8, endpoint: u8) -> Option<Unfinished> {
+    let mut all = case.unfinished.iter();
+    all.find(|given| {
+        given.command.slot() == Some(slot) && may_change(case, given.command, endpoint)
+    }).copied()
 }
 
 /// Whether the success of a command may change an endpoint of its slot.
@@ -100,17 +92,13 @@ fn may_change(case: &Case, command: Command, endpoint: u8) -> bool {
 }
 
 /// The first unfinished command by which a command of its slot may not be given now.
-pub fn unfinished_beside(case: &Case, command: Command) -> Result<Option<Unfinished>, AllocError> {
+pub fn unfinished_beside(case: &Case, command: Command) -> Option<Unfinished> {
     let is_three = case.header.version.is_three();
-    let all = all_unfinished(case)?;
-    Ok(
-        all.iter()
-            .find(|given| {
-                given.command.slot() == command.slot()
-                    && !(is_three && name_two_endpoints(given.command, command))
-            })
-            .copied(),
-    )
+    let mut all = case.unfinished.iter();
+    all.find(|given| {
+        given.command.slot() == command.slot()
+            && !(is_three && name_two_endpoints(given.command, command))
+    }).copied()
 }
 
 /// Whether a command names an endpoint, or its slot alone.
@@ -127,6 +115,13 @@ pub fn name_two_endpoints(first: Command, second: Command) -> bool {
         (Some(first), Some(second)) => first != second,
         _ => false,
     }
+}
+
+/// The first unfinished command that gives an endpoint this ring.
+pub fn unfinished_binding(case: &Case, ring: &Ring) -> Option<Unfinished> {
+    let mut all = case.unfinished.iter();
+    all.find(|given| binds_ring(case, given.command, ring))
+        .copied()
 }
 
 /// Whether a command gives an endpoint this ring.
@@ -163,21 +158,6 @@ fn names_ring(case: &Case, context: u64, endpoint: u8, ring: &Ring) -> bool {
 /// Whether a ring is a transfer ring that has the block at an address.
 pub fn has_block(ring: &Ring, address: u64) -> bool {
     ring.shape.kind() == RingKind::Xfer && ring.shape.place_at(address).is_some()
-}
-
-impl Unfinished {
-    /// Points at the row that gave the command.
-    pub fn mark(&self, case: &Case) -> Result<Option<Mark>, AllocError> {
-        let Some(index) = self.row else {
-            return Ok(None);
-        };
-        let name = command_name(self.command);
-        let label = match self.command.slot() {
-            Some(slot) => format!(in case.alloc; "{name} of slot {slot}, unfinished")?,
-            None => format!(in case.alloc; "{name}, unfinished")?,
-        };
-        Ok(Some(Mark { index, label }))
-    }
 }
 
 /// The command that a block says.

@@ -1,5 +1,5 @@
 -- A clean history keeps what a driver keeps
-use Rattle.safety.proofs.UpperLaws.{[], ◌≡◌, ◌∷◌, ◌∙◌, false, List, ap, Block, kind, Header, Row, IsHeader, Read, World, Known, learned, known, IsLenient, DriverKeeps, KeptByRestoring, command_id, ArePossible, Runs, all_read, ◌&&◌, not, true, subst, sym, not-false, BlockKind, TransferEvent, CommandCompletion, is_transfer_event, Sub, Write, Reg, Bell, event_read, is_in_profile, is_impossible_by_kind, CommandsKeep, ℕ, refl, rules, Command, Register, IsUnfinished, none-some, on_ring, command_at, succeeded, finished, completed, is_command_completion, StatesKeep, KeptByRows, arith, event_same, SameGiven, clean_tests, EventFacts, event_facts, with_reads, SameStates, ring_stays, same_stay, AreNumbered, command_numbered, changes_numbered, same_numbered, all_numbered, endpoints_of, endpoints_part, slots_part, seen_part, from_parts, endpoints_same, slots_same, seen_same, kept_crcr, kept_crcr_written, kept_sized, kept_erstsz_written, kept_dequeued, kept_read_room, kept_unstarted, kept_clean, kept_rings, CompletionFacts, completion_facts, kept_command_ring, free_same, may_come, nothing_kept, rung_commands, register_leaves, states_rung, PartsStand, transfer_stands, completion_stands, kept_devices, declared_commands, written_commands, transfer_commands, completion_commands, unfinished_view, written_same, register_same, rung_same, transfer_same, stop_same, row_keeps, view_same, stops_on, states_declared, states_written, states_registered}
+use Rattle.safety.proofs.UpperLaws.{[], ◌≡◌, ◌∷◌, ◌∙◌, false, List, ap, Block, kind, Header, Row, IsHeader, Read, World, Known, learned, DriverKeeps, KeptByRestoring, command_id, ArePossible, Runs, all_read, ◌&&◌, not, true, subst, sym, not-false, BlockKind, TransferEvent, CommandCompletion, is_transfer_event, Sub, Write, Reg, Bell, event_read, is_in_profile, is_impossible_by_kind, CommandsKeep, ℕ, refl, rules, Command, Register, IsUnfinished, none-some, on_ring, command_at, succeeded, finished, completed, is_command_completion, StatesKeep, KeptByRows, arith, event_same, SameGiven, clean_tests, EventFacts, event_facts, with_reads, SameStates, ring_stays, same_stay, AreNumbered, command_numbered, changes_numbered, same_numbered, all_numbered, endpoints_of, endpoints_part, slots_part, seen_part, from_parts, endpoints_same, slots_same, seen_same, kept_crcr, kept_crcr_written, kept_sized, kept_erstsz_written, kept_dequeued, kept_read_room, kept_unstarted, kept_clean, kept_rings, CompletionFacts, completion_facts, kept_command_ring, free_same, nothing_kept, rung_commands, register_leaves, states_rung, PartsStand, transfer_stands, completion_stands, kept_devices, declared_commands, written_commands, transfer_commands, completion_commands, unfinished_view, written_same, register_same, rung_same, transfer_same, stop_same, row_keeps, view_same, stops_on, states_declared, states_written, states_registered}
 
 -- Each row keeps what is known of states
 module _ (h : Header) where
@@ -23,11 +23,13 @@ module _ (h : Header) where
 
   -- the states of slots and endpoints after one more row
   pub kept_states : KeptByRows h (StatesKeep h)
+  unfolding learned
   kept_states is k (Sub r blocks) d clean on = states_declared h is k r blocks d
   kept_states is k (Write a w) d clean on = states_written h is k a w d clean
   kept_states is k (Reg r x) d clean on = states_registered h is k r x d
   kept_states is k (Bell s t) d clean on = states_rung h is k d s t clean
   kept_states is k (Read b) d clean on = states_read is k b d (event_facts h k b clean)
+  kept_states is k row d clean on = d.states
 
 -- In any history the endpoints that have rings have numbers of slots and endpoints
 module _ (h : Header) where
@@ -92,6 +94,7 @@ module _ (h : Header) where
   kept_unfinished is k (Read b) d may on =
       let facts : EventFacts h k b = event_facts h k b may.0 in
       search (rules, reads_commands, event_commands)
+  kept_unfinished is k row d may on = d.unfinished
 
 module _ (h : Header) where
   pub kept_driver : KeptByRestoring h (DriverKeeps h)
@@ -112,13 +115,6 @@ module _ (h : Header) where
     devices = kept_devices h is k row d may.0 on;
     unfinished = kept_unfinished h is k row d may on;
   }
-
-  -- of a history that isn't stopped
-  pub driver_keeps : IsHeader h → (past : List Row) → IsLenient h past → (known h past).stopped ≡ false → DriverKeeps h (known h past)
-  unfolding known
-  driver_keeps is [] clean on = nothing_kept h is
-  driver_keeps is (row ∷ past) clean on =
-      kept_driver is (known h past) row (driver_keeps is past clean.0 (clean_tests h (known h past) row clean.1).0) (may_come h is past row clean.1) on
 
   -- ---- in a run, of what is known when the unread events are read too
 

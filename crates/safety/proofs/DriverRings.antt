@@ -1,10 +1,10 @@
 -- The rings and endpoints of what a driver keeps, as the laws of rings take them
-use Rattle.safety.proofs.Words.{◌≡◌, ◌∙◌, ℕ, true, Option, Some, None, refl, ap, false≢true, Header, Ring, ring_with, is_transfer_kind, Known, is_driver_ring, DriverKeeps, IsDriverRing, IsTransferRing, StatesKeep}
+use Rattle.safety.proofs.Words.{◌≡◌, ◌∙◌, ℕ, true, Option, Some, None, refl, ap, false≢true, Header, Ring, ring_with, is_transfer_kind, Known, is_driver_ring, is_transfer_ring, DriverKeeps, IsDriverRing, IsTransferRing, StatesKeep}
 use Rattle.safety.proofs.RingsOfHeader.{driver_is}
 use Rattle.safety.specs.RingsKeep as rings
 use Rattle.safety.specs.EndpointsKeep as endpoints
 
-transfer_found : (o : Option Ring) → endpoints.is_transfer_ring o ≡ true → (r : Ring) × (o ≡ Some r) × (is_transfer_kind r.shape.kind ≡ true)
+transfer_found : (o : Option Ring) → is_transfer_ring o ≡ true → (r : Ring) × (o ≡ Some r) × (is_transfer_kind r.shape.kind ≡ true)
 transfer_found None h = absurd (false≢true h)
 transfer_found (Some r) h = (r, refl, h)
 
@@ -24,5 +24,5 @@ module _ (h : Header) where
 
   pub endpoints_of : (k : Known) → StatesKeep h k → endpoints.EndpointsKeep h k
   endpoints_of k s = record {
-    transfer = λ t i r at. ap endpoints.is_transfer_ring (s.transfer t i r at).found ∙ (s.transfer t i r at).kind;
+    transfer = λ t i r at. ap is_transfer_ring (s.transfer t i r at).found ∙ (s.transfer t i r at).kind;
   }

@@ -63,6 +63,7 @@ module _ (h : Header) where
   read_soiled k b = (event_same h k (kind b) b).soiled
 
   pub kept_clean : KeptByRows h (λ k. (r a : ℕ) → IsDriverRing h r → a % 4 ≡ 0 → is_inside (shape_of h r) a ≡ true → k.soiled a ≡ false)
+  unfolding learned
   kept_clean is k (Sub q blocks) d clean on r a ring word inside = ap (λ f. f a) (declaration_leaves h k q blocks).memory.soiled ∙ d.clean r a ring word inside
   kept_clean is k (Write at w) d clean on r a ring word inside =
       clean_written k at w a
@@ -70,3 +71,4 @@ module _ (h : Header) where
   kept_clean is k (Reg q x) d clean on r a ring word inside = ap (λ f. f a) (register_leaves h k q x).memory.soiled ∙ d.clean r a ring word inside
   kept_clean is k (Bell s t) d clean on r a ring word inside = ap (λ f. f a) (bell_leaves h k s t).memory.soiled ∙ d.clean r a ring word inside
   kept_clean is k (Read b) d clean on r a ring word inside = ap (λ f. f a) (read_soiled k b) ∙ d.clean r a ring word inside
+  kept_clean is k row d clean on r a ring word inside = d.clean r a ring word inside

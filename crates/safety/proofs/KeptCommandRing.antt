@@ -43,11 +43,13 @@ module _ (h : Header) where
 
   -- CRCR names the command ring
   pub kept_crcr : KeptByRows h (λ k. (v : ℕ) → k.register Crcr ≡ Some v → CommandRingNamed h v)
+  unfolding learned
   kept_crcr is k (Sub r blocks) d clean on v at = d.crcr v (ap (λ f. f Crcr) (sym (declaration_leaves h k r blocks).registers.register) ∙ at)
   kept_crcr is k (Write a w) d clean on v at = d.crcr v (ap (λ f. f Crcr) (sym (write_leaves h k a w).registers.register) ∙ at)
   kept_crcr is k (Reg r x) d clean on v at = crcr_by is k r x d.crcr (register_facts h k r x clean).good v (ap (λ f. f Crcr) (sym (registered h k r x)) ∙ at)
   kept_crcr is k (Bell s t) d clean on v at = d.crcr v (ap (λ f. f Crcr) (sym (bell_leaves h k s t).registers.register) ∙ at)
   kept_crcr is k (Read b) d clean on v at = d.crcr v (ap (λ f. f Crcr) (sym (read_leaves k b).0) ∙ at)
+  kept_crcr is k row d clean on v at = d.crcr v at
 
   same_written : (k l : Known) (q : Register) → l.register ≡ k.register → is_some (k.register q) ≡ true → is_some (l.register q) ≡ true
   same_written k l q same written = ap (λ f. is_some (f q)) same ∙ written
@@ -58,6 +60,7 @@ module _ (h : Header) where
   -- a register that has to be written before the start stays written
   kept_written : (q : Register) → ((k : Known) (r : Register) (v : ℕ) → is_bad_register h k r v ≡ false → Starts h k r v → is_some (k.register q) ≡ true) →
       (k : Known) (row : Row) → (k.started ≡ true → is_some (k.register q) ≡ true) → lenient h k row ≡ [] → (learned h k row).started ≡ true → is_some ((learned h k row).register q) ≡ true
+  unfolding learned
   kept_written q starts k (Sub r blocks) before clean started =
       let same = (declaration_leaves h k r blocks).registers in same_written k (learned h k (Sub r blocks)) q same.register (before (sym same.started ∙ started))
   kept_written q starts k (Write a w) before clean started =
@@ -72,6 +75,7 @@ module _ (h : Header) where
       let same = (bell_leaves h k s t).registers in same_written k (learned h k (Bell s t)) q same.register (before (sym same.started ∙ started))
   kept_written q starts k (Read b) before clean started =
       let same = read_leaves k b in same_written k (learned h k (Read b)) q same.0 (before (sym same.1 ∙ started))
+  kept_written q starts k row before clean started = before started
 
   pub kept_crcr_written : KeptByRows h (λ k. k.started ≡ true → is_some (k.register Crcr) ≡ true)
   kept_crcr_written is k row d clean on = kept_written Crcr (λ k r v good s. (starts_written h k r v good s).0) k row d.crcr_written clean
@@ -81,8 +85,10 @@ module _ (h : Header) where
 
   -- ERSTSZ is that of an event ring
   pub kept_sized : KeptByRows h (λ k. is_some (k.register Erstsz) ≡ true → 0 < event_size h)
+  unfolding learned
   kept_sized is k (Sub r blocks) d clean on at = d.sized (ap (λ f. is_some (f Erstsz)) (sym (declaration_leaves h k r blocks).registers.register) ∙ at)
   kept_sized is k (Write a w) d clean on at = d.sized (ap (λ f. is_some (f Erstsz)) (sym (write_leaves h k a w).registers.register) ∙ at)
   kept_sized is k (Reg r x) d clean on at = sized_by is k r x d.sized (register_facts h k r x clean).good (ap (λ f. is_some (f Erstsz)) (sym (registered h k r x)) ∙ at)
   kept_sized is k (Bell s t) d clean on at = d.sized (ap (λ f. is_some (f Erstsz)) (sym (bell_leaves h k s t).registers.register) ∙ at)
   kept_sized is k (Read b) d clean on at = d.sized (ap (λ f. is_some (f Erstsz)) (sym (read_leaves k b).0) ∙ at)
+  kept_sized is k row d clean on at = d.sized at

@@ -110,6 +110,7 @@ module _ (h : Header) where
   written_still k a w view = subst ViewOfCommands (sym (written_view h k a w (command_id h))) (record { commands = view.commands; alone = view.alone; held = view.held })
 
   pub kept_command_ring : KeptByRows h (CommandRingKeeps h)
+  unfolding learned
   kept_command_ring is k (Sub r blocks) d clean on = from_view (learned h k (Sub r blocks)) (declared_view is k r blocks clean (view_of k d.command_ring))
   kept_command_ring is k (Write a w) d clean on = from_view (learned h k (Write a w)) (written_still k a w (view_of k d.command_ring))
   kept_command_ring is k (Reg r x) d clean on =
@@ -120,3 +121,4 @@ module _ (h : Header) where
       (subst (λ (f : ℕ → RingView). ViewOfCommands (f (command_id h))) (sym (read_view k b))
       (held_after is k (endpoints_of h k d.states) b (kind b) (view_of k d.command_ring)
       (λ completion. open_now k (view_of k d.command_ring) (completion_facts h k b completion (event_facts h k b clean).possible).below)))
+  kept_command_ring is k row d clean on = d.command_ring

@@ -35,15 +35,18 @@ module _ (h : Header) where
 
   -- ERDP names no event that wasn't read
   pub kept_dequeued : KeptByRows h (λ k. k.dequeue ≤ k.reads)
+  unfolding learned
   kept_dequeued is k (Sub r blocks) d clean on = let same = (declaration_leaves h k r blocks).registers in omega (arith, d.dequeued, same.dequeue, same.reads)
   kept_dequeued is k (Write a w) d clean on = let same = (write_leaves h k a w).registers in omega (arith, d.dequeued, same.dequeue, same.reads)
   kept_dequeued is k (Reg r x) d clean on =
       omega (arith, (dequeues k r x (register_facts h k r x clean).erdp).to, passable k d.dequeued, (register_leaves h k r x).reads)
   kept_dequeued is k (Bell s t) d clean on = let same = (bell_leaves h k s t).registers in omega (arith, d.dequeued, same.dequeue, same.reads)
   kept_dequeued is k (Read b) d clean on = let same = read_counts k b in omega (arith, d.dequeued, same.0, same.1)
+  kept_dequeued is k row d clean on = d.dequeued
 
   -- the events read lie within the ring from there
   pub kept_read_room : KeptByRows h (λ k. 0 < k.reads → k.reads + 1 ≤ k.dequeue + event_size h)
+  unfolding learned
   kept_read_room is k (Sub r blocks) d clean on = let same = (declaration_leaves h k r blocks).registers in λ some. omega (arith, d.read_room (omega (arith, same.reads)), same.dequeue, same.reads)
   kept_read_room is k (Write a w) d clean on = let same = (write_leaves h k a w).registers in λ some. omega (arith, d.read_room (omega (arith, same.reads)), same.dequeue, same.reads)
   kept_read_room is k (Reg r x) d clean on =
@@ -57,6 +60,7 @@ module _ (h : Header) where
       let some : 0 < event_size h = d.sized (d.erstsz_written facts.started) in
       let several = (shape_facts (event_shape h) (event_ring_is h is some).is).several in
       λ _. omega (arith, room_is k facts.room, d.dequeued, same.0, same.1, size_is)
+  kept_read_room is k row d clean on = d.read_room
 
   -- ---- before the start
 
@@ -68,6 +72,7 @@ module _ (h : Header) where
   none_passed k waits = cond-false k.started (k.reads - k.dequeue) 0 waits
 
   pub kept_unstarted : KeptByRows h (λ k. k.started ≡ false → Unstarted h k)
+  unfolding learned
   kept_unstarted is k (Sub r blocks) d clean on before =
       let same = declaration_leaves h k r blocks in
       unstarted_still k (learned h k (Sub r blocks)) same.registers.reads same.registers.dequeue same.slots same.pointers (d.unstarted (sym same.registers.started ∙ before))
@@ -84,3 +89,4 @@ module _ (h : Header) where
       absurd (false≢true (sym before ∙ (bell_leaves h k s t).registers.started ∙ (bell_facts h k s t clean).started))
   kept_unstarted is k (Read b) d clean on before =
       absurd (false≢true (sym before ∙ (read_counts k b).2 ∙ (event_facts h k b clean).started))
+  kept_unstarted is k row d clean on before = d.unstarted before

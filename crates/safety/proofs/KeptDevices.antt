@@ -48,6 +48,7 @@ module _ (h : Header) where
       (search rules) keeps
 
   pub kept_devices : KeptByRows h (DevicesKeep h)
+  unfolding learned
   kept_devices is k (Sub r blocks) d clean on = let leaves = declaration_leaves h k r blocks in same_devices k (learned h k (Sub r blocks)) leaves.registers leaves.memory d.devices
   kept_devices is k (Write a w) d clean on = written_devices h is k d a w clean
   kept_devices is k (Reg r x) d clean on = register_devices k r x d (register_facts h k r x clean).good
@@ -56,3 +57,4 @@ module _ (h : Header) where
       let facts : EventFacts h k b = event_facts h k b clean in
       subst (DevicesKeep h) (sym (learned_read h k b))
       (reads_devices (event_read h k (kind b) b) _ (kind_devices is k b (kind b) d facts.started facts.possible))
+  kept_devices is k row d clean on = d.devices

@@ -1,5 +1,5 @@
--- No row of a trace makes anything free: so nothing is free behind any history of rows, and each row restores what it has to
-use Rattle.safety.proofs.MiddleLaws.{[], ◌≡◌, ◌∷◌, ◌∙◌, ℕ, List, refl, sym, ap, no_flips, Block, Declares, Opens, IsRestored, Header, Row, IsHeader, shape_of, command_id, Known, nothing, on_ring, with_device, with_word, written, run_or_stop, valued, register_written, endpoint_rung, rung, learned, known, lenient, MayCome, AreRestored, IsRestoring, EndpointsKeep, kind, arith, keeps_endpoints, view_after, on_ring_same, event_same}
+-- No access of memory or registers makes anything free, and none restores anything
+use Rattle.safety.proofs.MiddleLaws.{[], ◌≡◌, ◌∷◌, ◌∙◌, ℕ, List, refl, sym, ap, no_flips, Block, Declares, Opens, IsRestored, Header, Row, IsHeader, shape_of, command_id, Known, nothing, on_ring, with_device, with_word, written, run_or_stop, valued, register_written, endpoint_rung, rung, learned, lenient, MayCome, IsRestoring, EndpointsKeep, kind, arith, nothing_endpoints, view_after, on_ring_same, event_same}
 use Rattle.safety.proofs.RingIds.{transfer_driver}
 
 abbrev pub SameFree : Known → Known → Type 0
@@ -20,16 +20,3 @@ module _ (h : Header) where
   pub free_same : (k : Known) (row : Row) → SameFree k (learned h k row)
   unfolding learned register_written valued run_or_stop rung endpoint_rung
   free_same k o = grind (arith, declared_free, written_free, valued, on_ring, command_id, endpoint_rung, opened_free, event_same, kind)
-
-  pub nothing_free : (past : List Row) (r : ℕ) → IsRestored ((known h past).ring r)
-  unfolding known nothing
-  nothing_free [] r p = refl
-  nothing_free (row ∷ past) r p = ap (λ f. f p) (free_same (known h past) row r) ∙ nothing_free past r p
-
-  -- where nothing is free each row restores what it has to
-  pub restoring_where_restored : IsHeader h → (k : Known) (row : Row) → EndpointsKeep h k → AreRestored h k → IsRestoring h k row
-  restoring_where_restored is k o endpoints restored = grind (arith, no_flips, shape_of, transfer_driver)
-
-  -- so a row of a trace may come where it breaks no rule
-  pub may_come : IsHeader h → (past : List Row) (row : Row) → lenient h (known h past) row ≡ [] → MayCome h (known h past) row
-  may_come is past row clean = (clean, restoring_where_restored is (known h past) row (keeps_endpoints h is past) (λ r driver. nothing_free past r))

@@ -12,6 +12,7 @@ pub mod QuietKeeps
 pub mod Withdrawn
 pub mod Restored
 pub mod LiveRuns
+pub mod KeptRings
 pub mod LiveHeadline
 pub mod GoneAside
 pub mod LivingRings

@@ -146,7 +146,7 @@ module _ (h : Header) where
       (register_agrees h is k unread w keeps g r x (may_move now w r x reads dequeue g.events.order.dequeued (register_facts h now r x before).erdp) clean.0 (clean_tests h k (Reg r x) clean.0).0 on)
   row_agrees is now k unread w v (Bell s t) driver_row keeps g reads dequeue before clean on at =
       subst (λ u. Agrees h (learned h k (Bell s t)) unread (counted h u)) (same_Some (driver.bell_row h w s t) v at) (rings_agree h is k unread w keeps g s t clean.0)
-  row_agrees is now k unread w v (Read e) driver_row keeps g reads dequeue before clean on at = absurd driver_row
+  row_agrees is now k unread w v _ driver_row keeps g reads dequeue before clean on at = absurd driver_row
 
   -- ---- along the unread events
 

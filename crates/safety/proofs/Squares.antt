@@ -291,4 +291,4 @@ module _ (h : Header) where
   square_law k (Write a w) e is row driver d clean may awake on = any_write_square h k a w e is row driver d clean may awake on
   square_law k (Reg r v) e is row driver d clean may awake on = register_square h k r v e clean.0 may on
   square_law k (Bell s t) e is row driver d clean may awake on = doorbell_square h is k d s t clean awake e may
-  square_law k (Read b) e is row driver d clean may awake on = absurd driver
+  square_law k _ e is row driver d clean may awake on = absurd driver

@@ -8,6 +8,7 @@ use Rattle.safety.proofs.Squares.{square_law}
 use Rattle.safety.proofs.StillRings.{still_rings}
 use Rattle.world_state.specs.DriverRows as driver
 use Rattle.world_state.specs.Steps as steps
+use Rattle.traces.specs.Rows.{is_ring_row}
 
 -- The driver stops the controller: the run has ended, and its world is safe
 
@@ -88,10 +89,11 @@ module _ (h : Header) where
           | inr on ↦ inl (row_runs h is (kept_driver h) (still_rings h) (square_law h) (more_law h) now row w v is_row of_driver keeps run possible on at)
         ]
 
-    pub row_holds : (row : Row) → IsRow row → MayCome h now row → driver.row_done h w row ≡ Some v → Holds h (learned h now row) (steps.counted h v)
+    pub row_holds : (row : Row) → is_ring_row row ≡ false → IsRow row → MayCome h now row → driver.row_done h w row ≡ Some v → Holds h (learned h now row) (steps.counted h v)
     unfolding driver.row_done
-    row_holds (Read e) is_row possible at = inl (read_runs h now e w v is_row run at)
-    row_holds (Sub r blocks) is_row possible at = driver_row (Sub r blocks) is_row tt possible at
-    row_holds (Write a x) is_row possible at = driver_row (Write a x) is_row tt possible at
-    row_holds (Reg r x) is_row possible at = driver_row (Reg r x) is_row tt possible at
-    row_holds (Bell s t) is_row possible at = driver_row (Bell s t) is_row tt possible at
+    row_holds (Read e) driven is_row possible at = inl (read_runs h now e w v is_row run at)
+    row_holds (Sub r blocks) driven is_row possible at = driver_row (Sub r blocks) is_row tt possible at
+    row_holds (Write a x) driven is_row possible at = driver_row (Write a x) is_row tt possible at
+    row_holds (Reg r x) driven is_row possible at = driver_row (Reg r x) is_row tt possible at
+    row_holds (Bell s t) driven is_row possible at = driver_row (Bell s t) is_row tt possible at
+    row_holds row driven is_row possible at = absurd (false≢true (sym driven))

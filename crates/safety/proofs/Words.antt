@@ -19,7 +19,6 @@ pub use Rattle.event_ring.specs.EventRing.{AreInOrder, erdp_address, has_room, i
 pub use Rattle.guest_memory.specs.Memory.{put, put_pair}
 pub use Rattle.ownership_rules.proofs.Among.{IsIn, any_of, both_ways, from_filter, in_filter, some_of}
 unfoldable pub use Rattle.ownership_rules.specs.Areas.{is_bad_area, is_in_range_lease, is_soiled}
-pub use Rattle.ownership_rules.specs.Clean.{IsLenient}
 unfoldable pub use Rattle.ownership_rules.specs.Commands.{adds_streams, has_bad_content, has_bad_context, has_bad_entry, is_bad_added, is_bad_command, is_bad_device, is_busy, names_disabled_endpoint, names_disabled_slot, streams_in, takes_bad_device, type_in}
 unfoldable pub use Rattle.ownership_rules.specs.Declarations.{declaration_tests, is_driver_ring}
 unfoldable pub use Rattle.ownership_rules.specs.Doorbells.{doorbell_tests, is_bad_bell, is_bad_doorbell, is_touched, touches_endpoint}
@@ -41,7 +40,7 @@ pub use Rattle.ring_knowledge.proofs.StopSpots.{way_without}
 unfoldable pub use Rattle.ring_knowledge.specs.Completions.{bound_to, changed_by, changed_by as known_changed_by, changed_by_all, changed_by_all as known_changed_by_all, completed, disabled, disabled as known_disabled, finished, finished as known_finished, held_at_ceiling, in_state, in_state as known_in_state, moved, moved_to, pointed, set_to, stop_ended, succeeded, succeeded as known_succeeded}
 pub use Rattle.ring_knowledge.specs.Known.{Known}
 unfoldable pub use Rattle.ring_knowledge.specs.Known.{nothing}
-unfoldable pub use Rattle.ring_knowledge.specs.Learned.{event_read, known, learned}
+unfoldable pub use Rattle.ring_knowledge.specs.Learned.{event_read, learned}
 unfoldable pub use Rattle.ring_knowledge.specs.Registers.{endpoint_rung, register_written, run_or_stop, rung, valued}
 pub use Rattle.ring_knowledge.specs.Rings.{Crossing, Given, Position, RingSpot}
 unfoldable pub use Rattle.ring_knowledge.specs.Rings.{command_at, event_at, given_by, given_of, next_command, on_ring, spot_on, unfinished, unfinished_positions}
@@ -49,27 +48,33 @@ unfoldable pub use Rattle.ring_knowledge.specs.Transfers.{broken_off, passed, pa
 unfoldable pub use Rattle.ring_knowledge.specs.Writes.{command_given, device_named, entry_of, no_device, taken_device, with_device, with_word, written}
 pub use Rattle.safety.proofs.RingChanges.LiveRuns.{LiveScene, live_next, live_reached, live_row, live_step, live_with}
 pub use Rattle.safety.specs.Beneath.{HeldMore, IsHeldMore, IsIdleEndpoint, MayRing, MoreLaw, Square, SquareLaw, is_idle, is_open_if}
-pub use Rattle.safety.specs.EndpointsKeep.{EndpointsKeep, IsTransferRing as IsTransferTest, is_transfer_ring}
+pub use Rattle.safety.specs.EndpointsKeep.{EndpointsKeep, IsTransferRing as IsTransferTest}
+pub use Rattle.ownership_rules.specs.Rings.{is_transfer_ring}
 pub use Rattle.safety.specs.Headline.{Headline}
 pub use Rattle.safety.specs.Invariant.{ArePossible, Ended, Runs, all_read}
 pub use Rattle.safety.specs.Keeps.{CommandKeeps, CommandRingKeeps, CommandRingNamed, DeviceKeeps, DriverKeeps, IsDriverRing, IsTransferRing, IsUnfinished, MovesIf, StatesKeep, Stays, StaysIf, Unstarted}
 pub use Rattle.safety.specs.KeptHistories.{IsDriverRow, MayRead, StillReads}
 pub use Rattle.safety.specs.KeptStep.{CommandsKeep, DevicesKeep, KeptByRestoring, KeptByRows}
-pub use Rattle.safety.specs.LazyRuns.LateEvents.{IsTimely, is_late_row, is_report_of_success}
+pub use Rattle.safety.specs.LazyRuns.LateEvents.{IsTimely, is_report_of_success}
 unfoldable pub use Rattle.safety.specs.LazyRuns.LateEvents.{is_held_ring, is_late}
 pub use Rattle.safety.specs.LazyRuns.Law.{AllAreRead, AreAtFloors, ContainsAll, FewSteps, GoesSoFar, LazyLaw}
 pub use Rattle.safety.specs.LazyRuns.Lazy.{further as lazy_further}
 unfoldable pub use Rattle.safety.specs.LazyRuns.Lazy.{behind_taken, brought, brought as lazy_brought, command_taken, further, goals, goals as lazy_goals, lazy_run, lazy_steps, looks_to, open_goals, pointers_after, pointers_at, pointers_for, post_of, report_goals, spots_before, steps_before, steps_for, stop_goal, stopped_goals, taken_up_to}
-unfoldable pub use Rattle.safety.specs.LazyRuns.Needs.{begins_anew, ends_need, is_placed_by, is_placed_by_all, need, number_behind, number_needed, number_reported, ring_placed}
+unfoldable pub use Rattle.safety.specs.LazyRuns.Needs.{begins_anew, ends_need, is_placed_by, is_placed_by_all, need, number_behind, number_reported, ring_placed}
 unfoldable pub use Rattle.safety.specs.LazyRuns.OnLiterals.{lazy_on_literals}
 pub use Rattle.safety.specs.Matches.{Agrees, BoundRing, CommandMatches, EndpointRing, FreeRing, IsUnchanged, Matches, Newest, NotStarted, RingMatches, RingState, TakenCommand, UnderWayMatches, Unreported, state_of}
 pub use Rattle.safety.specs.Placings.{AreFree, MayChange, MayChangeAll, MayFinish, MayPoint, MovesOn, StillHolds}
-pub use Rattle.safety.specs.Restoring.{AreRestored, EndpointRestored, IsRestoring, KeepsPassed, MayCome, MovesRestored}
-pub use Rattle.safety.specs.RingChanges.Changes.{IsComing}
-unfoldable pub use Rattle.safety.specs.RingChanges.Changes.{emptied, forgotten, is_bad_free, is_bad_ring, is_bad_segment, is_had, shows_first_lap, with_ring, without_ring}
-pub use Rattle.safety.specs.RingChanges.Histories.{AreKept, FitsFields, IsKept, Scene, header_after, header_now, known_after, known_now, row_made, row_next, scene_reached, step_made}
-pub use Rattle.safety.specs.RingChanges.Withdrawals.{restored}
-unfoldable pub use Rattle.safety.specs.RingChanges.Withdrawals.{has_stopped, is_bad_withdraw, is_left, restored_on, rests_with, ring_moved, ring_restored, some_flips, without_descriptor}
+pub use Rattle.safety.specs.Restoring.{EndpointRestored, IsRestoring, KeepsPassed, MayCome, MovesRestored}
+pub use Rattle.traces.specs.Rows.{IsComing, IsRow, IsStep}
+unfoldable pub use Rattle.world_state.specs.RingRows.{emptied, without_descriptor}
+unfoldable pub use Rattle.ring_knowledge.specs.Histories.{forgotten, restored_on, ring_moved, ring_restored}
+unfoldable pub use Rattle.ownership_rules.specs.Rings.{is_bad_free, is_bad_ring, is_bad_segment, is_had, shows_first_lap}
+unfoldable pub use Rattle.traces.specs.LivingRings.{with_ring, without_ring}
+pub use Rattle.safety.specs.RingChanges.Histories.{AreKept, IsKept}
+pub use Rattle.world_state.specs.Scenes.{Scene, row_made, row_next, scene_reached, step_made, scene_ending}
+pub use Rattle.traces.specs.LivingRings.{header_after}
+pub use Rattle.ring_knowledge.specs.Histories.{header_now, known_after, known_now, restored}
+unfoldable pub use Rattle.ownership_rules.specs.Withdrawals.{has_stopped, is_bad_withdraw, is_left, rests_with, some_flips}
 pub use Rattle.safety.specs.RingsKeep.{PassesNoMore, RingKept, RingsKeep, RingsKept}
 pub use Rattle.safety.specs.Stands.{EventsStand, Stands, touches_events}
 pub use Rattle.segments.proofs.Crossings.{crossed_link, crosses, crossing_positive, cycle_of-crossed, is_crossing-lap, link_address-lap, link_address_is, link_target-crossed}
@@ -130,17 +135,14 @@ pub use Rattle.std.specs.Option.{option_map, option_or}
 pub use Rattle.traces.specs.Header.{IsHeader, clash, id_of, id_or_none, is_command_kind, is_driver_kind, is_event_kind, is_ring, is_transfer_kind, may_stand_together, ring_with, shape_or}
 unfoldable pub use Rattle.traces.specs.Header.{command_id, command_ring, driver_rings, event_ring, event_shape, event_size, ring_having, shape_of, touches_ring}
 pub use Rattle.traces.specs.Register.{base_address, command_abort, command_stop, register_or_zero, reset_bit, ring_cycle_state, run_bit, same_register, with_register}
-pub use Rattle.traces.specs.Rows.{IsRow, IsStep}
 pub use Rattle.traces.specs.declared.header.Header.{Header}
 pub use Rattle.traces.specs.declared.register.Register.{Register}
 pub use Rattle.traces.specs.declared.register.Register.TheVariants.{Config, Crcr, Dcbaap, Erdp, Erstba, Erstsz, Usbcmd}
 pub use Rattle.traces.specs.declared.ring.Ring.{Ring}
 pub use Rattle.traces.specs.declared.row.Row.{Row}
-pub use Rattle.traces.specs.declared.row.Row.TheVariants.{Bell, Read, Reg, Sub, Write}
+pub use Rattle.traces.specs.declared.row.Row.TheVariants.{Bell, Read, Reg, Sub, Write, Ring as RingRow, Free as FreeRow}
 pub use Rattle.traces.specs.declared.step.Step.{Step}
 pub use Rattle.traces.specs.declared.step.Step.TheVariants.{Finish, Look, NextRow, Other, Report, Scribble}
-pub use Rattle.traces.specs.declared.trace_row.TraceRow.{TraceRow}
-pub use Rattle.traces.specs.declared.trace_row.TraceRow.TheVariants.{Comes, Goes, Plain}
 pub use Rattle.traces.specs.declared.version.Version.TheVariants.{One, Three}
 pub use Rattle.trb.proofs.BlockLemmas.{cycle-with_cycle, endpoint-with_cycle, is_set-with_cycle, kind-with_cycle, slot-with_cycle}
 pub use Rattle.trb.specs.Bits.{is_set}
@@ -166,7 +168,6 @@ unfoldable pub use Rattle.world_state.specs.Harms.{harm_of, harms, has_changed_c
 unfoldable pub use Rattle.world_state.specs.Looks.{command_begun, crossed, looked, looked_at, may_scribble, seen_by_look, taken as looks_taken, taken_on}
 unfoldable pub use Rattle.world_state.specs.OnLiterals.{world_on_literals}
 unfoldable pub use Rattle.world_state.specs.Posts.{can_post, is_last, is_stop_under_way, other_posted, posted, posted as posts_posted, report_code, report_error, report_stop, report_success, reported, reported_on, stopped_with, with_reported, with_stopped}
-pub use Rattle.world_state.specs.Scenes.{scene_ending}
 pub use Rattle.world_state.specs.Steps.{NoHarm}
 unfoldable pub use Rattle.world_state.specs.Steps.{counted, is_scribbled, made, made as steps_made, scribbled, while_running}
 unfoldable pub use Rattle.world_state.specs.Takes.{declared_next, first_at, is_as_declared, is_place, next_take, takes_of, unreported, was_placed}

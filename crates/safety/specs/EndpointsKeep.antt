@@ -1,13 +1,9 @@
 -- What any history keeps of endpoints and their rings
-use Rattle.std.specs.Prelude.{◌≡◌, ℕ, Bool, true, false, Option, None, Some}
+use Rattle.std.specs.Prelude.{◌≡◌, ℕ, true, Some}
 use Rattle.traces.specs.declared.header.Header.{Header}
-use Rattle.traces.specs.declared.ring.Ring.{Ring}
-use Rattle.traces.specs.Header.{ring_with, is_transfer_kind}
+use Rattle.traces.specs.Header.{ring_with}
 use Rattle.ring_knowledge.specs.Known.{Known}
-
-abbrev pub is_transfer_ring : Option Ring → Bool
-is_transfer_ring None = false
-is_transfer_ring (Some r) = is_transfer_kind r.shape.kind
+use Rattle.ownership_rules.specs.Rings.{is_transfer_ring}
 
 module _ (h : Header) where
   -- the ID of a transfer ring

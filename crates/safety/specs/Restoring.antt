@@ -23,10 +23,6 @@ abbrev pub MovesRestored : Known → Command → Type 0
 MovesRestored k c = (s i p : ℕ) (cycle : Bool) → c ≡ SetTrDequeue s i p cycle → EndpointRestored k s i
 
 module _ (h : Header) where
-  -- nothing is free of any ring of the driver
-  abbrev pub AreRestored : Known → Type 0
-  AreRestored k = (r : ℕ) → IsDriverRing h r → IsRestored (k.ring r)
-
   -- what is free and may be passed keeps its Cycle bit
   abbrev pub KeepsPassed : Known → ℕ → ℕ → Type 0
   KeepsPassed k a w = (r : ℕ) → IsDriverRing h r → flips_passed (shape_of h r) (k.ring r) a w ≡ false

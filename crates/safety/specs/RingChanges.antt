@@ -1,3 +1,1 @@
-pub mod Changes
-pub mod Withdrawals
 pub mod Histories

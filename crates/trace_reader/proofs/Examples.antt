@@ -1,10 +1,9 @@
 -- Texts that are read and printed, on literals
-use Rattle.trace_reader.proofs.Words.{◌≡◌, ℕ, false, ⊤, List, [], ◌∷◌, ◌++◌, map, Result, Ok, Err, codes, refl, Bytes32, Xfer, lines_of, fields_of, number_of, digits_of, LineFault, Number, Shape, Usbcmd, Crcr, Ring, One, Two, Row, TraceRow, Plain, Goes, Withdraws, Sub, Write, Reg, Bell, Read, most_lines_of, kind_named, register_named, form_of, said_of, block_of, blocks_of, register_value_of, segments_of, word_address_of, TraceText, after, form_in, is_bad_number, is_bad_row, is_bad_shape, is_past_limit, is_too_long, line_fault, read_line, read_lines, row_fault, said_in, size_of, trace_of, version_of, printed_line, printed_trace, ring_fields, row_fields, trace_lines, trace_row_fields, hex_on_literals, BadHeader, BadRow}
-use Rattle.traces.specs.declared.trace_row.TraceRow.TheVariants.{Comes}
+use Rattle.trace_reader.proofs.Words.{◌≡◌, ℕ, false, ⊤, List, [], ◌∷◌, ◌++◌, Result, Ok, Err, codes, refl, Bytes32, Xfer, lines_of, fields_of, number_of, digits_of, LineFault, Number, Shape, Usbcmd, Crcr, Ring, One, Two, Version, Row, RingRow, FreeRow, NopRow, Sub, Write, Reg, Bell, Read, most_lines_of, kind_named, register_named, form_of, said_of, block_of, blocks_of, register_value_of, segments_of, word_address_of, TraceText, after, form_in, is_bad_number, is_bad_row, is_bad_shape, is_past_limit, is_too_long, line_fault, read_line, read_lines, row_fault, said_in, size_of, trace_of, version_of, printed_line, printed_trace, ring_fields, row_fields, trace_lines, hex_on_literals, BadHeader, BadRow}
 use Rattle.trace_reader.specs.Values.{segment_of}
 
 unfoldable texts_on_literals : ⊤
-unfolding most_lines_of trace_of read_lines read_line line_fault row_fault after lines_of fields_of number_of hex_on_literals form_of kind_named register_named block_of blocks_of register_value_of said_of segment_of segments_of word_address_of form_in is_bad_number is_bad_row is_bad_shape is_past_limit is_too_long version_of said_in size_of printed_trace trace_lines printed_line row_fields ring_fields trace_row_fields digits_of
+unfolding most_lines_of trace_of read_lines read_line line_fault row_fault after lines_of fields_of number_of hex_on_literals form_of kind_named register_named block_of blocks_of register_value_of said_of segment_of segments_of word_address_of form_in is_bad_number is_bad_row is_bad_shape is_past_limit is_too_long version_of said_in size_of printed_trace trace_lines printed_line row_fields ring_fields digits_of
 texts_on_literals = tt
 
 -- what is read behind the header of one transfer ring
@@ -14,41 +13,38 @@ behind_header text = trace_of false (codes "xtrace 1\nctx 20\nring 02 xfer 00000
 abbrev ring_2 : Ring
 ring_2 = record { id = 2; shape = record { kind = Xfer; segments = record { base = 0x30000; count = 4 } ∷ [] } }
 
--- a trace of that header with these rows
-abbrev with_rows : List Row → TraceText
-with_rows rows = record { header = record { version = One; context_size = Bytes32; rings = ring_2 ∷ [] }; first = 4; rows = map Plain rows }
+-- a trace of that header, in this version, with these rows
+abbrev with_rows : Version → List Row → TraceText
+with_rows version rows = record { header = record { version = version; context_size = Bytes32; rings = ring_2 ∷ [] }; first = 4; rows = rows }
 
--- the same in version 2, also with rows of rings
+-- the same in version 2
 abbrev behind_header_2 : List ℕ → Result TraceText (ℕ × LineFault)
 behind_header_2 text = trace_of false (codes "xtrace 2\nctx 20\nring 02 xfer 0000000000030000:0004\n" ++ text)
-
-abbrev with_trace_rows : List TraceRow → TraceText
-with_trace_rows rows = record { header = record { version = Two; context_size = Bytes32; rings = ring_2 ∷ [] }; first = 4; rows = rows }
 
 abbrev ring_3 : Ring
 ring_3 = record { id = 3; shape = record { kind = Xfer; segments = record { base = 0x30000; count = 4 } ∷ [] } }
 
-pub no_rows : behind_header [] ≡ Ok (with_rows [])
+pub no_rows : behind_header [] ≡ Ok (with_rows One [])
 unfolding texts_on_literals
 no_rows = refl
 
-pub a_declaration : behind_header (codes "sub 02 00000000 00000000 00000000 00002020\n") ≡ Ok (with_rows (Sub 2 (record { w = 0 ∷ 0 ∷ 0 ∷ 0x2020 ∷ [] } ∷ []) ∷ []))
+pub a_declaration : behind_header (codes "sub 02 00000000 00000000 00000000 00002020\n") ≡ Ok (with_rows One (Sub 2 (record { w = 0 ∷ 0 ∷ 0 ∷ 0x2020 ∷ [] } ∷ []) ∷ []))
 unfolding texts_on_literals
 a_declaration = refl
 
-pub a_write_in_upper_case : behind_header (codes "w 000000000003000C 0000AbCd\n") ≡ Ok (with_rows (Write 0x3000c 0xabcd ∷ []))
+pub a_write_in_upper_case : behind_header (codes "w 000000000003000C 0000AbCd\n") ≡ Ok (with_rows One (Write 0x3000c 0xabcd ∷ []))
 unfolding texts_on_literals
 a_write_in_upper_case = refl
 
-pub registers : behind_header (codes "reg usbcmd 0000000000000001\nreg crcr 0000000100010001\n") ≡ Ok (with_rows (Reg Usbcmd 1 ∷ Reg Crcr 0x100010001 ∷ []))
+pub registers : behind_header (codes "reg usbcmd 0000000000000001\nreg crcr 0000000100010001\n") ≡ Ok (with_rows One (Reg Usbcmd 1 ∷ Reg Crcr 0x100010001 ∷ []))
 unfolding texts_on_literals
 registers = refl
 
-pub a_doorbell : behind_header (codes "db 01 1f\n") ≡ Ok (with_rows (Bell 1 31 ∷ []))
+pub a_doorbell : behind_header (codes "db 01 1f\n") ≡ Ok (with_rows One (Bell 1 31 ∷ []))
 unfolding texts_on_literals
 a_doorbell = refl
 
-pub an_event : behind_header (codes "ev 00030000 00000000 01000000 01018001\n") ≡ Ok (with_rows (Read (record { w = 0x30000 ∷ 0 ∷ 0x1000000 ∷ 0x1018001 ∷ [] }) ∷ []))
+pub an_event : behind_header (codes "ev 00030000 00000000 01000000 01018001\n") ≡ Ok (with_rows One (Read (record { w = 0x30000 ∷ 0 ∷ 0x1000000 ∷ 0x1018001 ∷ [] }) ∷ []))
 unfolding texts_on_literals
 an_event = refl
 
@@ -108,17 +104,17 @@ pub the_first_bad_line : behind_header (codes "db 1 01\ndb\n") ≡ Err (4, Numbe
 unfolding texts_on_literals
 the_first_bad_line = refl
 
-pub printed : printed_trace (with_rows (Write 0x3000c 0xabcd ∷ Bell 1 31 ∷ [])) ≡ codes "xtrace 1\nctx 20\nring 02 xfer 0000000000030000:0004\nw 000000000003000c 0000abcd\ndb 01 1f\n"
+pub printed : printed_trace (with_rows One (Write 0x3000c 0xabcd ∷ Bell 1 31 ∷ [])) ≡ codes "xtrace 1\nctx 20\nring 02 xfer 0000000000030000:0004\nw 000000000003000c 0000abcd\ndb 01 1f\n"
 unfolding texts_on_literals
 printed = refl
 
 -- ---- rings that come and go
 
-pub a_ring_goes_and_one_comes : behind_header_2 (codes "free 02\nring 03 xfer 0000000000030000:0004\n") ≡ Ok (with_trace_rows (Goes 2 ∷ Comes ring_3 ∷ []))
+pub a_ring_goes_and_one_comes : behind_header_2 (codes "free 02\nring 03 xfer 0000000000030000:0004\n") ≡ Ok (with_rows Two (FreeRow 2 ∷ RingRow ring_3 ∷ []))
 unfolding texts_on_literals
 a_ring_goes_and_one_comes = refl
 
-pub a_withdrawal : behind_header_2 (codes "nop 02 0000000000000001\n") ≡ Ok (with_trace_rows (Withdraws 2 1 ∷ []))
+pub a_withdrawal : behind_header_2 (codes "nop 02 0000000000000001\n") ≡ Ok (with_rows Two (NopRow 2 1 ∷ []))
 unfolding texts_on_literals
 a_withdrawal = refl
 
@@ -150,6 +146,6 @@ pub no_withdrawal : behind_header (codes "nop 02 1\n") ≡ Err (4, BadRow)
 unfolding texts_on_literals
 no_withdrawal = refl
 
-pub printed_rows_of_rings : printed_trace (with_trace_rows (Goes 2 ∷ Comes ring_3 ∷ Withdraws 3 0x1f ∷ [])) ≡ codes "xtrace 2\nctx 20\nring 02 xfer 0000000000030000:0004\nfree 02\nring 03 xfer 0000000000030000:0004\nnop 03 000000000000001f\n"
+pub printed_rows_of_rings : printed_trace (with_rows Two (FreeRow 2 ∷ RingRow ring_3 ∷ NopRow 3 0x1f ∷ [])) ≡ codes "xtrace 2\nctx 20\nring 02 xfer 0000000000030000:0004\nfree 02\nring 03 xfer 0000000000030000:0004\nnop 03 000000000000001f\n"
 unfolding texts_on_literals
 printed_rows_of_rings = refl

@@ -1,5 +1,5 @@
 -- A line by its fields in a row
-use Rattle.trace_reader.proofs.Words.{◌≡◌, ◌∷◌, ◌++◌, List, [], refl, ap, map, arith, flat_map, join_with_byte, common_steps, in_a_row, Field, printed, printed_line, printed_trace, ring_fields, trace_row_fields, row_fields, Row, Plain, size_fields, trace_lines, version_fields, TraceText}
+use Rattle.trace_reader.proofs.Words.{◌≡◌, ◌∷◌, ◌++◌, List, [], refl, ap, map, arith, flat_map, join_with_byte, common_steps, in_a_row, Field, printed, printed_line, printed_trace, ring_fields, row_fields, size_fields, trace_lines, version_fields, TraceText}
 
 joined : (fields : List Field) → join_with_byte 32 (map printed fields) ≡ in_a_row fields
 joined [] = refl
@@ -15,12 +15,6 @@ several a b = grind (arith, common_steps)
 
 pub whole_text : (trace : TraceText) →
     printed_trace trace ≡ (printed_line (version_fields trace.header.version) ++ printed_line (size_fields trace.header.context_size) ++ flat_map printed_line (map ring_fields trace.header.rings))
-    ++ flat_map printed_line (map trace_row_fields trace.rows)
+    ++ flat_map printed_line (map row_fields trace.rows)
 unfolding printed_trace trace_lines
-whole_text trace = let rest = several (map ring_fields trace.header.rings) (map trace_row_fields trace.rows) in grind (arith, common_steps, rest)
-
--- rows of the driver among those of a trace
-pub plain_rows : (rows : List Row) → map trace_row_fields (map Plain rows) ≡ map row_fields rows
-unfolding trace_row_fields
-plain_rows [] = refl
-plain_rows (row ∷ rows) = ap (λ rest. row_fields row ∷ rest) (plain_rows rows)
+whole_text trace = let rest = several (map ring_fields trace.header.rings) (map row_fields trace.rows) in grind (arith, common_steps, rest)

@@ -1,5 +1,5 @@
 -- A text that spells a trace is, in lower case, what is printed of the trace
-use Rattle.trace_reader.proofs.Words.{rules, ◌≡◌, ◌∷◌, ◌++◌, ◌∙◌, ℕ, List, [], true, false, IsTrue, refl, sym, ap, cond, map, arith, w32, to_ascii_lowercase, flat_map, join_with_byte, slice_split, str_to_ascii_lowercase, and_parts, common_steps, map-append, join_with_byte-slice_split, TextLine, is_line_feed, lines_between, lines_of, digits_of, join-fields_of, Segment, Block, Ring, TraceRow, trace_row_fields, TraceText, Field, Word, Digits, are_written, block_fields, is_written, lines_written, may_be_written, printed, printed_line, printed_trace, ring_fields, row_fields, segment_field, spells, trace_lines}
+use Rattle.trace_reader.proofs.Words.{rules, ◌≡◌, ◌∷◌, ◌++◌, ◌∙◌, ℕ, List, [], true, false, IsTrue, refl, sym, ap, cond, map, arith, w32, to_ascii_lowercase, flat_map, join_with_byte, slice_split, str_to_ascii_lowercase, and_parts, common_steps, map-append, join_with_byte-slice_split, TextLine, is_line_feed, lines_between, lines_of, digits_of, join-fields_of, Segment, Block, Ring, Row, row_fields, TraceText, Field, Word, Digits, are_written, block_fields, is_written, lines_written, may_be_written, printed, printed_line, printed_trace, ring_fields, segment_field, spells, trace_lines}
 use Rattle.trace_reader.proofs.SpelledFields.{same_bytes}
 
 -- ---- a text by its lines
@@ -85,12 +85,12 @@ low_ring : (ring : Ring) → AreLow (ring_fields ring)
 unfolding ring_fields
 low_ring ring = (refl, (tt, ((search rules), low_segments ring.shape.segments)))
 
-low_rows : (rows : List TraceRow) → AreLowLines (map trace_row_fields rows)
-unfolding trace_row_fields row_fields
+low_rows : (rows : List Row) → AreLowLines (map row_fields rows)
+unfolding row_fields
 low_rows [] = tt
 low_rows (row ∷ rows) = ((search (rules, low_blocks, low_words, low_ring)), low_rows rows)
 
-low_lines : (rings : List Ring) (rows : List TraceRow) → AreLowLines (map ring_fields rings ++ map trace_row_fields rows)
+low_lines : (rings : List Ring) (rows : List Row) → AreLowLines (map ring_fields rings ++ map row_fields rows)
 low_lines [] rows = low_rows rows
 low_lines (ring ∷ rings) rows = (low_ring ring, low_lines rings rows)
 

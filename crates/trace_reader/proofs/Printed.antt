@@ -1,5 +1,5 @@
 -- What is printed of a trace spells the trace
-use Rattle.trace_reader.proofs.UpperLaws.{common_steps, rules, ◌≡◌, ◌<◌, ◌∷◌, ◌++◌, ℕ, Bool, true, false, List, [], length, map, Ok, All, IsTrue, refl, arith, ne_eqb, flat_map, join_with_byte, and_from, All-weaker, fields_of, is_line_feed, lines_of, All-join, AreFields, fields_of-join, lines_of-ended, lines_of-nothing, Ring, TraceRow, trace_row_fields, TraceText, trace_of, Field, lines_written, printed, printed_line, printed_trace, ring_fields, row_fields, spells, trace_lines, IsTrace, AllSound, plain_fields, written_as_printed, ring_sound, sound_named, trace_row_sound, read_if_spelled}
+use Rattle.trace_reader.proofs.UpperLaws.{common_steps, rules, ◌≡◌, ◌<◌, ◌∷◌, ◌++◌, ℕ, Bool, true, false, List, [], length, map, Ok, All, IsTrue, refl, arith, ne_eqb, flat_map, join_with_byte, and_from, All-weaker, fields_of, is_line_feed, lines_of, All-join, AreFields, fields_of-join, lines_of-ended, lines_of-nothing, Ring, Row, row_fields, TraceText, trace_of, Field, lines_written, printed, printed_line, printed_trace, ring_fields, spells, trace_lines, IsTrace, AllSound, plain_fields, written_as_printed, ring_sound, sound_named, row_sound, read_if_spelled}
 
 -- ---- one line
 
@@ -43,9 +43,9 @@ printed_lines (line ∷ lines) sound = grind (arith, printed_fields, written_as_
 
 -- ---- the lines of a trace
 
-row_line : (row : TraceRow) → IsSoundLine (trace_row_fields row)
-unfolding trace_row_fields ring_fields row_fields
-row_line row = record { some = (search rules); sound = trace_row_sound row }
+row_line : (row : Row) → IsSoundLine (row_fields row)
+unfolding row_fields ring_fields
+row_line row = record { some = (search rules); sound = row_sound row }
 
 ring_line : (ring : Ring) → IsSoundLine (ring_fields ring)
 unfolding ring_fields
@@ -57,8 +57,8 @@ trace_sound trace = (
   (search (rules, sound_named)),
   (
     (search (rules, sound_named)),
-    sound_lines_append (map ring_fields trace.header.rings) (map trace_row_fields trace.rows) (sound_lines_map ring_fields ring_line trace.header.rings)
-        (sound_lines_map trace_row_fields row_line trace.rows),
+    sound_lines_append (map ring_fields trace.header.rings) (map row_fields trace.rows) (sound_lines_map ring_fields ring_line trace.header.rings)
+        (sound_lines_map row_fields row_line trace.rows),
   ),
 )
 

@@ -1,29 +1,29 @@
 -- One line more of a text
-use Rattle.trace_reader.proofs.Words.{rules, ◌≡◌, ◌-◌, ◌≤◌, ◌∷◌, ◌++◌, ◌∙◌, ℕ, List, [], Bool, false, Option, Some, None, Result, Ok, Err, refl, ap, cond, length, nat_lt, arith, is_none, option_map_or, nat_tests, common_steps, ContextSize, Version, TextLine, lines_of, LineFault, BadHeader, BadRow, Number, Limit, Shape, LineError, TraceRow, Answers, IfBadLine, IfFault, at_line, placed, said_by_line, took_in, State, after, go_on, is_bad_number, is_bad_shape, is_misplaced, line_fault, next_number, read_line, read_lines, trace_of, row_fault, size_of, start, version_of, whole, with_said, Said}
+use Rattle.trace_reader.proofs.Words.{rules, ◌≡◌, ◌-◌, ◌≤◌, ◌∷◌, ◌++◌, ◌∙◌, ℕ, List, [], Bool, false, Option, Some, None, Result, Ok, Err, refl, ap, cond, length, nat_lt, arith, is_none, option_map_or, nat_tests, common_steps, ContextSize, Version, TextLine, lines_of, LineFault, BadHeader, BadRow, Number, Limit, Shape, LineError, Row, Answers, IfBadLine, IfFault, at_line, placed, said_by_line, took_in, State, after, go_on, is_bad_number, is_bad_shape, is_misplaced, line_fault, next_number, read_line, read_lines, trace_of, row_fault, size_of, start, version_of, whole, with_said, Said}
 
 -- the rows so far, before what later lines say
-abbrev pub prepend : List TraceRow → Result (State × List TraceRow) (ℕ × LineFault) → Result (State × List TraceRow) (ℕ × LineFault)
+abbrev pub prepend : List Row → Result (State × List Row) (ℕ × LineFault) → Result (State × List Row) (ℕ × LineFault)
 prepend rows (Ok (st, later)) = Ok (st, rows ++ later)
 prepend rows (Err fault) = Err fault
 
-pub nothing_before : (r : Result (State × List TraceRow) (ℕ × LineFault)) → prepend [] r ≡ r
+pub nothing_before : (r : Result (State × List Row) (ℕ × LineFault)) → prepend [] r ≡ r
 nothing_before r = search rules
 
-good : (rows : List TraceRow) (number : ℕ) (r : Result (State × Option TraceRow) LineFault) (rest : State → Result (State × List TraceRow) (ℕ × LineFault)) (next : State × List TraceRow) →
+good : (rows : List Row) (number : ℕ) (r : Result (State × Option Row) LineFault) (rest : State → Result (State × List Row) (ℕ × LineFault)) (next : State × List Row) →
     took_in rows r ≡ Ok next → prepend rows (go_on number r rest) ≡ prepend next.1 (rest next.0)
 good rows number r rest next is = search (rules, common_steps)
 
 -- these rows were read, and these lines of the text are left
-abbrev pub HasLines : Bool → List ℕ → List TraceRow → State → List TextLine → Type 0
+abbrev pub HasLines : Bool → List ℕ → List Row → State → List TextLine → Type 0
 HasLines keeps text rows st lines = read_lines (start keeps) (lines_of text) ≡ prepend rows (read_lines st lines)
 
-module _ (keeps : Bool) (text : List ℕ) (rows : List TraceRow) (st : State) where
+module _ (keeps : Bool) (text : List ℕ) (rows : List Row) (st : State) where
   pub stopped : (line : TextLine) (lines : List TextLine) (e : LineError) → HasLines keeps text rows st (line ∷ lines) → IfFault e (λ fault. read_line st line ≡ Err fault) →
       IfBadLine (at_line (next_number st) e) (λ number code. trace_of keeps text ≡ Err (number, code))
   unfolding trace_of read_lines
   stopped line lines e so_far is = search rules
 
-  pub read_on : (later : List TraceRow) (next : State) (line : TextLine) (rest : List ℕ) (lines : List TextLine) → HasLines keeps text rows st lines → lines ≡ line ∷ lines_of rest →
+  pub read_on : (later : List Row) (next : State) (line : TextLine) (rest : List ℕ) (lines : List TextLine) → HasLines keeps text rows st lines → lines ≡ line ∷ lines_of rest →
       took_in rows (read_line st line) ≡ Ok (next, later) → HasLines keeps text later next (lines_of rest)
   unfolding read_lines
   read_on later next line rest lines so_far is took = grind (arith, common_steps, good)
@@ -32,7 +32,7 @@ module _ (keeps : Bool) (text : List ℕ) (rows : List TraceRow) (st : State) wh
   unfolding trace_of read_lines lines_of
   ended rest so_far short = grind (arith, common_steps)
 
-pub header_there : (st : State) (rows : List TraceRow) → 2 ≤ st.lines →
+pub header_there : (st : State) (rows : List Row) → 2 ≤ st.lines →
     whole (Ok (st, rows)) ≡ Ok (record { header = record { version = st.version; context_size = st.size; rings = st.rings }; first = next_number st - length rows; rows = rows })
 header_there st rows there = grind (arith, nat_lt, nat_tests)
 

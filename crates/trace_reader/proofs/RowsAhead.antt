@@ -1,5 +1,6 @@
 -- The row of a text's first line, found by the places of its fields
-use Rattle.trace_reader.proofs.MiddleLaws.{rules, ◌≡◌, ◌≤◌, ◌<◌, ◌+◌, ◌∷◌, ◌++◌, ◌∙◌, ℕ, zero, suc, List, [], true, false, Option, None, Some, IfSome, Ok, All, length, take, slice_index, refl, ap, subst, arith, ne_eqb, nat_tests, and_parts, All-join, All-cons, All-head, All-nil, All-tail, All-weaker, join-fields_of, str_to_ascii_lowercase, to_ascii_lowercase, is_line_feed, fields_of, TextLine, Field, may_be_written, are_written, Row, Plain, SaysRow, One, most_of, is_too_much, next_number, read_line, State, start, said_by_line, SaysAlone, BeginsWithRow, alone, fewer_kept, not_limited, line_entry, AllSound, same_bytes, said_sound, step_from_read, fields_said}
+use Rattle.trace_reader.proofs.MiddleLaws.{rules, ◌≡◌, ◌≤◌, ◌<◌, ◌+◌, ◌∷◌, ◌++◌, ◌∙◌, ℕ, zero, suc, List, [], true, false, Option, None, Some, IfSome, Ok, All, length, take, slice_index, refl, ap, subst, arith, ne_eqb, nat_tests, and_parts, All-join, All-cons, All-head, All-nil, All-tail, All-weaker, join-fields_of, str_to_ascii_lowercase, to_ascii_lowercase, is_line_feed, fields_of, TextLine, Field, may_be_written, are_written, Row, begins_with_ring, SaysRow, One, most_of, is_too_much, next_number, behind_row, read_line, State, start, said_by_line, SaysAlone, BeginsWithRow, alone, fewer_kept, not_limited, line_entry, AllSound, same_bytes, said_sound, step_from_read, fields_said}
+use Rattle.trace_reader.proofs.RowLines.{plain_placed}
 
 -- ---- the bytes of a line that is read
 
@@ -19,10 +20,10 @@ not_line_feed : (c : ℕ) → 32 < c → is_line_feed c ≡ false
 not_line_feed c above = ne_eqb c 10 (λ same. omega (arith, same))
 
 -- a line that is read has no line feed
-without_line_feed : (st : State) (line : TextLine) (row : Row) → 2 ≤ st.lines → read_line st line ≡ Ok (record st { lines = next_number st; begun = true }, Some (Plain row)) →
+without_line_feed : (st : State) (line : TextLine) (row : Row) → 2 ≤ st.lines → read_line st line ≡ Ok (behind_row st row, Some row) →
     All (λ byte. is_line_feed byte ≡ false) line.content
 without_line_feed st line row behind is =
-    let step = step_from_read st line (record st { lines = next_number st; begun = true }, Some (Plain row)) behind is in
+    let step = step_from_read st line (behind_row st row, Some row) behind is in
     let above = all_above (fields_said step.0) (fields_of line.content) (said_sound step.0) step.1.spelled.written in
     let plain = All-weaker (λ text. All (λ c. 32 < c) text) (λ text. All (λ c. is_line_feed c ≡ false) text)
     (λ text high. All-weaker (λ c. 32 < c) (λ c. is_line_feed c ≡ false) not_line_feed text high) (fields_of line.content) above in
@@ -30,30 +31,34 @@ without_line_feed st line row behind is =
 
 -- ---- the first line
 
-says_behind : (st : State) (content : List ℕ) (row : Row) → SaysAlone row content → is_too_much (SaysRow (Plain row)) ≡ false → 2 ≤ st.lines → next_number st ≤ most_of st →
-    read_line st (record { content = content; is_ended = true }) ≡ Ok (record st { lines = next_number st; begun = true }, Some (Plain row))
-says_behind st content row says few behind within =
+-- no ring comes by it, and it has not too many blocks
+abbrev pub IsOrdinary : Row → Type 0
+IsOrdinary row = (begins_with_ring (row ∷ []) ≡ false) × (is_too_much (SaysRow row) ≡ false)
+
+says_behind : (st : State) (content : List ℕ) (row : Row) → SaysAlone row content → IsOrdinary row → 2 ≤ st.lines → next_number st ≤ most_of st →
+    read_line st (record { content = content; is_ended = true }) ≡ Ok (behind_row st row, Some row)
+says_behind st content row says is behind within =
     let line : TextLine = record { content = content; is_ended = true } in
-    let said : said_by_line st line ≡ Ok (SaysRow (Plain row)) = alone st line st.version st.begun refl refl ∙ not_limited (most_of st) (next_number st) (SaysRow (Plain row)) _ (says st.version st.begun) within few in
-    line_entry st line (SaysRow (Plain row)) behind said
+    let said : said_by_line st line ≡ Ok (SaysRow row) = alone st line st.version st.begun refl refl ∙ not_limited (most_of st) (next_number st) (SaysRow row) _ (says st.version st.begun) within is.1 in
+    line_entry st line (SaysRow row) behind said ∙ plain_placed st row is.0
 
 abbrev somewhere : State
 somewhere = record (start true) { lines = 2 }
 
-begins_with : (text content : List ℕ) (count : ℕ) (row : Row) → SaysAlone row content → is_too_much (SaysRow (Plain row)) ≡ false → length content + 1 ≡ count → ((rest : List ℕ) × (text ≡ content ++ 10 ∷ rest)) →
+begins_with : (text content : List ℕ) (count : ℕ) (row : Row) → SaysAlone row content → IsOrdinary row → length content + 1 ≡ count → ((rest : List ℕ) × (text ≡ content ++ 10 ∷ rest)) →
     BeginsWithRow row count text
-begins_with text content count row says few long whole =
-    let read = λ (st : State). says_behind st content row says few in
+begins_with text content count row says is long whole =
+    let read = λ (st : State). says_behind st content row says is in
     let here = read somewhere (omega arith) (omega (arith, fewer_kept One)) in
     (content, whole.0, whole.1, long, without_line_feed somewhere (record { content = content; is_ended = true }) row (omega arith) here, read)
 
 pub if_is : {T : Type 0} (P : T → Type 0) (o : Option T) → ((x : T) → o ≡ Some x → P x) → IfSome o P
 if_is P o held = search rules
 
-pub found_ahead : {T : Type 0} (row : T → Row) (text content : List ℕ) (count : ℕ) (found : Option T) → ((x : T) → is_too_much (SaysRow (Plain (row x))) ≡ false) →
+pub found_ahead : {T : Type 0} (row : T → Row) (text content : List ℕ) (count : ℕ) (found : Option T) → ((x : T) → IsOrdinary (row x)) →
     (length content ≡ count) × ((rest : List ℕ) × (text ≡ content ++ 10 ∷ rest)) → IfSome found (λ x. SaysAlone (row x) content) → IfSome found (λ x. BeginsWithRow (row x) (count + 1) text)
-found_ahead row text content count None few cut says = tt
-found_ahead row text content count (Some x) few cut says = begins_with text content (count + 1) (row x) says (few x) (ap (λ n. n + 1) cut.0) cut.1
+found_ahead row text content count None is cut says = tt
+found_ahead row text content count (Some x) is cut says = begins_with text content (count + 1) (row x) says (is x) (ap (λ n. n + 1) cut.0) cut.1
 
 -- ---- the bytes before a line feed
 

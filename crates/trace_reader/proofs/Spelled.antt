@@ -1,5 +1,5 @@
 -- What is read of a text is the valid trace that the text spells
-use Rattle.trace_reader.proofs.MiddleLaws.{rules, ◌≡◌, ◌-◌, ◌≤◌, ◌&&◌, ◌∷◌, ◌++◌, ◌∙◌, ℕ, Bool, true, false, cond, List, [], length, Option, Some, None, Result, Ok, IsTrue, refl, sym, ap, subst, arith, Version, join_with_byte, list_all, bytes_eq, and_parts, and_from, ContextSize, fields_of, TextLine, lines_of, join-fields_of, LineFault, Ring, TraceRow, have_new_ids, may_stand_together, header_there, most_lines_of, State, TraceText, after, line_fault, next_number, read_line, read_lines, size_of, start, trace_of, version_of, whole, Field, Word, are_written, is_written, lines_written, size_fields, spells, trace_lines, version_fields, IsTrace, some_lines, same_bytes, then_are, word_first, ok_there, there, only}
+use Rattle.trace_reader.proofs.MiddleLaws.{rules, ◌≡◌, ◌+◌, ◌-◌, ◌≤◌, ◌&&◌, ◌∷◌, ◌++◌, ◌∙◌, ℕ, Bool, true, false, cond, List, [], length, Option, Some, None, Result, Ok, IsTrue, refl, sym, ap, subst, arith, Version, join_with_byte, list_all, bytes_eq, and_parts, and_from, ContextSize, fields_of, TextLine, lines_of, join-fields_of, LineFault, Ring, Row, have_new_ids, may_stand_together, header_there, most_lines, most_lines_of, State, TraceText, after, line_fault, next_number, read_line, read_lines, size_of, start, trace_of, version_of, whole, Field, Word, are_written, is_written, lines_written, size_fields, spells, trace_lines, version_fields, IsTrace, some_lines, same_bytes, then_are, word_first, ok_there, there, only}
 use Rattle.trace_reader.proofs.SpelledTraces.{is_line_ring, lines_for, lines_go_on, lines_read, read_on, spells_from_read, with_front}
 
 -- ---- the first two lines
@@ -29,12 +29,12 @@ behind_size keeps version size = record (start keeps) { lines = 2; version = ver
 if_some : (t : Bool) (fault : LineFault) → cond t (Some fault) None ≡ None → t ≡ false
 if_some t fault is = search rules
 
-first_from_read : (keeps : Bool) (line : TextLine) (next : State × Option TraceRow) → read_line (start keeps) line ≡ Ok next →
+first_from_read : (keeps : Bool) (line : TextLine) (next : State × Option Row) → read_line (start keeps) line ≡ Ok next →
     (version : Version) × (version_of line ≡ Some version) × ((behind_version keeps version, None) ≡ next)
 unfolding read_line line_fault after
 first_from_read keeps line next is = search (rules, ok_there, there, if_some)
 
-second_from_read : (keeps : Bool) (version : Version) (line : TextLine) (next : State × Option TraceRow) → read_line (behind_version keeps version) line ≡ Ok next →
+second_from_read : (keeps : Bool) (version : Version) (line : TextLine) (next : State × Option Row) → read_line (behind_version keeps version) line ≡ Ok next →
     (size : ContextSize) × (size_of line ≡ Some size) × ((behind_size keeps version size, None) ≡ next)
 unfolding read_line line_fault after
 second_from_read keeps version line next is = search (rules, ok_there, there, if_some)
@@ -49,46 +49,46 @@ second_read keeps version line size is = rw is refl
 
 -- ---- from a text that is read
 
-pub whole_there : (x : Result (State × List TraceRow) (ℕ × LineFault)) (trace : TraceText) → whole x ≡ Ok trace →
-    (r : State × List TraceRow) × (x ≡ Ok r) × (2 ≤ r.0.lines)
+pub whole_there : (x : Result (State × List Row) (ℕ × LineFault)) (trace : TraceText) → whole x ≡ Ok trace →
+    (r : State × List Row) × (x ≡ Ok r) × (2 ≤ r.0.lines)
     × (record { header = record { version = r.0.version; context_size = r.0.size; rings = r.0.rings }; first = next_number r.0 - length r.1; rows = r.1 } ≡ trace)
 whole_there x trace is = search rules
 
-read_end : (st : State) (r : State × List TraceRow) → read_lines st [] ≡ Ok r → st ≡ r.0
+read_end : (st : State) (r : State × List Row) → read_lines st [] ≡ Ok r → st ≡ r.0
 unfolding read_lines
-read_end st r is = let same : (st, []) ≡ r = cc is in ap (λ (x : State × List TraceRow). x.0) same
+read_end st r is = let same : (st, []) ≡ r = cc is in ap (λ (x : State × List Row). x.0) same
 
-record Begins (keeps : Bool) (first second : TextLine) (lines : List TextLine) (r : State × List TraceRow) : Type 0 where
+record Begins (keeps : Bool) (first second : TextLine) (lines : List TextLine) (r : State × List Row) : Type 0 where
   version : Version
   size : ContextSize
   named : is_written (version_fields version) first ≡ true
   sized : is_written (size_fields size) second ≡ true
   rest : read_lines (behind_size keeps version size) lines ≡ Ok r
 
-second_state : (keeps : Bool) (first : TextLine) (lines : List TextLine) (r : State × List TraceRow) → read_lines (start keeps) (first ∷ lines) ≡ Ok r →
+second_state : (keeps : Bool) (first : TextLine) (lines : List TextLine) (r : State × List Row) → read_lines (start keeps) (first ∷ lines) ≡ Ok r →
     (version : Version) × (is_written (version_fields version) first ≡ true)
-    × ((q : State × List TraceRow) × (read_lines (behind_version keeps version) lines ≡ Ok q) × (q.0 ≡ r.0) × (q.1 ≡ r.1))
+    × ((q : State × List Row) × (read_lines (behind_version keeps version) lines ≡ Ok q) × (q.0 ≡ r.0) × (q.1 ≡ r.1))
 second_state keeps first lines r is =
     let g = lines_go_on (start keeps) first lines r is in
     let p = first_from_read keeps first g.next g.step_is in
     grind (arith, Option, version_written, with_front)
 
-third_state : (keeps : Bool) (version : Version) (second : TextLine) (lines : List TextLine) (r : State × List TraceRow) → read_lines (behind_version keeps version) (second ∷ lines) ≡ Ok r →
-    (size : ContextSize) × (is_written (size_fields size) second ≡ true) × ((q : State × List TraceRow) × (read_lines (behind_size keeps version size) lines ≡ Ok q) × (q.0 ≡ r.0) × (q.1 ≡ r.1))
+third_state : (keeps : Bool) (version : Version) (second : TextLine) (lines : List TextLine) (r : State × List Row) → read_lines (behind_version keeps version) (second ∷ lines) ≡ Ok r →
+    (size : ContextSize) × (is_written (size_fields size) second ≡ true) × ((q : State × List Row) × (read_lines (behind_size keeps version size) lines ≡ Ok q) × (q.0 ≡ r.0) × (q.1 ≡ r.1))
 unfolding size_of fields_of
 third_state keeps version second lines r is =
     let g = lines_go_on (behind_version keeps version) second lines r is in
     let p = second_from_read keeps version second g.next g.step_is in
     search (rules, Option, words_written, with_front)
 
-begins : (keeps : Bool) (first second : TextLine) (lines : List TextLine) (r : State × List TraceRow) → read_lines (start keeps) (first ∷ second ∷ lines) ≡ Ok r → Begins keeps first second lines r
+begins : (keeps : Bool) (first second : TextLine) (lines : List TextLine) (r : State × List Row) → read_lines (start keeps) (first ∷ second ∷ lines) ≡ Ok r → Begins keeps first second lines r
 begins keeps first second lines r is = search (rules, second_state, third_state)
 
 -- the trace of a state and the rows that were read
-abbrev text_of : State × List TraceRow → TraceText
+abbrev text_of : State × List Row → TraceText
 text_of r = record { header = record { version = r.0.version; context_size = r.0.size; rings = r.0.rings }; first = next_number r.0 - length r.1; rows = r.1 }
 
-lines_spell : (keeps : Bool) (first second : TextLine) (lines : List TextLine) (r : State × List TraceRow) → Begins keeps first second lines r →
+lines_spell : (keeps : Bool) (first second : TextLine) (lines : List TextLine) (r : State × List Row) → Begins keeps first second lines r →
     (lines_written (trace_lines (text_of r)) (first ∷ second ∷ lines) ≡ true) × IsTrace keeps (text_of r)
 unfolding trace_lines
 lines_spell keeps first second lines r b =
@@ -124,6 +124,11 @@ pub spelled_if_read : (keeps : Bool) (text : List ℕ) (trace : TraceText) → t
 unfolding trace_of spells
 spelled_if_read keeps text trace is = read_spells keeps (lines_of text) trace is
 
+-- where all rows are kept there are few lines
+pub few_lines : (text : List ℕ) (trace : TraceText) → trace_of true text ≡ Ok trace → trace.first + length trace.rows ≤ most_lines + 1
+unfolding most_lines_of
+few_lines text trace is = (spelled_if_read true text trace is).1.within
+
 -- ---- from a text that spells a trace
 
 written_reads : (keeps : Bool) (lines : List TextLine) (trace : TraceText) → lines_written (trace_lines trace) lines ≡ true → IsTrace keeps trace → whole (read_lines (start keeps) lines) ≡ Ok trace
@@ -142,7 +147,7 @@ written_reads keeps (first ∷ second ∷ lines) trace written is =
     let third = read_on (behind_version keeps version) (behind_size keeps version size) second lines None read.end trace.rows (second_read keeps version second size (search (rules, two_words))) read.is in
     let all : read_lines (start keeps) (first ∷ second ∷ lines) ≡ Ok (read.end, trace.rows) =
     read_on (start keeps) (behind_version keeps version) first (second ∷ lines) None read.end trace.rows (first_read keeps first version (search (rules, two_words))) third in
-    ap (λ (x : Result (State × List TraceRow) (ℕ × LineFault)). whole x) all
+    ap (λ (x : Result (State × List Row) (ℕ × LineFault)). whole x) all
     ∙ (search rules)
 
 -- a valid trace that the text spells is what is read
@@ -159,8 +164,8 @@ one_trace keeps text s t spells_s is_s spells_t is_t =
 
 -- ---- a text that was read whole
 
-pub valid : (keeps : Bool) (text : List ℕ) (st : State) (rows : List TraceRow) → trace_of keeps text ≡ whole (Ok (st, rows)) → 2 ≤ st.lines → IsTrace keeps (text_of (st, rows))
+pub valid : (keeps : Bool) (text : List ℕ) (st : State) (rows : List Row) → trace_of keeps text ≡ whole (Ok (st, rows)) → 2 ≤ st.lines → IsTrace keeps (text_of (st, rows))
 valid keeps text st rows is there = (spelled_if_read keeps text _ (is ∙ header_there st rows there)).1
 
-pub few_rows : (keeps : Bool) (text : List ℕ) (st : State) (rows : List TraceRow) → trace_of keeps text ≡ whole (Ok (st, rows)) → 2 ≤ st.lines → length rows ≤ st.lines
+pub few_rows : (keeps : Bool) (text : List ℕ) (st : State) (rows : List Row) → trace_of keeps text ≡ whole (Ok (st, rows)) → 2 ≤ st.lines → length rows ≤ st.lines
 few_rows keeps text st rows is there = let first = (valid keeps text st rows is there).first in omega (arith, first)

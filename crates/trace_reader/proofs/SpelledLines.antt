@@ -1,8 +1,8 @@
 -- A line without a fault: what it says, and that it spells it
-use Rattle.trace_reader.proofs.LowerLaws.{rules, ◌≡◌, ◌≤◌, ◌||◌, ◌∙◌, ℕ, Bool, true, false, not, nat_lt, Option, Some, None, Ok, Err, is_none, refl, sym, ap, arith, le-ltb, ltb-false, ne_eqb, option_and_then, option_map_or, not-false, or_parts, fields_of, has_empty_field, TextLine, length-fields_of, is_shape, LineFault, Ring, TraceRow, has_ring_rows, trace_row_fields, Form, most_of, most_declared, State, next_number, form_in, said_in, is_bad_row, is_bad_number, is_too_much, is_past_limit, is_too_long, is_misplaced, is_bad_shape, row_fault, line_fault, with_said, after, read_line, said_of, Said, SaysRing, AllSound, all_filled, then_there, written_lengths}
+use Rattle.trace_reader.proofs.LowerLaws.{rules, ◌≡◌, ◌≤◌, ◌||◌, ◌∙◌, ℕ, Bool, true, false, not, nat_lt, Option, Some, None, Ok, Err, is_none, refl, sym, ap, arith, le-ltb, ltb-false, ne_eqb, option_and_then, option_map_or, not-false, or_parts, fields_of, has_empty_field, TextLine, length-fields_of, is_shape, LineFault, Ring, Row, has_ring_rows, row_fields, Form, most_of, most_declared, State, next_number, form_in, said_in, is_bad_row, is_bad_number, is_too_much, is_past_limit, is_too_long, is_misplaced, is_bad_shape, row_fault, line_fault, with_said, after, read_line, said_of, Said, SaysRing, AllSound, all_filled, then_there, written_lengths}
 use Rattle.trace_reader.proofs.SpelledSaid.{IsRead, IsSpelled, fields_said, read_from_spelled, spelled_from_read, stands}
 use Rattle.trace_reader.proofs.SpelledHeaders.{shape_says}
-use Rattle.trace_reader.proofs.SpelledSizes.{trace_row_sound, ring_sound, sub_length, write_length, reg_length, bell_length, read_length, ring_length, goes_length, withdraws_length}
+use Rattle.trace_reader.proofs.SpelledSizes.{row_sound, ring_sound, sub_length, write_length, reg_length, bell_length, read_length, ring_length, goes_length, withdraws_length}
 
 -- the line spells it, and it may stand there
 pub record IsGood (st : State) (line : TextLine) (s : Said) : Type 0 where
@@ -86,7 +86,7 @@ good_from_none st line none =
 -- ---- to no fault
 
 pub said_sound : (s : Said) → AllSound (fields_said s)
-said_sound s = search (rules, trace_row_sound, ring_sound)
+said_sound s = search (rules, row_sound, ring_sound)
 
 pub few_blocks : (n : ℕ) → nat_lt most_declared n ≡ false → n ≤ most_declared
 few_blocks n few = ltb-false most_declared n few
@@ -95,7 +95,7 @@ allowed : (ring : Ring) (other : Bool) → (not (is_shape ring.shape) || other) 
 allowed ring other placed = not-false (is_shape ring.shape) ((or_parts (not (is_shape ring.shape)) other placed).0)
 
 short_line : (st : State) (line : TextLine) (s : Said) → IsGood st line s → is_too_long line ≡ false
-unfolding is_too_long trace_row_fields
+unfolding is_too_long row_fields
 short_line st line s good = search (rules, length-fields_of, written_lengths, fields_said, sub_length, few_blocks, write_length, reg_length, bell_length, read_length, ring_length, shape_says, allowed, goes_length, withdraws_length)
 
 read_in : (st : State) (line : TextLine) (s : Said) → IsRead st.version st.begun s (fields_of line.content) → said_in st line ≡ Some s
@@ -127,7 +127,7 @@ after_is st line behind = rw (ne_eqb st.lines 0 (λ e. omega (arith, e)), ne_eqb
 pub ok_there : {A : Type 0} (fault : Option LineFault) (a b : A) → option_map_or (λ f. Err f) fault (Ok a) ≡ Ok b → (fault ≡ None) × (a ≡ b)
 ok_there fault a b is = search rules
 
-pub step_from_read : (st : State) (line : TextLine) (p : State × Option TraceRow) → 2 ≤ st.lines → read_line st line ≡ Ok p → (s : Said) × IsGood st line s × (with_said st (Some s) ≡ p)
+pub step_from_read : (st : State) (line : TextLine) (p : State × Option Row) → 2 ≤ st.lines → read_line st line ≡ Ok p → (s : Said) × IsGood st line s × (with_said st (Some s) ≡ p)
 unfolding read_line
 step_from_read st line p behind is = search (rules, ok_there, good_from_none, line_fault_is, after_is)
 

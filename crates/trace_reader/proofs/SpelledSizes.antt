@@ -1,5 +1,5 @@
 -- The fields of rows and rings: none is empty or has a space, and all fit a line
-use Rattle.trace_reader.proofs.LowerLaws.{rules, common_steps, ◌≡◌, ◌*◌, ◌<◌, ◌≤◌, ◌∷◌, ◌∙◌, ℕ, true, List, [], length, map, All, refl, ap, arith, codes, nat_lt, w8, w32, w64, ltb-true, flat_map, list_all, map-append, AllPass-from_list_all, All-weaker, All-append, All-head, All-tail, digits_of, digits_stay_lower, length-digits_of, spaced_length, IsBlock, ring_name, Block, RingKind, Segment, register_name, most_bytes, most_declared, Word, Digits, printed, block_fields, segment_field, row_fields, ring_fields, Register, Ring, Sub, Write, Reg, Bell, Read, TraceRow, Goes, Withdraws, trace_row_fields, IsSound, AllSound, sound_word, sound_digits, sound_append, sound_map, plain_digits, are_same_bytes, spaced_length-append, word_field}
+use Rattle.trace_reader.proofs.LowerLaws.{rules, common_steps, ◌≡◌, ◌*◌, ◌<◌, ◌≤◌, ◌∷◌, ◌∙◌, ℕ, true, List, [], length, map, All, refl, ap, arith, codes, nat_lt, w8, w32, w64, ltb-true, flat_map, list_all, map-append, AllPass-from_list_all, All-weaker, All-append, All-head, All-tail, digits_of, digits_stay_lower, length-digits_of, spaced_length, IsBlock, ring_name, Block, RingKind, Segment, register_name, most_bytes, most_declared, Word, Digits, printed, block_fields, segment_field, row_fields, ring_fields, Register, Ring, Sub, Write, Reg, Bell, Read, Row, FreeRow, NopRow, IsSound, AllSound, sound_word, sound_digits, sound_append, sound_map, plain_digits, are_same_bytes, spaced_length-append, word_field}
 
 -- ---- soundness
 
@@ -38,9 +38,9 @@ ring_sound ring = (
   (digits_8 ring.id, ((search (rules, sound_named)), sound_map segment_field segment_sound ring.shape.segments)),
 )
 
-pub trace_row_sound : (row : TraceRow) → AllSound (trace_row_fields row)
-unfolding trace_row_fields row_fields
-trace_row_sound row = search (rules, sound_named, digits_8, blocks_sound, digits_64, digits_32, block_sound, ring_sound, sound_named, digits_8, digits_64)
+pub row_sound : (row : Row) → AllSound (row_fields row)
+unfolding row_fields
+row_sound row = search (rules, sound_named, digits_8, blocks_sound, digits_64, digits_32, block_sound, ring_sound)
 
 -- ---- lengths
 
@@ -101,10 +101,10 @@ pub ring_length : (ring : Ring) → length ring.shape.segments ≤ 64 → spaced
 unfolding ring_fields
 ring_length ring few = omega (arith, two_digits ring.id, kind_length ring.shape.kind, segments_length ring.shape.segments)
 
-pub goes_length : (ring : ℕ) → spaced_length (map printed (trace_row_fields (Goes ring))) ≤ most_bytes
-unfolding trace_row_fields
+pub goes_length : (ring : ℕ) → spaced_length (map printed (row_fields (FreeRow ring))) ≤ most_bytes
+unfolding row_fields
 goes_length ring = omega (arith, two_digits ring)
 
-pub withdraws_length : (ring position : ℕ) → spaced_length (map printed (trace_row_fields (Withdraws ring position))) ≤ most_bytes
-unfolding trace_row_fields
+pub withdraws_length : (ring position : ℕ) → spaced_length (map printed (row_fields (NopRow ring position))) ≤ most_bytes
+unfolding row_fields
 withdraws_length ring position = omega (arith, two_digits ring, sixteen_digits position)

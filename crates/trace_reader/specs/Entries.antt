@@ -15,15 +15,14 @@ use Rattle.trace_reader.specs.declared.entry.Entry.{Entry}
 use Rattle.trace_reader.specs.declared.entry.Entry.TheVariants.{Row as RowSaid, Ring as RingSaid}
 use Rattle.trace_reader.specs.declared.entry.RingEntry.{RingEntry}
 use Rattle.trace_reader.specs.declared.entry.RowEntry.{RowEntry}
-use Rattle.trace_reader.specs.declared.entry.RowEntry.TheVariants.{Plain as PlainEntry, Comes as ComesEntry, Goes as GoesEntry, Withdraws as WithdrawsEntry}
+use Rattle.trace_reader.specs.declared.entry.RowEntry.TheVariants.{Plain as PlainEntry, Comes as ComesEntry}
 use Rattle.trace_reader.specs.declared.entry.FirstWord.{FirstWord}
 use Rattle.trace_reader.specs.declared.so_far.TraceSoFar.{TraceSoFar}
 use Rattle.traces.specs.declared.ring.Ring.{Ring}
 use Rattle.trace_reader.specs.declared.entry.FirstWord.TheVariants.{Sub as SubWord, W, Reg as RegWord, Db, Ev, Ring as RingWord, Free as FreeWord, Nop as NopWord}
 use Rattle.traces.specs.declared.row.Row.{Row}
 use Rattle.traces.specs.declared.trace.Trace.{Trace}
-use Rattle.traces.specs.declared.trace_row.TraceRow.{TraceRow}
-use Rattle.traces.specs.declared.trace_row.TraceRow.TheVariants.{Plain, Comes, Goes, Withdraws}
+use Rattle.traces.specs.declared.row.Row.TheVariants.{Ring as RingRow}
 use Rattle.traces.specs.declared.version.Version.{Version}
 use Rattle.trace_reader.specs.Grammar.{form_as}
 use Rattle.trace_reader.specs.Grammar as grammar
@@ -37,11 +36,9 @@ abbrev pub ring_of : RingEntry → Ring
 ring_of ring = record { id = ring.id; shape = shape_of ring.kind ring.segments.items }
 
 -- a row as its line says
-abbrev pub row_of : RowEntry → TraceRow
-row_of (PlainEntry row) = Plain row
-row_of (ComesEntry ring) = Comes (ring_of ring)
-row_of (GoesEntry ring) = Goes ring
-row_of (WithdrawsEntry ring position) = Withdraws ring position
+abbrev pub row_of : RowEntry → Row
+row_of (PlainEntry plain) = plain.row
+row_of (ComesEntry ring) = RingRow (ring_of ring)
 
 -- what a read line says
 abbrev pub value_of : Entry → Said
@@ -126,7 +123,7 @@ said_alone version begun line = option_map_or Err (content_fault line) (said_by_
 
 -- a line of these bytes says what the driver did, in each version, behind rings and behind rows
 abbrev pub SaysAlone : Row → List ℕ → Type 0
-SaysAlone row content = (version : Version) (begun : Bool) → said_alone version begun (record { content = content; is_ended = true }) ≡ Ok (SaysRow (Plain row))
+SaysAlone row content = (version : Version) (begun : Bool) → said_alone version begun (record { content = content; is_ended = true }) ≡ Ok (SaysRow row)
 
 -- a line behind the header, before its ring is placed among the others
 unfoldable pub said_by_line : State → TextLine → Result Said LineFault
@@ -144,24 +141,24 @@ abbrev pub state_of : TraceSoFar → State
 state_of r = record { lines = r.lines; version = r.version; size = r.size; rings = r.rings.items; begun = r.begun; later = r.later.items; keeps = r.keeps }
 
 -- the rows so far, and the row of the next line, if it says one
-abbrev pub took_in : List TraceRow → Result (State × Option TraceRow) LineFault → Result (State × List TraceRow) LineFault
+abbrev pub took_in : List Row → Result (State × Option Row) LineFault → Result (State × List Row) LineFault
 took_in rows (Ok (st, Some row)) = Ok (st, rows ++ row ∷ [])
 took_in rows (Ok (st, None)) = Ok (st, rows)
 took_in rows (Err fault) = Err fault
 
 -- the answer is the row that a line says behind the first row's, or the line's least fault, or memory was wanting
-abbrev pub AnswersRow : State → Result TraceRow LineError → TextLine → Type 0
+abbrev pub AnswersRow : State → Result Row LineError → TextLine → Type 0
 AnswersRow st (Ok row) line = read_line st line ≡ Ok (behind_row st row, Some row)
 AnswersRow st (Err (Fault fault)) line = read_line st line ≡ Err fault
 AnswersRow st (Err Memory) line = Unit {0}
 
 -- a line behind the header, with its ring among those before it
-abbrev pub placed : State → Result Said LineFault → Result (State × Option TraceRow) LineFault
+abbrev pub placed : State → Result Said LineFault → Result (State × Option Row) LineFault
 placed st (Err fault) = Err fault
 placed st (Ok said) = if is_misplaced st.rings st.later said then Err Shape else Ok (with_said st (Some said))
 
 -- the row that a line says, among the rings before it
-abbrev pub SaysPlaced : State → Result TraceRow LineError → Said → Type 0
+abbrev pub SaysPlaced : State → Result Row LineError → Said → Type 0
 SaysPlaced st (Ok row) said = placed st (Ok said) ≡ Ok (behind_row st row, Some row)
 SaysPlaced st (Err (Fault fault)) said = placed st (Ok said) ≡ Err fault
 SaysPlaced st (Err Memory) said = Unit {0}

@@ -14,9 +14,8 @@ use Rattle.traces.specs.declared.header.Header.{Header}
 use Rattle.traces.specs.declared.version.Version.{Version}
 use Rattle.traces.specs.declared.version.Version.TheVariants.{One, Two, Three}
 use Rattle.traces.specs.declared.ring.Ring.{Ring}
-use Rattle.traces.specs.declared.trace_row.TraceRow.{TraceRow}
-use Rattle.traces.specs.declared.trace_row.TraceRow.TheVariants.{Plain, Comes, Goes, Withdraws}
-use Rattle.traces.specs.declared.row.Row.TheVariants.{Sub}
+use Rattle.traces.specs.declared.row.Row.{Row}
+use Rattle.traces.specs.declared.row.Row.TheVariants.{Ring as RingRow, Sub}
 use Rattle.traces.specs.TraceRows.{has_used_id, ids_with}
 use Rattle.trace_reader.specs.TraceLines.{Form, form_of, said_of}
 use Rattle.traces.specs.Header.{clash}
@@ -80,7 +79,7 @@ unfoldable pub is_bad_number : State → TextLine → Bool
 is_bad_number st line = is_none (said_in st line)
 
 abbrev pub is_too_much : Said → Bool
-is_too_much (SaysRow (Plain (Sub ring blocks))) = nat_lt most_declared (length blocks)
+is_too_much (SaysRow (Sub ring blocks)) = nat_lt most_declared (length blocks)
 is_too_much _ = false
 
 -- 4 Limit: a line past the limit, or too many blocks in one declaration; a line of too many bytes has this fault alone
@@ -91,11 +90,9 @@ unfoldable pub is_too_long : TextLine → Bool
 is_too_long line = nat_lt most_bytes (length line.content)
 
 -- its ring's segments make none
-abbrev pub has_no_shape : TraceRow → Bool
-has_no_shape (Comes ring) = not (is_shape ring.shape)
-has_no_shape (Plain row) = false
-has_no_shape (Goes ring) = false
-has_no_shape (Withdraws ring position) = false
+abbrev pub has_no_shape : Row → Bool
+has_no_shape (RingRow ring) = not (is_shape ring.shape)
+has_no_shape row = false
 
 -- beside the rings of the header and those that came later, by their IDs
 abbrev pub is_misplaced : List Ring → List ℕ → Said → Bool
@@ -124,10 +121,10 @@ line_fault st line =
     else row_fault st line
 
 -- behind a line that says the row
-abbrev pub behind_row : State → TraceRow → State
+abbrev pub behind_row : State → Row → State
 behind_row st row = record st { lines = next_number st; begun = true; later = ids_with st.later row }
 
-abbrev pub with_said : State → Option Said → State × Option TraceRow
+abbrev pub with_said : State → Option Said → State × Option Row
 with_said st (Some (SaysRow row)) = (behind_row st row, Some row)
 with_said st (Some (SaysRing ring)) = (record st { lines = next_number st; rings = st.rings ++ ring ∷ [] }, None)
 with_said st None = (st, None)
@@ -141,27 +138,27 @@ with_size st (Some size) = record st { lines = next_number st; size = size }
 with_size st None = st
 
 -- what is read after a line without a fault, and the row that the line says, if it says one
-unfoldable pub after : State → TextLine → State × Option TraceRow
+unfoldable pub after : State → TextLine → State × Option Row
 after st line =
     if st.lines == 0 then (with_version st (version_of line), None)
     else if st.lines == 1 then (with_size st (size_of line), None)
     else with_said st (said_in st line)
 
 -- the next line: the new state and the row, or the least fault
-unfoldable pub read_line : State → TextLine → Result (State × Option TraceRow) LineFault
+unfoldable pub read_line : State → TextLine → Result (State × Option Row) LineFault
 read_line st line = option_map_or Err (line_fault st line) (Ok (after st line))
 
-abbrev pub with_row : Option TraceRow → Result (State × List TraceRow) (ℕ × LineFault) → Result (State × List TraceRow) (ℕ × LineFault)
+abbrev pub with_row : Option Row → Result (State × List Row) (ℕ × LineFault) → Result (State × List Row) (ℕ × LineFault)
 with_row (Some row) (Ok (st, rows)) = Ok (st, row ∷ rows)
 with_row None (Ok (st, rows)) = Ok (st, rows)
 with_row row (Err fault) = Err fault
 
-abbrev pub go_on : ℕ → Result (State × Option TraceRow) LineFault → (State → Result (State × List TraceRow) (ℕ × LineFault)) → Result (State × List TraceRow) (ℕ × LineFault)
+abbrev pub go_on : ℕ → Result (State × Option Row) LineFault → (State → Result (State × List Row) (ℕ × LineFault)) → Result (State × List Row) (ℕ × LineFault)
 go_on number (Ok (st, row)) rest = with_row row (rest st)
 go_on number (Err fault) rest = Err (number, fault)
 
 -- all lines: the state behind them and the rows, or the first bad line and its least fault
-unfoldable pub read_lines : State → List TextLine → Result (State × List TraceRow) (ℕ × LineFault)
+unfoldable pub read_lines : State → List TextLine → Result (State × List Row) (ℕ × LineFault)
 read_lines st [] = Ok (st, [])
 read_lines st (line ∷ lines) = go_on (next_number st) (read_line st line) (λ after. read_lines after lines)
 
@@ -170,10 +167,10 @@ pub record TraceText : Type 0 where
   pub header : Header
   -- the number of the first row's line
   pub first : ℕ
-  pub rows : List TraceRow
+  pub rows : List Row
 
 -- a text ends behind its header at the earliest: the line that isn't there is a bad one
-abbrev pub whole : Result (State × List TraceRow) (ℕ × LineFault) → Result TraceText (ℕ × LineFault)
+abbrev pub whole : Result (State × List Row) (ℕ × LineFault) → Result TraceText (ℕ × LineFault)
 whole (Ok (st, rows)) =
     if nat_lt st.lines 2 then Err (next_number st, BadHeader)
     else Ok (record { header = record { version = st.version; context_size = st.size; rings = st.rings }; first = next_number st - length rows; rows = rows })

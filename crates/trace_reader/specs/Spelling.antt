@@ -13,9 +13,7 @@ use Rattle.trb.specs.declared.block.Block.{Block}
 use Rattle.trb.specs.RingKind.{ring_name}
 use Rattle.traces.specs.declared.ring.Ring.{Ring}
 use Rattle.traces.specs.declared.row.Row.{Row}
-use Rattle.traces.specs.declared.row.Row.TheVariants.{Sub, Write, Reg, Bell, Read}
-use Rattle.traces.specs.declared.trace_row.TraceRow.{TraceRow}
-use Rattle.traces.specs.declared.trace_row.TraceRow.TheVariants.{Plain, Comes, Goes, Withdraws}
+use Rattle.traces.specs.declared.row.Row.TheVariants.{Sub, Write, Reg, Bell, Read, Ring as RingRow, Free as FreeRow, Nop as NopRow}
 use Rattle.traces.specs.Register.{register_name}
 use Rattle.traces.specs.declared.version.Version.{Version}
 use Rattle.traces.specs.declared.version.Version.TheVariants.{One, Two, Three}
@@ -41,23 +39,20 @@ block_fields block = map (λ w. Digits (digits_of w32 w)) block.w
 abbrev pub segment_field : Segment → Field
 segment_field segment = Digits (digits_of w64 segment.base ++ codes ":" ++ digits_of w16 segment.count)
 
+unfoldable pub ring_fields : Ring → List Field
+ring_fields ring =
+    Word (codes "ring") ∷ Digits (digits_of w8 ring.id) ∷ Word (ring_name ring.shape.kind) ∷ map segment_field ring.shape.segments
+
+-- a ring that comes is spelled as one of the header
 unfoldable pub row_fields : Row → List Field
 row_fields (Sub ring blocks) = Word (codes "sub") ∷ Digits (digits_of w8 ring) ∷ flat_map block_fields blocks
 row_fields (Write at word) = Word (codes "w") ∷ Digits (digits_of w64 at) ∷ Digits (digits_of w32 word) ∷ []
 row_fields (Reg register value) = Word (codes "reg") ∷ Word (register_name register) ∷ Digits (digits_of w64 value) ∷ []
 row_fields (Bell slot target) = Word (codes "db") ∷ Digits (digits_of w8 slot) ∷ Digits (digits_of w8 target) ∷ []
 row_fields (Read event) = Word (codes "ev") ∷ block_fields event
-
-unfoldable pub ring_fields : Ring → List Field
-ring_fields ring =
-    Word (codes "ring") ∷ Digits (digits_of w8 ring.id) ∷ Word (ring_name ring.shape.kind) ∷ map segment_field ring.shape.segments
-
--- a ring that comes is spelled as one of the header
-unfoldable pub trace_row_fields : TraceRow → List Field
-trace_row_fields (Plain row) = row_fields row
-trace_row_fields (Comes ring) = ring_fields ring
-trace_row_fields (Goes ring) = Word (codes "free") ∷ Digits (digits_of w8 ring) ∷ []
-trace_row_fields (Withdraws ring position) = Word (codes "nop") ∷ Digits (digits_of w8 ring) ∷ Digits (digits_of w64 position) ∷ []
+row_fields (RingRow ring) = ring_fields ring
+row_fields (FreeRow ring) = Word (codes "free") ∷ Digits (digits_of w8 ring) ∷ []
+row_fields (NopRow ring position) = Word (codes "nop") ∷ Digits (digits_of w8 ring) ∷ Digits (digits_of w64 position) ∷ []
 
 abbrev pub size_word : ContextSize → List ℕ
 size_word Bytes32 = codes "20"
@@ -77,7 +72,7 @@ size_fields size = Word (codes "ctx") ∷ Word (size_word size) ∷ []
 -- the lines of a trace by their fields
 unfoldable pub trace_lines : TraceText → List (List Field)
 trace_lines trace =
-    version_fields trace.header.version ∷ size_fields trace.header.context_size ∷ (map ring_fields trace.header.rings ++ map trace_row_fields trace.rows)
+    version_fields trace.header.version ∷ size_fields trace.header.context_size ∷ (map ring_fields trace.header.rings ++ map row_fields trace.rows)
 
 -- a line as it is printed: one space between the fields, and a line feed at the end
 unfoldable pub printed_line : List Field → List ℕ

@@ -2,8 +2,7 @@
 use Rattle.std.specs.Prelude.{ℕ, Bool, true, false, List, [], ◌∷◌, ◌++◌, Option, codes}
 use Rattle.traces.specs.Versions.{has_ring_rows}
 use Rattle.traces.specs.declared.ring.Ring.{Ring}
-use Rattle.traces.specs.declared.row.Row.TheVariants.{Sub, Write, Reg, Bell, Read}
-use Rattle.traces.specs.declared.trace_row.TraceRow.TheVariants.{Plain, Comes, Goes, Withdraws}
+use Rattle.traces.specs.declared.row.Row.TheVariants.{Sub, Write, Reg, Bell, Read, Ring as RingRow, Free as FreeRow, Nop as NopRow}
 use Rattle.traces.specs.declared.version.Version.{Version}
 use Rattle.trace_reader.specs.Grammar.{Byte, Number, Long, WordAddress, KindOfRing, TransferKind, Nothing, Event, RegisterValue, Blocks, Segments, Values, Line, FormOf, form_in, value_in}
 use Rattle.trace_reader.specs.Values.{Said, SaysRow, SaysRing}
@@ -11,19 +10,19 @@ use Rattle.trace_reader.specs.Values.{Said, SaysRow, SaysRing}
 -- ---- what the driver does
 
 abbrev pub sub_line : Line Said
-sub_line = record { word = codes "sub"; kinds = Byte ∷ []; tail = Blocks; make = λ v. SaysRow (Plain (Sub v.0 v.1)) }
+sub_line = record { word = codes "sub"; kinds = Byte ∷ []; tail = Blocks; make = λ v. SaysRow (Sub v.0 v.1) }
 
 abbrev pub write_line : Line Said
-write_line = record { word = codes "w"; kinds = WordAddress ∷ Number ∷ []; tail = Nothing; make = λ v. SaysRow (Plain (Write v.0 v.1.0)) }
+write_line = record { word = codes "w"; kinds = WordAddress ∷ Number ∷ []; tail = Nothing; make = λ v. SaysRow (Write v.0 v.1.0) }
 
 abbrev pub reg_line : Line Said
-reg_line = record { word = codes "reg"; kinds = []; tail = RegisterValue; make = λ v. SaysRow (Plain (Reg v.0 v.1)) }
+reg_line = record { word = codes "reg"; kinds = []; tail = RegisterValue; make = λ v. SaysRow (Reg v.0 v.1) }
 
 abbrev pub bell_line : Line Said
-bell_line = record { word = codes "db"; kinds = Byte ∷ Byte ∷ []; tail = Nothing; make = λ v. SaysRow (Plain (Bell v.0 v.1.0)) }
+bell_line = record { word = codes "db"; kinds = Byte ∷ Byte ∷ []; tail = Nothing; make = λ v. SaysRow (Bell v.0 v.1.0) }
 
 abbrev pub event_line : Line Said
-event_line = record { word = codes "ev"; kinds = []; tail = Event; make = λ v. SaysRow (Plain (Read v)) }
+event_line = record { word = codes "ev"; kinds = []; tail = Event; make = λ v. SaysRow (Read v) }
 
 abbrev pub driver_lines : List (Line Said)
 driver_lines = sub_line ∷ write_line ∷ reg_line ∷ bell_line ∷ event_line ∷ []
@@ -39,13 +38,13 @@ ring_line = record { word = codes "ring"; kinds = Byte ∷ KindOfRing ∷ []; ta
 
 -- a transfer ring that comes behind the first row
 abbrev pub comes_line : Line Said
-comes_line = record { word = codes "ring"; kinds = Byte ∷ TransferKind ∷ []; tail = Segments; make = λ v. SaysRow (Comes (ring_as v)) }
+comes_line = record { word = codes "ring"; kinds = Byte ∷ TransferKind ∷ []; tail = Segments; make = λ v. SaysRow (RingRow (ring_as v)) }
 
 abbrev pub goes_line : Line Said
-goes_line = record { word = codes "free"; kinds = Byte ∷ []; tail = Nothing; make = λ v. SaysRow (Goes v.0) }
+goes_line = record { word = codes "free"; kinds = Byte ∷ []; tail = Nothing; make = λ v. SaysRow (FreeRow v.0) }
 
 abbrev pub withdraws_line : Line Said
-withdraws_line = record { word = codes "nop"; kinds = Byte ∷ Long ∷ []; tail = Nothing; make = λ v. SaysRow (Withdraws v.0 v.1.0) }
+withdraws_line = record { word = codes "nop"; kinds = Byte ∷ Long ∷ []; tail = Nothing; make = λ v. SaysRow (NopRow v.0 v.1.0) }
 
 -- the lines of rings, where the version has rows of rings, or not, and where rows have begun, or not
 abbrev pub ring_lines : Bool → Bool → List (Line Said)

@@ -8,11 +8,11 @@ use Rattle.segments.specs.declared.segment.Segment.{Segment}
 use Rattle.traces.specs.Register.{is_wide}
 use Rattle.traces.specs.declared.register.Register.{Register}
 use Rattle.traces.specs.declared.ring.Ring.{Ring}
-use Rattle.traces.specs.declared.trace_row.TraceRow.{TraceRow}
+use Rattle.traces.specs.declared.row.Row.{Row}
 
 -- what a line behind the header says
 pub data Said : Type 0 where
-  SaysRow : (row : TraceRow) → Said
+  SaysRow : (row : Row) → Said
   SaysRing : (ring : Ring) → Said
 
 -- both, where both are there

@@ -13,6 +13,7 @@ ghost use Rattle.trace_reader.specs.Values.{SaysRow, block_of, blocks_of, cons, 
 ghost use Rattle.trace_reader.specs.Values as values;
 
 use crate::fault::{LineError, LineFault};
+use crate::plain_row::PlainRow;
 use guest_memory::Addr;
 use line_text::{Fields, two_words_of, u8_of, u16_of, u32_of, u64_of};
 use std::alloc::Global;
@@ -29,10 +30,8 @@ pub enum Entry {
 /// What the line of a row says; where a ring comes, its segments may make none.
 #[derive(Drop)]
 pub enum RowEntry {
-    Plain(Row),
+    Plain(PlainRow),
     Comes(RingEntry),
-    Goes(u8),
-    Withdraws { ring: u8, position: u64 },
 }
 
 /// What the line of a ring says; its segments may make no ring.
@@ -123,7 +122,10 @@ fn sub_entry(alloc: Global, count: usize, mut fields: Fields) -> Result<Entry, L
     let ring = u8_of(ring).ok_or(LineFault::Number)?;
     let blocks = blocks_of(alloc, fields)?;
     let blocks = Blocks::new(blocks);
-    Ok(Entry::Row(RowEntry::Plain(Row::Sub { ring, blocks })))
+    let row = PlainRow {
+        row: Row::Sub { ring, blocks },
+    };
+    Ok(Entry::Row(RowEntry::Plain(row)))
 }
 
 #[tactic(auto, unfolding(crate::specs::TraceLines::said_of))]
@@ -135,7 +137,10 @@ fn write_entry(mut fields: Fields) -> Result<Entry, LineError>
     };
     let at = word_address_of(address).ok_or(LineFault::Number)?;
     let word = u32_of(word).ok_or(LineFault::Number)?;
-    Ok(Entry::Row(RowEntry::Plain(Row::Write { at, word })))
+    let row = PlainRow {
+        row: Row::Write { at, word },
+    };
+    Ok(Entry::Row(RowEntry::Plain(row)))
 }
 
 #[tactic(auto, unfolding(crate::specs::TraceLines::said_of))]
@@ -147,7 +152,10 @@ fn reg_entry(mut fields: Fields) -> Result<Entry, LineError>
     };
     let register = register_named(name).ok_or(LineFault::Row)?;
     let value = register_value_of(register, value).ok_or(LineFault::Number)?;
-    Ok(Entry::Row(RowEntry::Plain(Row::Reg { register, value })))
+    let row = PlainRow {
+        row: Row::Reg { register, value },
+    };
+    Ok(Entry::Row(RowEntry::Plain(row)))
 }
 
 #[tactic(auto, unfolding(crate::specs::TraceLines::said_of))]
@@ -159,14 +167,20 @@ fn bell_entry(mut fields: Fields) -> Result<Entry, LineError>
     };
     let slot = u8_of(slot).ok_or(LineFault::Number)?;
     let target = u8_of(target).ok_or(LineFault::Number)?;
-    Ok(Entry::Row(RowEntry::Plain(Row::Bell { slot, target })))
+    let row = PlainRow {
+        row: Row::Bell { slot, target },
+    };
+    Ok(Entry::Row(RowEntry::Plain(row)))
 }
 
 fn read_entry(fields: Fields) -> Result<Entry, LineError>
     ensures { Answers result (said_by (form_as event_line fields.entry)) }
 {
     let event = event_behind(fields)?;
-    Ok(Entry::Row(RowEntry::Plain(Row::Read { event })))
+    let row = PlainRow {
+        row: Row::Read { event },
+    };
+    Ok(Entry::Row(RowEntry::Plain(row)))
 }
 
 /// The block of exactly four words.
@@ -240,7 +254,10 @@ fn goes_entry(version: Version, mut fields: Fields) -> Result<Entry, LineError>
         return Err(LineFault::Row.into());
     };
     let id = u8_of(id).ok_or(LineFault::Number)?;
-    Ok(Entry::Row(RowEntry::Goes(id)))
+    let row = PlainRow {
+        row: Row::Free { ring: id },
+    };
+    Ok(Entry::Row(RowEntry::Plain(row)))
 }
 
 #[tactic(auto, unfolding(crate::specs::TraceLines::said_of))]
@@ -255,7 +272,10 @@ fn withdraws_entry(version: Version, mut fields: Fields) -> Result<Entry, LineEr
     };
     let ring = u8_of(id).ok_or(LineFault::Number)?;
     let position = u64_of(position).ok_or(LineFault::Number)?;
-    Ok(Entry::Row(RowEntry::Withdraws { ring, position }))
+    let row = PlainRow {
+        row: Row::Nop { ring, position },
+    };
+    Ok(Entry::Row(RowEntry::Plain(row)))
 }
 
 /// The ring of the fields behind the word `ring`.

@@ -8,13 +8,13 @@ ghost use Rattle.trace_reader.specs.Entries.{IfFault, SaysPlaced, ring_of, row_o
 ghost use Rattle.trace_reader.specs.Reading.{State};
 ghost use Rattle.trace_reader.specs.Values.{SaysRow};
 ghost use Rattle.traces.specs.TraceRows.{ids_with, is_used};
-ghost use Rattle.traces.specs.declared.trace_row.TraceRow.TheVariants.{Comes};
+ghost use Rattle.traces.specs.declared.row.Row.TheVariants.{Ring as RingRow};
 
 use crate::entry::{RingEntry, RowEntry};
 use crate::fault::{LineError, LineFault};
 use segments::RingShape;
 use std::alloc::{AllocError, Global};
-use traces::{BoxedRing, Ring, TraceRow};
+use traces::{BoxedRing, Ring, Row};
 
 /// The row that a line says, among the rings of the header and the IDs of those that came before.
 #[inline(always)]
@@ -23,32 +23,26 @@ pub fn placed_row(
     rings: &[Ring],
     later: &[u8],
     row: RowEntry,
-) -> Result<TraceRow, LineError>
+) -> Result<Row, LineError>
     ensures { (st : State) → st.rings ≡ rings.now → st.later ≡ later.now → SaysPlaced st result (SaysRow (row_of row)) }
 {
     match row {
-        RowEntry::Plain(row) => Ok(TraceRow::Plain(row)),
+        RowEntry::Plain(plain) => Ok(plain.row),
         RowEntry::Comes(ring) => coming(alloc, rings, later, ring),
-        RowEntry::Goes(ring) => Ok(TraceRow::Goes(ring)),
-        RowEntry::Withdraws { ring, position } => Ok(TraceRow::Withdraws { ring, position }),
     }
 }
 
 /// The row by which a ring comes, where its segments make one and its ID wasn't used: by the rings of the header and the IDs of those
 /// that came before.
-fn coming(
-    alloc: Global,
-    rings: &[Ring],
-    later: &[u8],
-    entry: RingEntry,
-) -> Result<TraceRow, LineError>
-    ensures { (st : State) → st.rings ≡ rings.now → st.later ≡ later.now → SaysPlaced st result (SaysRow (Comes (ring_of entry))) }
+fn coming(alloc: Global, rings: &[Ring], later: &[u8], entry: RingEntry) -> Result<Row, LineError>
+    ensures { (st : State) → st.rings ≡ rings.now → st.later ≡ later.now → SaysPlaced st result (SaysRow (RingRow (ring_of entry))) }
 {
     if is_used(rings, later, entry.id) {
         return Err(LineFault::Shape.into());
     }
     let ring = shaped(alloc, entry)?;
-    Ok(TraceRow::Comes(BoxedRing::new(alloc, ring)?))
+    let ring = BoxedRing::new(alloc, ring)?;
+    Ok(Row::Ring { ring })
 }
 
 /// A ring of the header has this ID, or one that came had it; it may have gone.
@@ -71,10 +65,10 @@ fn is_among(ids: &[u8], id: u8) -> bool
 }
 
 /// The IDs of the rings that came, with the row's. Want of memory changes nothing.
-pub fn note_id(later: &mut Vec<u8>, row: &TraceRow) -> Result<(), AllocError>
+pub fn note_id(later: &mut Vec<u8>, row: &Row) -> Result<(), AllocError>
     ensures { OnOk result (later.new.items ≡ ids_with later.old.items row.now) }
 {
-    if let TraceRow::Comes(ring) = row {
+    if let Row::Ring { ring } = row {
         later.push(ring.as_ring().id)?;
     }
     Ok(())

@@ -6,6 +6,7 @@ mod entry;
 mod fault;
 mod later;
 mod line;
+mod plain_row;
 mod plan_line;
 mod plans;
 mod print;
@@ -30,5 +31,5 @@ pub use schedules::{print_schedule, read_schedule};
 pub use so_far::TraceSoFar;
 pub use traces::{
     Header, Plan, PlanLine, PlanLines, Register, Ring, Rings, Row, Rows, Schedule, Step, Steps,
-    Trace, TraceRow,
+    Trace,
 };

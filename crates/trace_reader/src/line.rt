@@ -2,7 +2,6 @@ ghost use Rattle.std.specs.Prelude.{◌≡◌, ◌≤◌, ◌+◌, Some, None, t
 ghost use Rattle.trace_reader.specs.Entries.{Answers, AnswersRow, content_fault, said_alone, said_by_line, value_of};
 ghost use Rattle.trace_reader.specs.Values.{SaysRow};
 ghost use Rattle.traces.specs.Limits.{most_lines_of};
-ghost use Rattle.traces.specs.declared.trace_row.TraceRow.TheVariants.{Plain};
 ghost use Rattle.trace_reader.specs.Reading.{State, is_too_much, size_of, version_of};
 
 use crate::entry::{Entry, RowEntry, entry_of};
@@ -12,7 +11,7 @@ use crate::quick::quick_row;
 use contexts::ContextSize;
 use line_text::{Fields, Line, Survey};
 use std::alloc::Global;
-use traces::{Header, Row, TraceRow, Version};
+use traces::{Header, Row, Version};
 
 /// Lines of a plan, and of a trace all rows of which are kept in memory.
 pub const MOST_LINES: u32 = 1048576;
@@ -105,7 +104,7 @@ pub fn row_in(
     later: &[u8],
     lines: u32,
     line: &Line,
-) -> Result<TraceRow, LineError>
+) -> Result<Row, LineError>
     requires { 2 ≤ lines }
     ensures answer { (st : State) → st.keeps ≡ keeps → st.version ≡ header.now.version → st.rings ≡ header.now.rings → st.later ≡ later.now → st.lines ≡ lines → st.begun ≡ true → AnswersRow st result line.now }
     ensures within { OnOk result (lines + 1 ≤ most_lines_of keeps header.now.version) }
@@ -163,13 +162,13 @@ fn is_too_much(entry: &Entry) -> bool
     ensures { result ≡ is_too_much (value_of entry.now) }
 {
     match entry {
-        Entry::Row(RowEntry::Plain(row)) => declares_too_much(row),
+        Entry::Row(RowEntry::Plain(plain)) => declares_too_much(&plain.row),
         _ => false,
     }
 }
 
 fn declares_too_much(row: &Row) -> bool
-    ensures { result ≡ is_too_much (SaysRow (Plain row.now)) }
+    ensures { result ≡ is_too_much (SaysRow row.now) }
 {
     match row {
         Row::Sub { blocks, .. } => blocks.as_slice().len() > MOST_BLOCKS,

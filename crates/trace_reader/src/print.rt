@@ -4,7 +4,7 @@ ghost use Rattle.traces.specs.declared.row.Row.TheVariants.{Sub, Write};
 ghost use Rattle.trace_reader.specs.Entries.{text_of};
 ghost use Rattle.trace_reader.specs.Reading.{trace_of};
 ghost use Rattle.traces.specs.Limits.{most_lines_of};
-ghost use Rattle.trace_reader.specs.Spelling.{block_fields, printed, printed_line, printed_trace, ring_fields, row_fields, segment_field, size_fields, trace_row_fields, version_fields};
+ghost use Rattle.trace_reader.specs.Spelling.{block_fields, printed, printed_line, printed_trace, ring_fields, row_fields, segment_field, size_fields, version_fields};
 ghost use Rattle.trace_reader.specs.Printing.{in_a_row, spaced};
 
 use contexts::ContextSize;
@@ -12,7 +12,7 @@ use guest_memory::Addr;
 use line_text::{push_u8, push_u16, push_u32, push_u64};
 use segments::Segment;
 use std::alloc::{AllocError, Global};
-use traces::{Header, Ring, Row, Trace, TraceRow, Version};
+use traces::{Header, Ring, Row, Trace, Version};
 use trb::Block;
 
 /// The text of a trace, with its numbers in lower case.
@@ -38,11 +38,11 @@ pub fn with_ring(text: Vec<u8>, ring: &Ring) -> Result<Vec<u8>, AllocError>
 }
 
 /// A text with the line of a row behind it.
-pub fn with_row(text: Vec<u8>, row: &TraceRow) -> Result<Vec<u8>, AllocError>
-    ensures { IfOk result (λ longer. longer.items ≡ text.items ++ printed_line (trace_row_fields row.now)) }
+pub fn with_row(text: Vec<u8>, row: &Row) -> Result<Vec<u8>, AllocError>
+    ensures { IfOk result (λ longer. longer.items ≡ text.items ++ printed_line (row_fields row.now)) }
 {
     let mut longer = text;
-    push_trace_row(&mut longer, row)?;
+    push_row(&mut longer, row)?;
     Ok(longer)
 }
 
@@ -103,11 +103,11 @@ fn push_rings(out: &mut Vec<u8>, rings: &[Ring]) -> Result<(), AllocError>
     Ok(())
 }
 
-fn push_rows(out: &mut Vec<u8>, rows: &[TraceRow]) -> Result<(), AllocError>
-    ensures { OnOk result (out.new.items ≡ out.old.items ++ flat_map printed_line (map trace_row_fields rows.now)) }
+fn push_rows(out: &mut Vec<u8>, rows: &[Row]) -> Result<(), AllocError>
+    ensures { OnOk result (out.new.items ≡ out.old.items ++ flat_map printed_line (map row_fields rows.now)) }
 {
     for row in rows {
-        push_trace_row(out, row)?;
+        push_row(out, row)?;
     }
     Ok(())
 }
@@ -134,50 +134,11 @@ fn push_ring_fields(out: &mut Vec<u8>, ring: &Ring) -> Result<(), AllocError>
     push_segments(out, ring.shape.segments())
 }
 
-/// Appends the line of a row, also of one of a ring.
-fn push_trace_row(out: &mut Vec<u8>, row: &TraceRow) -> Result<(), AllocError>
-    ensures { OnOk result (out.new.items ≡ out.old.items ++ printed_line (trace_row_fields row.now)) }
+/// Appends the line of a row.
+fn push_row(out: &mut Vec<u8>, row: &Row) -> Result<(), AllocError>
+    ensures { OnOk result (out.new.items ≡ out.old.items ++ printed_line (row_fields row.now)) }
 {
-    push_trace_row_fields(out, row)?;
-    out.extend_from_slice(b"\n")?;
-    Ok(())
-}
-
-/// Appends the fields of a row, also of one of a ring, with a space between each two.
-#[tactic(auto, unfolding(crate::specs::Spelling::trace_row_fields))]
-fn push_trace_row_fields(out: &mut Vec<u8>, row: &TraceRow) -> Result<(), AllocError>
-    ensures { OnOk result (out.new.items ≡ out.old.items ++ in_a_row (trace_row_fields row.now)) }
-{
-    match row {
-        TraceRow::Plain(row) => push_row_fields(out, row),
-        TraceRow::Comes(ring) => push_ring_fields(out, ring.as_ring()),
-        TraceRow::Goes(ring) => {
-            out.extend_from_slice(b"free ")?;
-            push_u8(out, *ring)
-        }
-        TraceRow::Withdraws { ring, position } => {
-            out.extend_from_slice(b"nop ")?;
-            push_u8(out, *ring)?;
-            out.extend_from_slice(b" ")?;
-            push_u64(out, *position)
-        }
-    }
-}
-
-/// Appends the line of a declaration.
-fn push_sub(out: &mut Vec<u8>, ring: u8, blocks: &[Block]) -> Result<(), AllocError>
-    ensures { OnOk result (out.new.items ≡ out.old.items ++ printed_line (row_fields (Sub ring blocks.now))) }
-{
-    push_sub_fields(out, ring, blocks)?;
-    out.extend_from_slice(b"\n")?;
-    Ok(())
-}
-
-/// Appends the line of a write.
-fn push_write(out: &mut Vec<u8>, at: Addr, word: u32) -> Result<(), AllocError>
-    ensures { OnOk result (out.new.items ≡ out.old.items ++ printed_line (row_fields (Write at word))) }
-{
-    push_write_fields(out, at, word)?;
+    push_row_fields(out, row)?;
     out.extend_from_slice(b"\n")?;
     Ok(())
 }
@@ -206,7 +167,36 @@ fn push_row_fields(out: &mut Vec<u8>, row: &Row) -> Result<(), AllocError>
             out.extend_from_slice(b"ev")?;
             push_block(out, event)
         }
+        Row::Ring { ring } => push_ring_fields(out, ring.as_ring()),
+        Row::Free { ring } => {
+            out.extend_from_slice(b"free ")?;
+            push_u8(out, *ring)
+        }
+        Row::Nop { ring, position } => {
+            out.extend_from_slice(b"nop ")?;
+            push_u8(out, *ring)?;
+            out.extend_from_slice(b" ")?;
+            push_u64(out, *position)
+        }
     }
+}
+
+/// Appends the line of a declaration.
+fn push_sub(out: &mut Vec<u8>, ring: u8, blocks: &[Block]) -> Result<(), AllocError>
+    ensures { OnOk result (out.new.items ≡ out.old.items ++ printed_line (row_fields (Sub ring blocks.now))) }
+{
+    push_sub_fields(out, ring, blocks)?;
+    out.extend_from_slice(b"\n")?;
+    Ok(())
+}
+
+/// Appends the line of a write.
+fn push_write(out: &mut Vec<u8>, at: Addr, word: u32) -> Result<(), AllocError>
+    ensures { OnOk result (out.new.items ≡ out.old.items ++ printed_line (row_fields (Write at word))) }
+{
+    push_write_fields(out, at, word)?;
+    out.extend_from_slice(b"\n")?;
+    Ok(())
 }
 
 /// Appends the fields of a declaration, with a space between each two.

@@ -4,18 +4,18 @@ ghost use Rattle.trace_reader.specs.RowsAhead.{BeginsWithRow};
 ghost use Rattle.trace_reader.specs.Values.{SaysRow};
 ghost use Rattle.traces.specs.declared.register.Register.TheVariants.{Erdp};
 ghost use Rattle.traces.specs.declared.row.Row.{Row};
-ghost use Rattle.traces.specs.declared.trace_row.TraceRow.TheVariants.{Plain};
 ghost use Rattle.traces.specs.declared.version.Version.{Version};
 
 use crate::entry::{block_of, word_address_of};
+use crate::plain_row::PlainRow;
 use guest_memory::Addr;
 use line_text::{Line, u8_of, u32_of, u64_of};
 use traces::{Register, Row};
 use trb::{Block, Blocks};
 
 /// The row of a line of a frequent form, by the places of its fields. Where it answers none, the line may still say one.
-pub fn quick_row(line: &Line) -> Option<Row>
-    ensures { IfSome result (λ row. (version : Version) (begun : Bool) → said_alone version begun line.now ≡ Ok (SaysRow (Plain row))) }
+pub fn quick_row(line: &Line) -> Option<PlainRow>
+    ensures { IfSome result (λ plain. (version : Version) (begun : Bool) → said_alone version begun line.now ≡ Ok (SaysRow plain.row)) }
 {
     if !line.is_ended() {
         return None;
@@ -84,12 +84,13 @@ fn content_ahead(text: &[u8], count: usize) -> Option<&[u8]>
 }
 
 /// `w`, an address and a word.
-fn write_of(content: &[u8]) -> Option<Row>
+fn write_of(content: &[u8]) -> Option<PlainRow>
     requires { length content.now ≡ 27 }
-    ensures { IfSome result (λ row. SaysAlone row content.now) }
+    ensures { IfSome result (λ plain. SaysAlone plain.row content.now) }
 {
     let (at, word) = quick_write(content)?;
-    Some(Row::Write { at, word })
+    let row = Row::Write { at, word };
+    Some(PlainRow { row })
 }
 
 /// The address and the word of a `w` line.
@@ -107,12 +108,13 @@ fn quick_write(content: &[u8]) -> Option<(Addr, u32)>
 }
 
 /// `ev` and the four words of a block.
-fn event_of(content: &[u8]) -> Option<Row>
+fn event_of(content: &[u8]) -> Option<PlainRow>
     requires { length content.now ≡ 38 }
-    ensures { IfSome result (λ row. SaysAlone row content.now) }
+    ensures { IfSome result (λ plain. SaysAlone plain.row content.now) }
 {
     let event = quick_event(content)?;
-    Some(Row::Read { event })
+    let row = Row::Read { event };
+    Some(PlainRow { row })
 }
 
 /// What such a line says.
@@ -136,12 +138,13 @@ fn quick_event(content: &[u8]) -> Option<Block>
 }
 
 /// `db`, a slot and a target.
-fn bell_of(content: &[u8]) -> Option<Row>
+fn bell_of(content: &[u8]) -> Option<PlainRow>
     requires { length content.now ≡ 8 }
-    ensures { IfSome result (λ row. SaysAlone row content.now) }
+    ensures { IfSome result (λ plain. SaysAlone plain.row content.now) }
 {
     let (slot, target) = quick_bell(content)?;
-    Some(Row::Bell { slot, target })
+    let row = Row::Bell { slot, target };
+    Some(PlainRow { row })
 }
 
 /// What such a line says.
@@ -159,15 +162,14 @@ fn quick_bell(content: &[u8]) -> Option<(u8, u8)>
 }
 
 /// `reg erdp` and a value.
-fn erdp_of(content: &[u8]) -> Option<Row>
+fn erdp_of(content: &[u8]) -> Option<PlainRow>
     requires { length content.now ≡ 25 }
-    ensures { IfSome result (λ row. SaysAlone row content.now) }
+    ensures { IfSome result (λ plain. SaysAlone plain.row content.now) }
 {
     let value = quick_erdp(content)?;
-    Some(Row::Reg {
-        register: Register::Erdp,
-        value,
-    })
+    let register = Register::Erdp;
+    let row = Row::Reg { register, value };
+    Some(PlainRow { row })
 }
 
 /// What such a line says.
@@ -180,13 +182,14 @@ fn quick_erdp(content: &[u8]) -> Option<u64>
 }
 
 /// `sub`, a ring and the four words of one block.
-fn declaration_of(content: &[u8]) -> Option<Row>
+fn declaration_of(content: &[u8]) -> Option<PlainRow>
     requires { length content.now ≡ 42 }
-    ensures { IfSome result (λ row. SaysAlone row content.now) }
+    ensures { IfSome result (λ plain. SaysAlone plain.row content.now) }
 {
     let (ring, block) = quick_declaration(content)?;
     let blocks = Blocks::one(block);
-    Some(Row::Sub { ring, blocks })
+    let row = Row::Sub { ring, blocks };
+    Some(PlainRow { row })
 }
 
 /// The ring and the block of a `sub` line.

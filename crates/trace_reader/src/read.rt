@@ -1,11 +1,11 @@
-ghost use Rattle.std.specs.Prelude.{ℕ, List, ◌≡◌, ◌≤◌, ◌+◌, Bool, Ok, Err, IsTrue, OnOk, IfOk, IfErr, true, false, None};
+ghost use Rattle.std.specs.Prelude.{ℕ, List, ◌≡◌, ◌≤◌, ◌+◌, Bool, Ok, Err, length, IsTrue, OnOk, IfOk, IfErr, true, false, None};
 ghost use Rattle.std.specs.Str.{str_to_ascii_lowercase};
 ghost use Rattle.trace_reader.specs.Entries.{IfBadLine, IfFault, at_line, placed, ring_of, row_of, state_of, text_of, took_in};
 ghost use Rattle.trace_reader.specs.Reading.{TraceText, read_line, start, trace_of, whole};
 ghost use Rattle.trace_reader.specs.Spelling.{printed_trace, spells};
 ghost use Rattle.trace_reader.specs.Valid.{IsTrace};
 ghost use Rattle.traces.specs.Header.{IsHeader};
-ghost use Rattle.traces.specs.Limits.{most_lines_of};
+ghost use Rattle.traces.specs.Limits.{most_lines, most_lines_of};
 ghost use Rattle.trace_reader.specs.Values.{SaysRing, SaysRow};
 
 use crate::clashes::clashes_with_one;
@@ -18,7 +18,7 @@ use crate::so_far::TraceSoFar;
 use contexts::ContextSize;
 use line_text::{Line, first_line};
 use std::alloc::Global;
-use traces::{Header, Rings, Rows, Trace, TraceRow, Version};
+use traces::{Header, Rings, Row, Rows, Trace, Version};
 
 /// Reads the text of a trace: `xtrace 1`, `2` or `3`, `ctx 20` or `ctx 40`, the lines of the rings, then the rows. Every byte
 /// sequence is answered, by its trace or by the first bad line and the least of its faults. It has at most 2^20 lines. `Memory` is answered
@@ -36,6 +36,9 @@ pub fn read_trace(alloc: Global, text: &[u8]) -> Result<Trace, ReadFault>
 
     // A refused text spells no trace.
     ensures unspelled { IfErr result (λ e. IfBadLine e (λ line code. (trace : TraceText) → IsTrace true trace → spells trace text.now ≡ false)) }
+
+    // It has few lines.
+    ensures few { IfOk result (λ trace. trace.first + length trace.rows ≤ most_lines + 1) }
 {
     read_kept(alloc, true, text)
 }
@@ -86,7 +89,7 @@ pub fn at_line(line: u32, error: LineError) -> ReadFault
 }
 
 /// Adds the next line of the text, and the row that it says, if it says one.
-fn add_line(so_far: &mut TraceSoFar, rows: &mut Vec<TraceRow>, line: &Line) -> Result<(), LineError>
+fn add_line(so_far: &mut TraceSoFar, rows: &mut Vec<Row>, line: &Line) -> Result<(), LineError>
     ensures ok { OnOk result (took_in rows.old.items (read_line (state_of so_far.old) line.now) ≡ Ok (state_of so_far.new, rows.new.items)) }
     ensures err { IfErr result (λ e. IfFault e (λ f. read_line (state_of so_far.old) line.now ≡ Err f)) }
     ensures more { OnOk result (so_far.new.lines ≡ so_far.old.lines + 1) }
@@ -99,7 +102,7 @@ fn add_line(so_far: &mut TraceSoFar, rows: &mut Vec<TraceRow>, line: &Line) -> R
 }
 
 /// The trace, where its header is whole.
-fn finish(so_far: TraceSoFar, rows: Vec<TraceRow>) -> Result<Trace, ReadFault>
+fn finish(so_far: TraceSoFar, rows: Vec<Row>) -> Result<Trace, ReadFault>
     requires { (keeps : Bool) × (text : List ℕ) × (trace_of keeps text ≡ whole (Ok (state_of so_far, rows.items))) }
     ensures read { IfOk result (λ trace. whole (Ok (state_of so_far, rows.items)) ≡ Ok (text_of trace)) }
     ensures refused { IfErr result (λ e. IfBadLine e (λ line code. whole (Ok (state_of so_far, rows.items)) ≡ Err (line, code))) }
@@ -138,7 +141,7 @@ impl TraceSoFar {
     }
 
     /// Adds the next line of the text; the row that it says, if it says one.
-    pub fn add(&mut self, line: &Line) -> Result<Option<TraceRow>, LineError>
+    pub fn add(&mut self, line: &Line) -> Result<Option<Row>, LineError>
         ensures ok { IfOk result (λ row. read_line (state_of self.old) line.now ≡ Ok (state_of self.new, row)) }
         ensures err { IfErr result (λ e. IfFault e (λ f. read_line (state_of self.old) line.now ≡ Err f)) }
         ensures more { OnOk result (self.new.lines ≡ self.old.lines + 1) }
@@ -187,7 +190,7 @@ impl TraceSoFar {
     }
 
     /// Adds a line behind the header.
-    fn add_entry(&mut self, line: &Line) -> Result<Option<TraceRow>, LineError>
+    fn add_entry(&mut self, line: &Line) -> Result<Option<Row>, LineError>
         requires { 2 ≤ self.old.lines }
         ensures ok { IfOk result (λ row. read_line (state_of self.old) line.now ≡ Ok (state_of self.new, row)) }
         ensures err { IfErr result (λ e. IfFault e (λ f. read_line (state_of self.old) line.now ≡ Err f)) }
@@ -209,7 +212,7 @@ impl TraceSoFar {
         }
     }
 
-    fn add_row(&mut self, row: RowEntry) -> Result<Option<TraceRow>, LineError>
+    fn add_row(&mut self, row: RowEntry) -> Result<Option<Row>, LineError>
         requires { self.old.lines + 1 ≤ most_lines_of self.old.keeps self.old.version }
         ensures ok { IfOk result (λ said. placed (state_of self.old) (Ok (SaysRow (row_of row))) ≡ Ok (state_of self.new, said)) }
         ensures err { IfErr result (λ e. IfFault e (λ f. placed (state_of self.old) (Ok (SaysRow (row_of row))) ≡ Err f)) }

@@ -4,5 +4,6 @@ pub mod Register
 pub mod Header
 pub mod Rows
 pub mod TraceRows
+pub mod LivingRings
 pub mod PlanLines
 pub mod OnLiterals

@@ -1,11 +1,14 @@
 -- Rows and steps whose numbers fit the fields of their types
-use Rattle.std.specs.Prelude.{◌≡◌, ◌≢◌, ℕ, ◌%◌, ◌<◌, ◌≤◌, ◌^◌, true, All, List, length}
+use Rattle.std.specs.Prelude.{◌≡◌, ◌≢◌, ℕ, ◌%◌, ◌<◌, ◌≤◌, ◌^◌, Bool, true, false, All, List, length}
 use Rattle.std.proofs.Props.{props}
 use Rattle.trb.specs.Block.{IsBlock}
+use Rattle.trb.specs.declared.ring_kind.RingKind.TheVariants.{Xfer}
+use Rattle.segments.specs.Shape.{IsShape}
 use Rattle.traces.specs.Limits.{most_declared}
 use Rattle.traces.specs.Register.{is_wide}
+use Rattle.traces.specs.declared.ring.Ring.{Ring}
 use Rattle.traces.specs.declared.row.Row.{Row}
-use Rattle.traces.specs.declared.row.Row.TheVariants.{Sub, Write, Reg, Bell, Read}
+use Rattle.traces.specs.declared.row.Row.TheVariants.{Sub, Write, Reg, Bell, Read, Ring as RingRow, Free as FreeRow, Nop as NopRow}
 use Rattle.traces.specs.declared.step.Step.{Step}
 use Rattle.traces.specs.declared.step.Step.TheVariants.{NextRow, Look, Report, Finish, Other, Scribble}
 
@@ -13,35 +16,43 @@ use Rattle.traces.specs.declared.step.Step.TheVariants.{NextRow, Look, Report, F
 abbrev pub IsWordAddress : ℕ → Type 0
 IsWordAddress a = (a % 4 ≡ 0) × (a < 2 ^ 64)
 
+-- a ring that may come, by its line alone
+pub record IsComing (r : Ring) : Type 0 where
+  pub low : r.id < 256
+  pub kind : r.shape.kind ≡ Xfer
+  pub shape : IsShape r.shape
+
 abbrev pub IsRow : Row → Type 0
 IsRow (Sub ring blocks) = (ring < 256) × All IsBlock blocks
 IsRow (Write at word) = IsWordAddress at × (word < 2 ^ 32)
 IsRow (Reg register value) = value < 2 ^ 64
 IsRow (Bell slot target) = (slot < 256) × (target < 256)
 IsRow (Read event) = IsBlock event
+IsRow (RingRow ring) = IsComing ring
+IsRow (FreeRow ring) = ring < 256
+IsRow (NopRow ring position) = (ring < 256) × (position < 2 ^ 64)
+
+-- a ring comes or goes, or a descriptor is withdrawn: no word, register or doorbell is written by the row, and no event read
+abbrev pub is_ring_row : Row → Bool
+is_ring_row (RingRow ring) = true
+is_ring_row (FreeRow ring) = true
+is_ring_row (NopRow ring position) = true
+is_ring_row row = false
 
 -- what a row's line can say: a declaration has a block at least and not too many, and a register of 32 bits a value of 32
 abbrev pub FitsLine : Row → Type 0
 FitsLine (Sub ring blocks) = (0 < length blocks) × (length blocks ≤ most_declared)
-FitsLine (Write at word) = Unit {0}
 FitsLine (Reg register value) = is_wide register ≢ true → value < 2 ^ 32
-FitsLine (Bell slot target) = Unit {0}
-FitsLine (Read event) = Unit {0}
+FitsLine row = Unit {0}
 
 -- each is one fact
 pub row_is_fact : (row : Row) → IsProp (IsRow row)
 row_is_fact (Sub ring blocks) = hlevel props
-row_is_fact (Write at word) = hlevel props
-row_is_fact (Reg register value) = hlevel props
-row_is_fact (Bell slot target) = hlevel props
-row_is_fact (Read event) = hlevel props
+row_is_fact row = hlevel props
 
 pub line_is_fact : (row : Row) → IsProp (FitsLine row)
 line_is_fact (Sub ring blocks) = hlevel props
-line_is_fact (Write at word) = hlevel props
-line_is_fact (Reg register value) = hlevel props
-line_is_fact (Bell slot target) = hlevel props
-line_is_fact (Read event) = hlevel props
+line_is_fact row = hlevel props
 
 abbrev pub IsStep : Step → Type 0
 IsStep NextRow = Unit {0}

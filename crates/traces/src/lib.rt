@@ -10,7 +10,6 @@ mod row;
 mod schedule;
 mod step;
 mod trace;
-mod trace_row;
 mod version;
 
 pub use boxed_ring::BoxedRing;
@@ -22,5 +21,4 @@ pub use row::Row;
 pub use schedule::{Schedule, Steps};
 pub use step::Step;
 pub use trace::{Rows, Trace};
-pub use trace_row::TraceRow;
 pub use version::Version;

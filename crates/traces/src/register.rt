@@ -1,6 +1,5 @@
 ghost use Rattle.std.specs.Prelude.{◌≡◌};
-ghost use Rattle.traces.specs.Register.{register_name};
-ghost use Rattle.traces.specs.Register.{is_wide};
+ghost use Rattle.traces.specs.Register.{register_name, is_wide};
 
 /// A register that a trace may write (xHCI 5.4, 5.5.2).
 #[derive(Clone, Copy, Debug, PartialEq, Eq)]

@@ -4,34 +4,34 @@ ghost use Rattle.traces.specs.Limits.{most_streamed_lines};
 ghost use Rattle.traces.specs.TraceRows.{AreRowsOf, begins_with_ring, have_new_ids, rows_of_are_fact};
 
 use crate::header::Header;
-use crate::trace_row::TraceRow;
+use crate::row::Row;
 use std::marker::Model;
 
 /// The rows of a trace, in their order. Contracts see the list.
 #[derive(Debug, Drop)]
 pub struct Rows {
-    rows: Vec<TraceRow>,
+    rows: Vec<Row>,
 }
 
 impl Model for Rows {
     ghost use Rattle.std.specs.Prelude.{List};
-    ghost use Rattle.traces.specs.declared.trace_row.TraceRow.{TraceRow};
+    ghost use Rattle.traces.specs.declared.row.Row.{Row};
 
-    ghost Value = { List TraceRow };
+    ghost Value = { List Row };
 
     ghost view = { λ r. r.rows.items };
 }
 
 impl Rows {
     /// The rows of a vector.
-    pub fn new(rows: Vec<TraceRow>) -> Rows
+    pub fn new(rows: Vec<Row>) -> Rows
         ensures { result ≡ rows.items }
     {
         Rows { rows }
     }
 
     /// The rows, in their order.
-    pub fn as_slice(&self) -> &[TraceRow]
+    pub fn as_slice(&self) -> &[Row]
         ensures { result.now ≡ self.now }
     {
         self.rows.as_slice()

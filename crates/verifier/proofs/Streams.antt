@@ -1,5 +1,5 @@
 -- What a pass over the rows of a trace says of a list of leases
-use Rattle.verifier.proofs.Words.{rules, ◌≡◌, ◌≢◌, ℕ, Bool, true, false, List, Some, refl, subst, map, reverse, Header, TraceText, Lease, Refusal, Lent, lease_of, CertificateLog, FollowsCertificate, header_now, ring_lents, Passed, Whole, Refused, IsVerified, IfRefusedRow, IfWhole, IsWholeLog, ring_verdict}
+use Rattle.verifier.proofs.Words.{rules, ◌≡◌, ◌≢◌, ℕ, Bool, true, false, List, Some, refl, subst, map, reverse, Header, TraceText, Lease, Refusal, Lent, lease_of, CertificateLog, FollowsCertificate, header_now, lents, Passed, Whole, Refused, IsVerified, IfRefusedRow, IfWhole, IsWholeLog, trace_verdict}
 
 -- what a pass has answered
 pub is_whole : {B : Type 0} (P : B → Type 0) (passed : Passed B) (log : B) → passed ≡ Whole log → IfWhole passed P → P log
@@ -17,8 +17,8 @@ module _ (trace : TraceText) (leases : List Lease) where
   verified log true listed unlisted w = search rules
   verified log false listed unlisted w = λ is.
       let past = reverse trace.rows in
-      unlisted leases (header_now trace.header past) (ring_lents trace.header trace.first past) w.kept refl is.certified
+      unlisted leases (header_now trace.header past) (lents trace.header trace.first past) w.kept refl is.certified
 
   -- where one was, no
-  pub unverified : (row : ℕ) (c : Refusal) → ring_verdict trace.header trace.first trace.rows ≡ Some (row, c) → IsVerified trace leases false
+  pub unverified : (row : ℕ) (c : Refusal) → trace_verdict trace.header trace.first trace.rows ≡ Some (row, c) → IsVerified trace leases false
   unverified row c refused = λ is. let verdict = is.verdict in cc

@@ -3,7 +3,7 @@ ghost use Rattle.std.specs.Prelude.{IfOk};
 ghost use Rattle.trace_reader.specs.Entries.{text_of};
 ghost use Rattle.ownership_checker.specs.RingPasses.Accepted.{IsVerified};
 
-use guest_memory::PageMemory;
+use guest_memory::SparseMemory;
 use leases::CertificateLog;
 use ownership_checker::{Passed, pass_kept};
 use ring_knowledge::Lease;
@@ -19,7 +19,7 @@ pub fn verify(alloc: Global, trace: &Trace, leases: &[Lease]) -> Result<bool, Al
     let header = trace.header.copy(alloc)?;
     let log = CertificateLog::new(alloc, &header, leases)?;
     let rows = trace.rows.as_slice();
-    let memory = PageMemory::new(alloc);
+    let memory = SparseMemory::new(alloc);
     match pass_kept(alloc, header, trace.first, rows, log, memory)? {
         Passed::Whole(pass) => Ok(pass.into_log().is_whole()),
         Passed::Refused { .. } => Ok(false),

@@ -17,7 +17,7 @@ address_device = record { address = 0x10010; block = record { w = 0x60000 ∷ 0 
 
 -- a word of the input context was changed at step 5, and the command's control word last written at this one
 unfoldable changed_then : ℕ → World
-changed_then written = record (opening []) { changed = put (λ a. 0) 0x60020 5; written = put (λ a. 0) 0x1001c written }
+changed_then written = record opening { changed = put (λ a. 0) 0x60020 5; written = put (λ a. 0) 0x1001c written }
 
 changed_behind_the_giving : has_changed_context header (changed_then 4) (Some address_device) ≡ true
 unfolding header address_device changed_then world_on_literals

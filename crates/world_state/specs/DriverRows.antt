@@ -74,7 +74,4 @@ module _ (h : Header) where
   row_done w (Reg r v) = Some (register_row w r v)
   row_done w (Bell s t) = Some (bell_row w s t)
   row_done w (Read e) = event_read w e
-
-  unfoldable pub next_row : World → List Row → Option World
-  next_row w [] = None
-  next_row w (row ∷ rest) = row_done (record w { rows = rest }) row
+  row_done w row = Some w

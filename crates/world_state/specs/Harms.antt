@@ -1,7 +1,6 @@
 -- What is harm, and when a world is safe
 use Rattle.std.specs.Prelude.{◌≡◌, ℕ, ◌+◌, ◌-◌, ◌*◌, ◌/◌, ◌==◌, ◌&&◌, ◌||◌, Bool, false, not, List, [], ◌∷◌, nat_lt, nat_le, Option, Some, None, option_and_then, find, option_map}
 use Rattle.std.specs.List.{list_any, range_with_len}
-use Rattle.trb.specs.declared.block.Block.{Block}
 use Rattle.trb.specs.Block.{block_at, cycle}
 use Rattle.segments.specs.ShapeValue.{Shape}
 use Rattle.segments.specs.Places.{address_of}

@@ -1,21 +1,13 @@
 -- Rows by which rings come and go, and descriptors are withdrawn: what they do to lists of rings and to the world: xHCI 4.6.9, 4.9
-use Rattle.std.specs.Prelude.{ℕ, ◌==◌, ◌||◌, ◌++◌, Bool, not, [], ◌∷◌, filter}
+use Rattle.std.specs.Prelude.{ℕ, ◌==◌, ◌||◌, Bool, not, []}
 use Rattle.std.specs.List.{list_any}
 use Rattle.guest_memory.specs.Memory.{put}
 use Rattle.segments.specs.Descriptors.{length_from, no_ops, split_at}
 use Rattle.segments.specs.Shape.{rings_overlap}
 use Rattle.traces.specs.declared.header.Header.{Header}
 use Rattle.traces.specs.declared.ring.Ring.{Ring}
-use Rattle.traces.specs.declared.trace_row.TraceRow.{TraceRow}
-use Rattle.traces.specs.declared.trace_row.TraceRow.TheVariants.{Plain, Comes, Goes, Withdraws}
+use Rattle.traces.specs.LivingRings.{with_ring, without_ring}
 use Rattle.world_state.specs.World.{World}
-
--- a header lists one ring more, or the ring with an ID no more
-unfoldable pub with_ring : Header → Ring → Header
-with_ring h r = record h { rings = h.rings ++ r ∷ [] }
-
-unfoldable pub without_ring : Header → ℕ → Header
-without_ring h id = record h { rings = filter (λ r. not (r.id == id)) h.rings }
 
 -- the ring is listed, in place of one that had its ID
 unfoldable pub listed : Header → Ring → Header
@@ -39,10 +31,3 @@ without_descriptor w r p = record w {
   queue = put w.queue r (no_ops (w.queue r) p (length_from (w.lengths r) 0 p));
   lengths = put w.lengths r (split_at (w.lengths r) 0 p);
 }
-
--- the rings that live behind a row that breaks no rule
-abbrev pub header_after : Header → TraceRow → Header
-header_after h (Plain row) = h
-header_after h (Comes ring) = with_ring h ring
-header_after h (Goes id) = without_ring h id
-header_after h (Withdraws r p) = h

@@ -5,19 +5,20 @@ use Rattle.traces.specs.declared.header.Header.{Header}
 use Rattle.traces.specs.declared.step.Step.{Step}
 use Rattle.traces.specs.declared.step.Step.TheVariants.{NextRow}
 use Rattle.traces.specs.declared.ring.Ring.{Ring}
-use Rattle.traces.specs.declared.trace_row.TraceRow.{TraceRow}
-use Rattle.traces.specs.declared.trace_row.TraceRow.TheVariants.{Plain, Comes, Goes, Withdraws}
+use Rattle.traces.specs.declared.row.Row.{Row}
+use Rattle.traces.specs.declared.row.Row.TheVariants.{Ring as RingRow, Free as FreeRow, Nop as NopRow}
 use Rattle.world_state.specs.World.{World, opening}
 use Rattle.world_state.specs.Harms.{harm_of}
 use Rattle.world_state.specs.DriverRows.{row_done}
-use Rattle.world_state.specs.RingRows.{emptied, listed, may_come, without_descriptor, without_ring}
+use Rattle.traces.specs.LivingRings.{without_ring}
+use Rattle.world_state.specs.RingRows.{emptied, listed, may_come, without_descriptor}
 use Rattle.world_state.specs.Steps.{Ending, NoHarm, NotPossible, judged, counted, made}
 
 -- the rings that were declared, those of them that live, the rows still to come, and the world
 pub record Scene : Type 0 where
   pub header : Header
   pub live : Header
-  pub rows : List TraceRow
+  pub rows : List Row
   pub world : World
 
 abbrev pub with_world : Scene → World → Scene
@@ -28,17 +29,17 @@ abbrev pub with_coming : Scene → Ring → Scene
 with_coming x r = record x { header = listed x.header r; live = listed x.live r; world = emptied x.world r.id }
 
 -- what a row does; None where it isn't possible. Where one that lives is in its way, a ring that comes has no effect
-abbrev pub row_made : Scene → TraceRow → Option Scene
-row_made x (Plain row) = option_map (with_world x) (row_done x.header x.world row)
-row_made x (Comes ring) = Some (if may_come x.live ring then with_coming x ring else x)
-row_made x (Goes id) = Some (record x { live = without_ring x.live id })
-row_made x (Withdraws r p) = Some (with_world x (without_descriptor x.world r p))
+abbrev pub row_made : Scene → Row → Option Scene
+row_made x (RingRow ring) = Some (if may_come x.live ring then with_coming x ring else x)
+row_made x (FreeRow id) = Some (record x { live = without_ring x.live id })
+row_made x (NopRow r p) = Some (with_world x (without_descriptor x.world r p))
+row_made x row = option_map (with_world x) (row_done x.header x.world row)
 
 -- a row was made, and these are left
-abbrev pub with_left : List TraceRow → Scene → Scene
+abbrev pub with_left : List Row → Scene → Scene
 with_left rest x = record x { rows = rest; world = counted x.header x.world }
 
-abbrev pub row_next : Scene → List TraceRow → Option Scene
+abbrev pub row_next : Scene → List Row → Option Scene
 row_next x [] = None
 row_next x (row ∷ rest) = option_map (with_left rest) (row_made x row)
 
@@ -48,12 +49,12 @@ step_made x NextRow = row_next x x.rows
 step_made x s = option_map (λ w. with_world x (counted x.header w)) (made x.header x.live x.world s)
 
 -- before the first row of a trace with this header
-abbrev pub scene_before : Header → List TraceRow → Scene
-scene_before h rows = record { header = h; live = h; rows = rows; world = opening [] }
+abbrev pub scene_before : Header → List Row → Scene
+scene_before h rows = record { header = h; live = h; rows = rows; world = opening }
 
 module _ (h : Header) where
   -- the scene that steps lead to beside these rows, the newest step first
-  abbrev pub scene_reached : List TraceRow → List Step → Option Scene
+  abbrev pub scene_reached : List Row → List Step → Option Scene
   scene_reached rows [] = Some (scene_before h rows)
   scene_reached rows (s ∷ older) = option_and_then (λ x. step_made x s) (scene_reached rows older)
 
@@ -64,5 +65,5 @@ scene_ending_from n None steps = NotPossible n
 scene_ending_from n (Some x) [] = judged n (harm_of x.header x.world) NoHarm
 scene_ending_from n (Some x) (s ∷ steps) = judged n (harm_of x.header x.world) (scene_ending_from (n + 1) (step_made x s) steps)
 
-abbrev pub scene_ending : Header → List TraceRow → List Step → Ending
+abbrev pub scene_ending : Header → List Row → List Step → Ending
 scene_ending h rows steps = scene_ending_from 0 (Some (scene_before h rows)) steps

@@ -45,8 +45,9 @@ module _ (h : Header) where
 
 -- beside the rings that were declared and those of them that live
 module _ (h live : Header) where
+  -- what a step of the controller makes of the world; the next row is none
   unfoldable pub made : World → Step → Option World
-  made w NextRow = driver.next_row h w w.rows
+  made w NextRow = None
   made w (Look r) = while_running h w (looks.looked h live w r)
   made w (Report b) = while_running h w (posts.reported h w b)
   made w (Finish b) = while_running h w (finishes.finished h live w b)
@@ -56,18 +57,3 @@ module _ (h live : Header) where
   -- the world after a step; None where the step isn't possible
   unfoldable pub stepped : World → Step → Option World
   stepped w s = option_map (counted h) (made w s)
-
--- where all rings live
-module _ (h : Header) where
-  -- the world that steps lead to beside these rows, the newest step first; None where one of them isn't possible
-  unfoldable pub reached : List Row → List Step → Option World
-  reached rows [] = Some (opening rows)
-  reached rows (s ∷ older) = option_and_then (λ w. stepped h h w s) (reached rows older)
-
-  unfoldable pub ending_from : ℕ → Option World → List Step → Ending
-  ending_from n None steps = NotPossible n
-  ending_from n (Some w) [] = judged n (harm_of h w) NoHarm
-  ending_from n (Some w) (s ∷ steps) = judged n (harm_of h w) (ending_from (n + 1) (stepped h h w s) steps)
-
-  unfoldable pub ending_of : List Row → List Step → Ending
-  ending_of rows steps = ending_from 0 (Some (opening rows)) steps

@@ -1,5 +1,5 @@
 -- The world: memory, registers, states, rings and events, as the driver's rows and the controller's steps have left them
-use Rattle.std.specs.Prelude.{ℕ, ◌+◌, ◌==◌, if◌then◌else◌, Bool, false, List, [], ◌∷◌, Option, None}
+use Rattle.std.specs.Prelude.{ℕ, ◌+◌, ◌==◌, if◌then◌else◌, Bool, false, List, [], Option, None}
 use Rattle.guest_memory.specs.Memory.{put}
 use Rattle.trb.specs.declared.block.Block.{Block}
 use Rattle.trb.specs.Block.{block_at, word}
@@ -29,8 +29,7 @@ pub record UnderWay : Type 0 where
   pub has_stopped : Bool
 
 pub record World : Type 0 where
-  -- the rows still to come, and how many steps were made
-  pub rows : List Row
+  -- how many steps were made
   pub steps : ℕ
   -- the controller was started, and after that stopped or reset
   pub started : Bool
@@ -65,9 +64,8 @@ pub record World : Type 0 where
   pub looked_outside : Bool
 
 -- before the first row: memory is 0, all slots and endpoints are Disabled, nothing is posted
-unfoldable pub opening : List Row → World
-opening rows = record {
-  rows = rows;
+unfoldable pub opening : World
+opening = record {
   steps = 0;
   started = false;
   stopped = false;

@@ -17,7 +17,7 @@ module _ (h : Header) (k : Known) (r p : ℕ) where
 
     pub may_now : is_no_descriptor (k.ring r) p ≡ false → is_passed h (shape_of h r) (k.ring r) p ≡ false → withdraws_badly h k r p ≡ false
     unfolding withdraws_badly
-    may_now begins ahead = ap (λ b. b || is_passed h (shape_of h r) (k.ring r) p) (may begins) ∙ ahead
+    may_now begins ahead = ap (λ b. b || is_bad_withdraw h k r p) ahead ∙ may begins
 
     pub may_not : (is_passed h (shape_of h r) (k.ring r) p ≡ true) ⊎ (is_no_descriptor (k.ring r) p ≡ true) → withdraws_badly h k r p ≡ true
     unfolding withdraws_badly

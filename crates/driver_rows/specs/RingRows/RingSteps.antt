@@ -8,13 +8,15 @@ use Rattle.traces.specs.Header.{is_transfer_kind, ring_with, touches_ring}
 use Rattle.ring_knowledge.specs.declared.ring_record.RingRecord.{RingRecord}
 use Rattle.ring_knowledge.specs.Known.{Known}
 use Rattle.ring_knowledge.specs.RingRecords.{FollowsRing}
-use Rattle.traces.specs.declared.trace_row.TraceRow.{TraceRow}
-use Rattle.safety.specs.RingChanges.Histories.{IsKept, header_after, known_after}
+use Rattle.traces.specs.declared.row.Row.{Row}
+use Rattle.safety.specs.RingChanges.Histories.{IsKept}
+use Rattle.traces.specs.LivingRings.{header_after}
+use Rattle.ring_knowledge.specs.Histories.{known_after}
 use Rattle.trace_record.specs.declared.trace_record.TraceRecord.{TraceRecord}
 use Rattle.trace_record.specs.FollowsTrace.{FollowsTrace}
 
 -- the row breaks no rule, and the record and the memory hold what is known after it, of the rings that are there then
-pub record IsRingStep (h : Header) (k : Known) (row : TraceRow) (after : TraceRecord) (memory : ℕ → ℕ) : Type 0 where
+pub record IsRingStep (h : Header) (k : Known) (row : Row) (after : TraceRecord) (memory : ℕ → ℕ) : Type 0 where
   pub kept : IsKept h k row
   pub followed : FollowsTrace (header_after h row) (known_after h k row) after memory
 

@@ -6,8 +6,9 @@ ghost use Rattle.trace_record.specs.RingFinder.Finding.{IsFinder};
 ghost use Rattle.safety.specs.Keeps.{DriverKeeps};
 ghost use Rattle.trace_record.specs.FollowsTrace.{FollowsTrace};
 ghost use Rattle.trace_record.specs.Steps.{IfRefused};
-ghost use Rattle.safety.specs.RingChanges.Changes.{is_bad_ring, with_ring};
-ghost use Rattle.traces.specs.declared.trace_row.TraceRow.TheVariants.{Comes};
+ghost use Rattle.ownership_rules.specs.Rings.{is_bad_ring};
+ghost use Rattle.traces.specs.LivingRings.{with_ring};
+ghost use Rattle.traces.specs.declared.row.Row.TheVariants.{Ring as RingRow};
 ghost use Rattle.ownership_rules.specs.declared.refusal.Refusal.TheVariants.{BadRing};
 ghost use Rattle.driver_rows.specs.RingRows.RingSteps.{HasOneMore, IsClear, IsRingStep};
 
@@ -36,7 +37,7 @@ pub fn check_coming<M: WordMemory>(
     ensures headed { OnOk result (IsHeader header.new) }
     ensures found { OnOk result (IsFinder header.new.rings finder.new) }
     ensures ok { OnOk result ((k : Known) → FollowsTrace header.old k kept.old (M.words memory.now) → DriverKeeps header.old k → k.stopped ≡ false →
-        IsRingStep header.old k (Comes ring) kept.new (M.words memory.now)) }
+        IsRingStep header.old k (RingRow ring) kept.new (M.words memory.now)) }
     ensures refused { IfErr result (λ e. IfRefused e (λ c. (c ≡ BadRing) × ((k : Known) → FollowsTrace header.old k kept.old (M.words memory.now) →
         is_bad_ring header.old k ring ≡ true))) }
     ensures events { kept.new.events ≡ kept.old.events }

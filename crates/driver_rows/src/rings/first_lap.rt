@@ -1,6 +1,6 @@
 ghost use Rattle.std.specs.Prelude.{◌≡◌, ◌==◌, ◌+◌, ◌*◌, ◌%◌, ◌^◌, ◌≤◌, ℕ};
 ghost use Rattle.ring_knowledge.specs.Known.{Known};
-ghost use Rattle.safety.specs.RingChanges.Changes.{shows_first_lap};
+ghost use Rattle.ownership_rules.specs.Rings.{shows_first_lap};
 
 use guest_memory::{Addr, WordMemory};
 use segments::Segment;

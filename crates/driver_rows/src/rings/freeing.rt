@@ -2,10 +2,9 @@ ghost use Rattle.std.specs.Prelude.{◌≡◌, ◌<◌, ℕ, true, false, length
 ghost use Rattle.traces.specs.Header.{IsHeader, ring_with};
 ghost use Rattle.ring_knowledge.specs.Known.{Known};
 ghost use Rattle.trace_record.specs.RingFinder.Finding.{IsFinder};
-ghost use Rattle.safety.specs.EndpointsKeep.{is_transfer_ring};
+ghost use Rattle.ownership_rules.specs.Rings.{is_transfer_ring, is_bad_free};
 ghost use Rattle.safety.specs.Keeps.{DriverKeeps};
 ghost use Rattle.trace_record.specs.FollowsTrace.{FollowsTrace};
-ghost use Rattle.safety.specs.RingChanges.Changes.{is_bad_free};
 ghost use Rattle.driver_rows.specs.RingRows.RingSteps.{IsTransferAt};
 
 use trace_record::{Finder, TraceRecord};

@@ -5,8 +5,9 @@ ghost use Rattle.trace_record.specs.RingFinder.Finding.{IsFinder};
 ghost use Rattle.safety.specs.Keeps.{DriverKeeps};
 ghost use Rattle.trace_record.specs.FollowsTrace.{FollowsTrace};
 ghost use Rattle.trace_record.specs.Steps.{IfRefused};
-ghost use Rattle.safety.specs.RingChanges.Changes.{is_bad_free, without_ring};
-ghost use Rattle.traces.specs.declared.trace_row.TraceRow.TheVariants.{Goes};
+ghost use Rattle.ownership_rules.specs.Rings.{is_bad_free};
+ghost use Rattle.traces.specs.LivingRings.{without_ring};
+ghost use Rattle.traces.specs.declared.row.Row.TheVariants.{Free as FreeRow};
 ghost use Rattle.ownership_rules.specs.declared.refusal.Refusal.TheVariants.{BadFree};
 ghost use Rattle.driver_rows.specs.RingRows.RingSteps.{IsRingStep};
 
@@ -32,7 +33,7 @@ pub fn check_going(
     ensures headed { OnOk result (IsHeader header.new) }
     ensures found { OnOk result (IsFinder header.new.rings finder.new) }
     ensures ok { OnOk result ((k : Known) (memory : ℕ → ℕ) → FollowsTrace header.old k kept.old memory → DriverKeeps header.old k → k.stopped ≡ false →
-        IsRingStep header.old k (Goes id) kept.new memory) }
+        IsRingStep header.old k (FreeRow id) kept.new memory) }
     ensures refused { IfErr result (λ e. IfRefused e (λ c. (c ≡ BadFree) × ((k : Known) (memory : ℕ → ℕ) → FollowsTrace header.old k kept.old memory →
         DriverKeeps header.old k → is_bad_free header.old k id ≡ true))) }
     ensures events { kept.new.events ≡ kept.old.events }

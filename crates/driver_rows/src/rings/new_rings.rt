@@ -3,7 +3,7 @@ ghost use Rattle.traces.specs.Header.{IsHeader, ring_with, touches_ring};
 ghost use Rattle.ring_knowledge.specs.Known.{Known};
 ghost use Rattle.trace_record.specs.RingFinder.Finding.{IsFinder};
 ghost use Rattle.trace_record.specs.FollowsTrace.{FollowsTrace};
-ghost use Rattle.safety.specs.RingChanges.Changes.{is_bad_ring, is_bad_segment};
+ghost use Rattle.ownership_rules.specs.Rings.{is_bad_ring, is_bad_segment};
 ghost use Rattle.driver_rows.specs.RingRows.RingSteps.{IsClear};
 
 use crate::context_rules::{is_in_range_lease, is_soiled};

@@ -3,7 +3,8 @@ ghost use Rattle.traces.specs.Header.{IsHeader};
 ghost use Rattle.ring_knowledge.specs.Known.{Known};
 ghost use Rattle.trace_record.specs.RingFinder.Finding.{IsFinder};
 ghost use Rattle.trace_record.specs.FollowsTrace.{FollowsTrace};
-ghost use Rattle.safety.specs.RingChanges.Withdrawals.{is_left, restored_on};
+ghost use Rattle.ownership_rules.specs.Withdrawals.{is_left};
+ghost use Rattle.ring_knowledge.specs.Histories.{restored_on};
 ghost use Rattle.driver_rows.specs.RingRows.Withdrawing.{NamesTransfer};
 
 use crate::rings::freeing::transfer_ring;

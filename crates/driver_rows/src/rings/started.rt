@@ -7,7 +7,8 @@ ghost use Rattle.ring_knowledge.specs.Writes.{command_given};
 ghost use Rattle.traces.specs.declared.row.Row.TheVariants.{Write};
 ghost use Rattle.trace_record.specs.FollowsTrace.{FollowsTrace};
 ghost use Rattle.trace_record.specs.RowPlaces.{IsPlaced, IsPlacedSo};
-ghost use Rattle.safety.specs.RingChanges.Withdrawals.{ring_moved, ring_restored, some_flips};
+ghost use Rattle.ring_knowledge.specs.Histories.{ring_moved, ring_restored};
+ghost use Rattle.ownership_rules.specs.Withdrawals.{some_flips};
 
 use commands::Command;
 use guest_memory::Addr;

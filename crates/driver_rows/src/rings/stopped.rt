@@ -6,7 +6,7 @@ ghost use Rattle.trace_record.specs.RingFinder.Finding.{IsFinder};
 ghost use Rattle.safety.specs.Keeps.{DriverKeeps};
 ghost use Rattle.trace_record.specs.FollowsTrace.{FollowsTrace};
 ghost use Rattle.trace_record.specs.Premises.{ContextsFit};
-ghost use Rattle.safety.specs.RingChanges.Withdrawals.{has_stopped};
+ghost use Rattle.ownership_rules.specs.Withdrawals.{has_stopped};
 ghost use Rattle.driver_rows.specs.RingRows.RingSteps.{IsTransferAt};
 
 use crate::doorbells::is_touched;

@@ -3,7 +3,7 @@ ghost use Rattle.segments.specs.Ceiling.{ceiling};
 ghost use Rattle.segments.specs.RingView.{RingView, changed, floor_number, Withdraws as WithdrawsAt};
 ghost use Rattle.segments.specs.ShapeValue.{Shape};
 ghost use Rattle.traces.specs.Header.{IsHeader};
-ghost use Rattle.traces.specs.declared.trace_row.TraceRow.TheVariants.{Withdraws};
+ghost use Rattle.traces.specs.declared.row.Row.TheVariants.{Nop as NopRow};
 ghost use Rattle.ring_knowledge.specs.Known.{Known};
 ghost use Rattle.ring_knowledge.specs.RingRecords.{FollowsRing};
 ghost use Rattle.trace_record.specs.RingFinder.Finding.{IsFinder};
@@ -13,7 +13,7 @@ ghost use Rattle.trace_record.specs.Premises.{ContextsFit};
 ghost use Rattle.trace_record.specs.Steps.{IfRefused};
 ghost use Rattle.ownership_rules.specs.declared.refusal.Refusal.TheVariants.{BadWithdraw};
 ghost use Rattle.driver_rows.specs.RingRows.RingSteps.{IsRingStep};
-ghost use Rattle.driver_rows.specs.RingRows.Withdrawing.{is_no_descriptor, is_passed, withdraws_badly};
+ghost use Rattle.ownership_rules.specs.Withdrawals.{is_no_descriptor, is_passed, withdraws_badly};
 
 use crate::rings::stopped::stopped_ring;
 use guest_memory::WordMemory;
@@ -37,7 +37,7 @@ pub fn check_withdrawing<M: WordMemory>(
     requires found { IsFinder header.now.rings finder.now }
     requires as_many { length kept.now.rings.items ≡ length header.now.rings }
     ensures ok { OnOk result ((k : Known) → FollowsTrace header.now k kept.old (M.words memory.now) → DriverKeeps header.now k → ContextsFit header.now k → k.stopped ≡ false →
-        IsRingStep header.now k (Withdraws id position) kept.new (M.words memory.now)) }
+        IsRingStep header.now k (NopRow id position) kept.new (M.words memory.now)) }
     ensures version { OnOk result ((k : Known) → FollowsTrace header.now k kept.old (M.words memory.now) → DriverKeeps header.now k → ContextsFit header.now k →
         withdraws_badly header.now k id position ≡ false) }
     ensures from { OnOk result ((k : Known) → FollowsTrace header.now k kept.old (M.words memory.now) → DriverKeeps header.now k → ContextsFit header.now k →

@@ -1,5 +1,5 @@
 -- One lease ends at a row, if it is open
-use Rattle.leases.proofs.UpperLaws.{◌≡◌, ◌≢◌, ◌-◌, ◌<◌, ◌==◌, ◌&&◌, ◌∙◌, ℕ, suc, Bool, true, false, not, List, map, slice_get, arith, sym, ap, eqb-true, eq-eqb, list_any, cases_Bool, and_parts, false≢true, Header, Lease, Leased, same_leased, as_lease, without_end, IndexTables, Lent, ended_where, share_a_place, FollowedList, agree, has_words_of, test_of, IsCrossed, IsOnly, IsOnlyAt, RingPlace, has_place, is_open_of, number_at, Ends, FollowsList, at_less, none_less, apart_less, IsNumbered, number_alike, number_of, places_of, rules}
+use Rattle.leases.proofs.UpperLaws.{◌≡◌, ◌-◌, ◌<◌, ◌==◌, ◌&&◌, ◌∙◌, ℕ, suc, Bool, true, false, not, List, map, slice_get, arith, sym, ap, eqb-true, eq-eqb, list_any, cases_Bool, and_parts, false≢true, Header, Lease, Leased, same_leased, as_lease, without_end, IndexTables, Lent, ended_where, share_a_place, FollowedList, agree, has_words_of, test_of, IsCrossed, IsOnly, IsOnlyAt, RingPlace, has_place, is_open_of, number_at, Ends, FollowsList, at_less, none_less, apart_less, IsNumbered, number_alike, number_of, places_of, rules}
 use Rattle.leases.proofs.CertificateLogs.Following.{ends_so, never, stays}
 use Rattle.leases.proofs.CertificateLogs.Words.{HasWords}
 

@@ -1,6 +1,6 @@
 -- What is lent after any write: what it gives begins, with the input context of the command that it gives, and the entry and the device
 -- context of a slot that takes one; nothing ends
-use Rattle.leases.proofs.UpperLaws.{◌≡◌, ◌≢◌, ◌+◌, ◌<◌, ◌≤◌, ◌==◌, ◌&&◌, ◌||◌, if◌then◌else◌, ◌∷◌, ◌++◌, ◌∙◌, ℕ, Bool, true, false, not, List, [], filter, map, Option, Some, None, option_and_then, zero, suc, arith, sym, ap, refl, inl, inr, subst, eqb-true, eq-eqb, append-nil, flat_map, range_with_len, cases_Bool, false≢true, or_left, filter-append, place_count, RingView, due_positions, floor_number, gives, leased_crossings, leased_positions, positions_given, command_of, device_context_bytes, Header, Ring, Write, Erstba, command_id, driver_rings, shape_of, Known, learned, command_given, entry_of, taken_device, with_device, with_word, written, Leased, Block, Link, Range, Use, InputContext, SlotEntry, DeviceContext, context_ranges, device_ranges, entry_ranges, is_among, open_leases, open_on, open_ranges, range_of_command, range_of_device, range_of_entry, segment_ranges, slots, table_range, begun, IsIn, among_is, from_filter, in_among, in_filter, in_turn, with_begun, Lent, grown, FreeWasGiven, AreOpen, rules, filter_all, HasUse, only, use_of_command, either_into, five_into, from_flat_map, from_range, in_flat_map, in_left, in_right, context_open, device_open, entry_open, range_open, none_new, only_begun, flat_alike, AreShaped, filter_flat_map, kept_on_rings, lease_given, new_on_rings}
+use Rattle.leases.proofs.UpperLaws.{◌≡◌, ◌≢◌, ◌+◌, ◌<◌, ◌≤◌, ◌==◌, ◌&&◌, ◌||◌, if◌then◌else◌, ◌∷◌, ◌++◌, ◌∙◌, ℕ, Bool, true, false, not, List, [], filter, map, Option, Some, None, option_and_then, zero, suc, arith, sym, ap, refl, inl, inr, subst, eqb-true, eq-eqb, append-nil, flat_map, range_with_len, cases_Bool, false≢true, or_left, filter-append, place_count, RingView, due_positions, floor_number, gives, leased_crossings, leased_positions, positions_given, command_of, device_context_bytes, Header, Ring, Write, Erstba, command_id, driver_rings, shape_of, Known, learned, command_given, entry_of, taken_device, with_device, with_word, written, Leased, Block, Link, Range, Use, InputContext, SlotEntry, DeviceContext, context_ranges, device_ranges, entry_ranges, is_among, open_leases, open_on, open_ranges, range_of_command, range_of_device, range_of_entry, segment_ranges, slots, table_range, IsIn, among_is, from_filter, in_among, in_filter, in_turn, with_begun, Lent, grown, FreeWasGiven, AreOpen, rules, filter_all, HasUse, only, use_of_command, either_into, five_into, from_flat_map, from_range, in_flat_map, in_left, in_right, context_open, device_open, entry_open, range_open, none_new, only_begun, flat_alike, AreShaped, filter_flat_map, kept_on_rings, lease_given, new_on_rings}
 use Rattle.leases.proofs.LeaseBooks.FreeRanges.{of_open}
 use Rattle.ring_knowledge.specs.Rings as rings
 
@@ -235,5 +235,9 @@ pub lent_commands : (h : Header) → AreShaped h → (k : Known) (ts : List Lent
     option_and_then (taken_device k) (command_given h k a w) ≡ taken → MayTake k taken →
     grown h k (Write a w) n ts ≡ with_begun n ts
     (in_turn (map lease_given (rings.given_by h k a w) ++ (contexts_given h k a w ++ entry_taken k taken ++ device_taken h taken)))
-unfolding begun learned written
-lent_commands h shaped k ts still freed a w n taken is may = search (rules, learned, with_device, with_word, only_begun, lease_given, open_leases, all_kept, new_leases)
+unfolding learned written
+lent_commands h shaped k ts still freed a w n taken is may =
+    let same : learned h k (Write a w) ≡ after h shaped k freed a w taken may = ap (λ o. with_device h (with_word h k a w) o) is in
+    only_begun h k ts still (Write a w) n (in_turn (map lease_given (rings.given_by h k a w) ++ (contexts_given h k a w ++ entry_taken k taken ++ device_taken h taken)))
+    (λ l e. subst (λ (x : Known). is_among (open_leases h x) l ≡ true) (sym same) (all_kept h shaped k freed a w taken may l e))
+    (ap in_turn (ap (λ (x : Known). filter (λ l. not (is_among (open_leases h k) l)) (open_leases h x)) same ∙ new_leases h shaped k freed a w taken may))

@@ -1,5 +1,5 @@
 -- What is open is lent and not over
-use Rattle.leases.proofs.LowerLaws.{◌≡◌, ◌+◌, ◌<◌, ◌≤◌, ◌&&◌, ◌∷◌, ◌++◌, ℕ, Bool, true, false, not, List, [], length, map, arith, ap, inl, inr, eq-eqb, cases_Bool, false≢true, Header, Row, Known, nothing, learned, known, Leased, is_among, open_leases, same_leased, without_end, IsIn, among_is, in_filter, leased_is, leased_itself, Lent, begun_at, ended_where, grown, in_turn, is_unended, lents, newly_open, passed_on, with_begun, with_leased, is_lent, IsInStep, rules, first_open, passed_open}
+use Rattle.leases.proofs.LowerLaws.{◌≡◌, ◌<◌, ◌&&◌, ◌∷◌, ◌++◌, ℕ, Bool, true, false, not, List, [], map, arith, ap, inl, inr, eq-eqb, cases_Bool, false≢true, Header, Known, nothing, Leased, is_among, open_leases, same_leased, without_end, IsIn, among_is, in_filter, leased_is, leased_itself, Lent, begun_at, ended_where, in_turn, is_unended, newly_open, passed_on, with_begun, with_leased, is_lent, IsInStep, rules, first_open, passed_open}
 
 to_with : (l : Leased) (ls : List Leased) (m : Leased) → IsIn m (l ∷ ls) → IsIn m (with_leased l ls)
 unfolding with_leased
@@ -53,9 +53,3 @@ module _ (h : Header) where
   pub in_step_first : IsInStep h nothing (with_begun 0 [] (in_turn (open_leases h nothing)))
   unfolding with_begun
   in_step_first = search (rules, first_open, lent_begun, to_turn, among_is)
-
-  -- what is lent behind the rows of a trace is in step
-  pub in_step : (first : ℕ) (past : List Row) → first + length past ≤ without_end → IsInStep h (known h past) (lents h first past)
-  unfolding lents known grown
-  in_step first [] room = in_step_first
-  in_step first (row ∷ past) room = in_step_behind h h (known h past) (learned h (known h past) row) (first + length past) (lents h first past) (omega (arith, room)) (in_step first past (omega (arith, room)))

@@ -1,5 +1,5 @@
 -- The tables find a lease that begins, and still all others
-use Rattle.leases.proofs.BaseWords.{not-true, and_false, ◌≡◌, ◌≢◌, ◌+◌, ◌%◌, ◌==◌, ◌&&◌, ◌∷◌, ◌++◌, ◌∙◌, ℕ, true, false, List, [], length, map, arith, ap, refl, subst, eqb-true, eq-eqb, list_any, false≢true, place_count, is_crossing, link_of, Header, shape_of, length-map, Lease, Leased, Block, Link, Range, Use, as_lease, without_end, IndexTables, index_at, Lent, is_unended, begun_at, lease_of, is_place_free, share_a_place, with_begun, AllUnended, IsFound, HoldsLents, LeaseBook, rules}
+use Rattle.leases.proofs.BaseWords.{not-true, and_false, ◌≡◌, ◌≢◌, ◌%◌, ◌==◌, ◌&&◌, ◌∷◌, ◌++◌, ◌∙◌, ℕ, true, false, List, [], length, map, arith, ap, refl, subst, eqb-true, eq-eqb, list_any, false≢true, place_count, is_crossing, link_of, Header, shape_of, length-map, Lease, Leased, Block, Link, Range, Use, as_lease, without_end, IndexTables, index_at, Lent, is_unended, begun_at, lease_of, is_place_free, share_a_place, with_begun, AllUnended, IsFound, HoldsLents, LeaseBook, rules}
 use Rattle.leases.proofs.LeaseBooks.Growing.{map_append}
 use Rattle.leases.proofs.LeaseBooks.Unended.{all_begun}
 

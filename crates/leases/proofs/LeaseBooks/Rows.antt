@@ -1,5 +1,5 @@
 -- What is lent after one more row, by which leases are open after it
-use Rattle.leases.proofs.BaseWords.{◌≡◌, ◌+◌, ◌<◌, ◌&&◌, ◌∷◌, ◌++◌, ◌∙◌, ℕ, Bool, true, false, not, List, [], map, filter, sym, refl, inl, inr, cond, append-nil, false≢true, and_parts, nat_tests, Header, Row, Known, learned, Leased, is_among, open_leases, begun, without_end, IsIn, from_filter, in_among, Lent, is_unended, begun_at, with_leased, in_turn, ended_where, with_begun, grown, newly_open, passed_on, AllUnended, AreOpen, rules}
+use Rattle.leases.proofs.BaseWords.{◌≡◌, ◌+◌, ◌<◌, ◌&&◌, ◌∷◌, ◌++◌, ◌∙◌, ℕ, Bool, true, false, not, List, [], map, filter, sym, refl, inl, inr, cond, append-nil, false≢true, and_parts, nat_tests, Header, Row, Known, learned, Leased, is_among, open_leases, without_end, IsIn, from_filter, in_among, Lent, is_unended, begun_at, with_leased, in_turn, ended_where, with_begun, grown, newly_open, passed_on, AllUnended, AreOpen, rules}
 use Rattle.leases.proofs.LeaseBooks.Passing.{and_true, ended_alike, none_over}
 
 -- what stands in order stood there before
@@ -88,9 +88,9 @@ module _ (h : Header) where
     abbrev is : List Leased
     is = open_at (learned h k row)
 
-    pub grown_by : (over : Leased → Bool) (new : List Leased) → ((l : Leased) → IsOpen was l → is_among is l ≡ not (over l)) → in_turn (begun h k row) ≡ new →
+    pub grown_by : (over : Leased → Bool) (new : List Leased) → ((l : Leased) → IsOpen was l → is_among is l ≡ not (over l)) → in_turn (filter (λ l. not (is_among was l)) is) ≡ new →
         grown h k row n ts ≡ with_begun n (map (ended_where over n) ts) new
-    unfolding grown begun
+    unfolding grown
     grown_by over new left e = passed_by was is n ts still over new left e
 
     pub only_ended : (over : Leased → Bool) → ((l : Leased) → is_among is l ≡ (is_among was l && not (over l))) →
@@ -103,6 +103,6 @@ module _ (h : Header) where
     nothing_new same = nothing_passed was is n ts still same
 
     -- nothing ends
-    pub only_begun : (new : List Leased) → ((l : Leased) → IsOpen was l → IsOpen is l) → in_turn (begun h k row) ≡ new →
+    pub only_begun : (new : List Leased) → ((l : Leased) → IsOpen was l → IsOpen is l) → in_turn (filter (λ l. not (is_among was l)) is) ≡ new →
         grown h k row n ts ≡ with_begun n ts new
     only_begun new kept e = search (rules, grown_by (λ l. false), none_over)

@@ -1,5 +1,7 @@
 -- The entry of each slot with a device context ends within the address space: it was tested when the context was taken
-use Rattle.leases.proofs.BaseWords.{rules, ◌≡◌, ◌+◌, ◌^◌, ◌≤◌, ◌∷◌, ◌∙◌, ℕ, true, false, List, [], Some, refl, sym, ap, subst, inl, inr, ltb-false, cases_Bool, false≢true, none-some, cases_option, Header, Register, Dcbaap, Row, Sub, Write, Reg, Bell, Read, IsHeader, with_register, Known, nothing, known, learned, entry_of, IsLenient, is_bad_register, lenient, DriverKeeps, area_parts, register_facts, entry_same, driver_keeps, at_number, event_behind, registered, bell_leaves, declaration_leaves, register_leaves, write_leaves, clean_tests, rules_of, after_write, taken, written_device, written_device_none, EntriesFit}
+use Rattle.leases.proofs.BaseWords.{rules, ◌≡◌, ◌+◌, ◌^◌, ◌≤◌, ◌∙◌, ℕ, true, false, [], Some, refl, sym, ap, subst, inl, inr, ltb-false, cases_Bool, false≢true, none-some, cases_option, Header, Register, Dcbaap, Row, Sub, Write, Reg, Bell, Read, RingRow, FreeRow, IsHeader, with_register, Known, nothing, learned, entry_of, is_bad_register, lenient, DriverKeeps, area_parts, register_facts, entry_same, at_number, event_behind, registered, bell_leaves, declaration_leaves, register_leaves, write_leaves, rules_of, after_write, taken, written_device, written_device_none, EntriesFit}
+use Rattle.traces.specs.declared.row.Row.TheVariants.{Nop as NopRow}
+use Rattle.traces.specs.Rows.{is_ring_row}
 
 -- no device context more, and the same array of entries
 pub still_fit : (k l : Known) → l.register Dcbaap ≡ k.register Dcbaap → ((s d : ℕ) → l.device s ≡ Some d → k.device s ≡ Some d) → EntriesFit k → EntriesFit l
@@ -31,6 +33,14 @@ module _ (h : Header) where
     write_fits : EntriesFit k → EntriesFit (learned h k (Write a w))
     write_fits fit s d at = search (rules, entry_same, after_write, Dcbaap, write_leaves, fits_behind)
 
+  -- of a ring that comes or goes, or a descriptor that is withdrawn
+  ring_fits : (k : Known) (row : Row) → is_ring_row row ≡ true → EntriesFit k → EntriesFit (learned h k row)
+  unfolding learned
+  ring_fits k (RingRow ring) is fit = fit
+  ring_fits k (FreeRow id) is fit = fit
+  ring_fits k (NopRow r p) is fit = fit
+  ring_fits k row is fit = absurd (false≢true is)
+
   pub row_fits : IsHeader h → (k : Known) (row : Row) → DriverKeeps h k → lenient h k row ≡ [] → EntriesFit k → EntriesFit (learned h k row)
   row_fits is k (Sub r blocks) keeps clean fit =
       let leaves = declaration_leaves h k r blocks in
@@ -43,15 +53,8 @@ module _ (h : Header) where
   row_fits is k (Read b) keeps clean fit =
       let behind = event_behind h is k keeps b clean in
       still_fit k (learned h k (Read b)) (ap (λ f. f Dcbaap) behind.driver.register) behind.devices fit
+  row_fits is k row keeps clean fit = ring_fits k row refl fit
 
   pub nothing_fits : EntriesFit nothing
   unfolding nothing
   nothing_fits s d at = absurd (none-some d at)
-
-  -- behind rows none of which breaks a rule
-  pub entries_fit : IsHeader h → (past : List Row) → IsLenient h past → EntriesFit (known h past)
-  unfolding known
-  entries_fit is [] clean = nothing_fits
-  entries_fit is (row ∷ past) clean =
-      let on = (clean_tests h (known h past) row clean.1).0 in
-      row_fits is (known h past) row (driver_keeps h is past clean.0 on) clean.1 (entries_fit is past clean.0)

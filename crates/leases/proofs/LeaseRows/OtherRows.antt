@@ -1,5 +1,6 @@
 -- What is lent after a clean declaration, doorbell or register write
-use Rattle.leases.proofs.MiddleLaws.{arith, ◌≡◌, ◌<◌, ◌∷◌, ◌≢◌, ◌⊎◌, ℕ, List, [], true, false, None, Result, ap, sym, inl, inr, subst, length, OnOk, le-leb, lt-ltb, and_from, Trb, table_bytes, place_count, due_positions, floor_number, Ring, Header, Row, Sub, Write, Reg, Bell, Read, Register, Dcbaap, Erstba, IsHeader, command_id, driver_rings, event_shape, is_driver_kind, shape_of, base_address, Known, learned, is_bad_register, is_written, Range, SegmentTable, is_among, open_leases, IsIn, from_filter, in_filter, DriverKeeps, register_facts, due_has_ring, Lent, with_begun, FindsRanges, RangeIndexes, shape_there, IsAmong, TraceRecord, HoldsAll, IsOtherRow, IsNextRow, AreOpen, grown, rules, from_range, others_begin, nothing_new, bell_same, reg_same, sub_same, lent_table, AreShaped}
+use Rattle.leases.proofs.MiddleLaws.{arith, ◌≡◌, ◌<◌, ◌∷◌, ◌≢◌, ◌⊎◌, ℕ, List, [], true, false, None, Result, refl, ap, sym, inl, inr, subst, length, OnOk, le-leb, lt-ltb, and_from, Trb, table_bytes, place_count, due_positions, floor_number, Ring, Header, Row, Sub, Write, Reg, Bell, Read, RingRow, FreeRow, Register, Dcbaap, Erstba, IsHeader, command_id, driver_rings, event_shape, is_driver_kind, shape_of, base_address, Known, learned, is_bad_register, is_written, Range, SegmentTable, is_among, open_leases, IsIn, from_filter, in_filter, DriverKeeps, register_facts, due_has_ring, Lent, with_begun, FindsRanges, RangeIndexes, shape_there, IsAmong, TraceRecord, HoldsAll, IsOtherRow, IsNextRow, AreOpen, grown, rules, from_range, others_begin, nothing_new, bell_same, reg_same, sub_same, lent_table, AreShaped}
+use Rattle.traces.specs.declared.row.Row.TheVariants.{Nop as NopRow}
 use Rattle.ring_knowledge.specs.Rings as rings
 
 -- from what an answer promises to what follows
@@ -66,6 +67,19 @@ module _ (h : Header) (headed : IsHeader h) (k : Known) (ts : List Lent) where
     pub lent_bell : (s i : ℕ) → IsNextRow h k ts (Bell s i) t m → grown h k (Bell s i) number ts ≡ ts
     lent_bell s i next = unchanged (Bell s i) number next.step.opened (bell_same h k s i)
 
+    -- a ring that comes or goes, or a descriptor that is withdrawn
+    lent_coming : (ring : Ring) → IsNextRow h k ts (RingRow ring) t m → grown h k (RingRow ring) number ts ≡ ts
+    unfolding learned
+    lent_coming ring next = unchanged (RingRow ring) number next.step.opened refl
+
+    lent_going : (id : ℕ) → IsNextRow h k ts (FreeRow id) t m → grown h k (FreeRow id) number ts ≡ ts
+    unfolding learned
+    lent_going id next = unchanged (FreeRow id) number next.step.opened refl
+
+    lent_withdrawing : (r p : ℕ) → IsNextRow h k ts (NopRow r p) t m → grown h k (NopRow r p) number ts ≡ ts
+    unfolding learned
+    lent_withdrawing r p next = unchanged (NopRow r p) number next.step.opened refl
+
     pub lent_register : (r : Register) (v : ℕ) → (r ≢ Erstba) → IsNextRow h k ts (Reg r v) t m → grown h k (Reg r v) number ts ≡ ts
     lent_register r v other next =
         unchanged (Reg r v) number next.step.opened
@@ -84,7 +98,7 @@ module _ (h : Header) (headed : IsHeader h) (k : Known) (ts : List Lent) where
     -- rows but those of registers
     pub other_held : {B : Type 0} {Holds : Header → List Lent → B → Type 0} (book : B) (x : RangeIndexes) (row : Row) → IsOtherRow row → ((r : Register) (v : ℕ) → row ≡ Reg r v → ⊥) → IsNextRow h k ts row t m →
         HoldsAll Holds h ts book x → HoldsAll Holds h (grown h k row number ts) book x
-    other_held book x row other none next held = grind (arith, held_still, lent_sub, lent_bell)
+    other_held book x row other none next held = grind (arith, held_still, lent_sub, lent_bell, lent_coming, lent_going, lent_withdrawing)
 
 -- a row that is neither a write nor an event
 pub other_row : (row : Row) → ((a w : ℕ) → row ≡ Write a w → ⊥) → ((b : Trb) → row ≡ Read b → ⊥) → IsOtherRow row

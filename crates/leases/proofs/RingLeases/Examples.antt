@@ -1,20 +1,20 @@
 -- Worked examples of leases of rings that come and go, and of descriptors that are withdrawn
-use Rattle.leases.proofs.BaseWords.{◌≡◌, ℕ, List, [], ◌∷◌, nat_lt, refl, put, Xfer, Bytes32, Restores, Withdraws, new_ring, Three, Header, Write, TraceRow, Comes, Goes, Plain, Known, nothing, on_ring, as_lease, comes_before, without_end, rules_on_literals, Block, Link, open_leases, Lent, begun_at, ended_where, in_turn, is_unended, passed_on, precedes, with_begun, with_leased, forgotten, with_ring, without_ring, restored_on, ring_moved, ring_restored, open_now, ring_lents, Trb}
+use Rattle.leases.proofs.BaseWords.{◌≡◌, ℕ, List, [], ◌∷◌, nat_lt, refl, put, Xfer, Bytes32, Restores, Withdraws, new_ring, Three, Header, Write, Row, RingRow, FreeRow, Known, nothing, on_ring, as_lease, comes_before, without_end, rules_on_literals, Block, Link, open_leases, Lent, begun_at, ended_where, in_turn, is_unended, passed_on, precedes, with_begun, with_leased, forgotten, with_ring, without_ring, restored_on, ring_moved, ring_restored, open_now, lents, Trb}
 
 abbrev no_rings : Header
 no_rings = record { version = Three; context_size = Bytes32; rings = [] }
 
 -- a transfer ring of 4 blocks comes, and its Link is given before any block is declared
-abbrev given : List TraceRow
-given = Plain (Write 0x3003c 0x1803) ∷ Comes (record { id = 2; shape = record { kind = Xfer; segments = record { base = 0x30000; count = 4 } ∷ [] } }) ∷ []
+abbrev given : List Row
+given = (Write 0x3003c 0x1803) ∷ RingRow (record { id = 2; shape = record { kind = Xfer; segments = record { base = 0x30000; count = 4 } ∷ [] } }) ∷ []
 
 link_is_open : open_now no_rings given ≡ Link 2 3 ∷ []
 unfolding rules_on_literals with_ring forgotten restored_on ring_restored ring_moved
 link_is_open = refl
 
 -- its lease ends with the ring
-link_is_over : ring_lents no_rings 3 (Goes 2 ∷ given) ≡ record { leased = Link 2 3; from = 4; to = 5 } ∷ []
-unfolding rules_on_literals with_ring without_ring forgotten restored_on ring_restored ring_moved ring_lents passed_on with_begun begun_at ended_where is_unended in_turn with_leased precedes as_lease comes_before without_end
+link_is_over : lents no_rings 3 (FreeRow 2 ∷ given) ≡ record { leased = Link 2 3; from = 4; to = 5 } ∷ []
+unfolding rules_on_literals with_ring without_ring forgotten restored_on ring_restored ring_moved lents passed_on with_begun begun_at ended_where is_unended in_turn with_leased precedes as_lease comes_before without_end
 link_is_over = refl
 
 -- ---- a descriptor of two blocks is withdrawn at row 9, and its ring restored at row 12

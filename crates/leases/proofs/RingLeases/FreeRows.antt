@@ -1,9 +1,10 @@
 -- What is lent behind the rows by which descriptors are withdrawn and rings restored, of a history
-use Rattle.leases.proofs.BaseWords.{arith, ◌≡◌, ◌+◌, ◌∷◌, ℕ, List, None, Some, length, refl, ap, Header, Known, Row, Bell, learned, on_ring, open_leases, Restores, Withdraws, TraceRow, Lent, grown, passed_on, header_now, known_now, restored, restored_on, ring_restored, ring_lents}
+use Rattle.leases.proofs.BaseWords.{arith, ◌≡◌, ◌+◌, ◌∷◌, ◌∙◌, ℕ, false, List, None, Some, length, refl, sym, ap, false≢true, Header, Known, Row, Bell, RingRow, FreeRow, learned, on_ring, open_leases, Restores, Withdraws, Lent, grown, passed_on, header_now, known_now, restored, restored_on, ring_restored, lents}
+use Rattle.traces.specs.declared.row.Row.TheVariants.{Nop as NopRow}
+use Rattle.traces.specs.Rows.{is_ring_row}
 use Rattle.leases.proofs.LeaseBooks.SameLeases.{bell_same}
-use Rattle.traces.specs.declared.trace_row.TraceRow.TheVariants as rows
 
-module _ (h : Header) (first : ℕ) (past : List TraceRow) where
+module _ (h : Header) (first : ℕ) (past : List Row) where
   abbrev g : Header
   g = header_now h past
 
@@ -14,24 +15,27 @@ module _ (h : Header) (first : ℕ) (past : List TraceRow) where
   n = first + length past
 
   abbrev ts : List Lent
-  ts = ring_lents h first past
+  ts = lents h first past
 
   -- a descriptor is withdrawn
-  pub withdrawn_now : (r p : ℕ) → ring_lents h first (rows.Withdraws r p ∷ past) ≡ passed_on (open_leases g k) (open_leases g (on_ring g k r (Withdraws p))) n ts
-  unfolding ring_lents
+  pub withdrawn_now : (r p : ℕ) → lents h first (NopRow r p ∷ past) ≡ passed_on (open_leases g k) (open_leases g (on_ring g k r (Withdraws p))) n ts
+  unfolding lents
   withdrawn_now r p = refl
 
-  -- a row restores no ring
-  pub none_restored : (row : Row) → ring_restored g k row ≡ None → ring_lents h first (rows.Plain row ∷ past) ≡ grown g k row n ts
-  unfolding ring_lents grown restored_on
-  none_restored row none = ap (λ o. passed_on (open_leases g k) (open_leases g (learned g (restored_on g k o) row)) n ts) none
+  -- no ring comes or goes, and no descriptor is withdrawn
+  pub plain_now : (row : Row) → is_ring_row row ≡ false → lents h first (row ∷ past) ≡ passed_on (open_leases g k) (open_leases g (learned g (restored g k row) row)) n ts
+  unfolding lents
+  plain_now (RingRow ring) driven = absurd (false≢true (sym driven))
+  plain_now (FreeRow id) driven = absurd (false≢true (sym driven))
+  plain_now (NopRow r p) driven = absurd (false≢true (sym driven))
+  plain_now row driven = refl
+
+  -- nor is one restored
+  pub none_restored : (row : Row) → is_ring_row row ≡ false → ring_restored g k row ≡ None → lents h first (row ∷ past) ≡ grown g k row n ts
+  unfolding grown restored_on
+  none_restored row driven none = plain_now row driven ∙ ap (λ o. passed_on (open_leases g k) (open_leases g (learned g (restored_on g k o) row)) n ts) none
 
   -- the doorbell of an endpoint that has a ring
-  pub rung_now : (s t r : ℕ) → k.ring_of s t ≡ Some r → ring_lents h first (rows.Plain (Bell s t) ∷ past) ≡ passed_on (open_leases g k) (open_leases g (on_ring g k r Restores)) n ts
-  unfolding ring_lents restored_on ring_restored
+  pub rung_now : (s t r : ℕ) → k.ring_of s t ≡ Some r → lents h first (Bell s t ∷ past) ≡ passed_on (open_leases g k) (open_leases g (on_ring g k r Restores)) n ts
+  unfolding lents restored_on ring_restored
   rung_now s t r has = grind (arith, passed_on, open_leases, bell_same, restored, Bell, restored_on)
-
-  -- any row
-  pub plain_now : (row : Row) → ring_lents h first (rows.Plain row ∷ past) ≡ passed_on (open_leases g k) (open_leases g (learned g (restored g k row) row)) n ts
-  unfolding ring_lents
-  plain_now row = refl

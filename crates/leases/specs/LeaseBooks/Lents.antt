@@ -1,4 +1,5 @@
--- How the leases of a trace grow by one row: those that are over end at it, and those that begin follow
+-- How the leases of a trace grow by one row: those that are over end at it, and those that begin follow, by the rings that are there before the
+-- row and behind it
 use Rattle.std.specs.Prelude.{ℕ, ◌+◌, ◌%◌, ◌==◌, ◌&&◌, if◌then◌else◌, Bool, false, not, nat_le, nat_lt, List, [], ◌∷◌, ◌++◌, length, map, filter}
 use Rattle.std.specs.List.{list_any}
 use Rattle.segments.specs.Places.{place_count}
@@ -7,8 +8,9 @@ use Rattle.traces.specs.declared.header.Header.{Header}
 use Rattle.traces.specs.declared.row.Row.{Row}
 use Rattle.traces.specs.Header.{shape_of}
 use Rattle.ring_knowledge.specs.declared.lease.Lease.{Lease}
-use Rattle.ring_knowledge.specs.Known.{Known, nothing}
-use Rattle.ring_knowledge.specs.Learned.{learned, known}
+use Rattle.ring_knowledge.specs.Known.{Known}
+use Rattle.ring_knowledge.specs.Histories.{header_now, known_now}
+use Rattle.ring_knowledge.specs.Learned.{learned}
 use Rattle.ownership_rules.specs.OpenLeases.{Leased, Block, Link, Range, is_among, open_leases}
 use Rattle.ownership_rules.specs.Leases.{as_lease, comes_before, without_end}
 
@@ -57,14 +59,18 @@ unfoldable pub passed_on : List Leased → List Leased → ℕ → List Lent →
 passed_on before after n lents = with_begun n (map (ended_where (λ l. not (is_among after l)) n) lents) (in_turn (newly_open before after))
 
 module _ (h : Header) where
-  -- with row n more
+  -- with row n more, of which no ring comes or goes, and no descriptor is withdrawn
   unfoldable pub grown : Known → Row → ℕ → List Lent → List Lent
   grown k row n lents = passed_on (open_leases h k) (open_leases h (learned h k row)) n lents
 
-  -- what was and is lent after the rows so far, the newest first; `first` is the number of the oldest
+  -- the leases that are open behind the rows so far, the newest first
+  abbrev pub open_now : List Row → List Leased
+  open_now past = open_leases (header_now h past) (known_now h past)
+
+  -- what was and is lent behind them; `first` is the number of the oldest
   unfoldable pub lents : ℕ → List Row → List Lent
-  lents first [] = with_begun 0 [] (in_turn (open_leases h nothing))
-  lents first (row ∷ past) = grown (known h past) row (first + length past) (lents first past)
+  lents first [] = with_begun 0 [] (in_turn (open_now []))
+  lents first (row ∷ past) = passed_on (open_now past) (open_now (row ∷ past)) (first + length past) (lents first past)
 
 -- the block, or the Link, of a ring is passed on the way from one number to another
 abbrev pub is_passed : ℕ → ℕ → ℕ → Leased → Bool

@@ -1,16 +1,13 @@
--- A clean row behind a clean history, for a log of leases
-use Rattle.std.specs.Prelude.{◌≡◌, ℕ, ◌+◌, ◌≤◌, List, [], ◌∷◌, length}
+-- A row that breaks no rule, for a log of leases
+use Rattle.std.specs.Prelude.{◌≡◌, ℕ, List, []}
 use Rattle.traces.specs.declared.header.Header.{Header}
 use Rattle.traces.specs.declared.row.Row.{Row}
 use Rattle.traces.specs.declared.row.Row.TheVariants.{Write, Read}
 use Rattle.ring_knowledge.specs.Known.{Known}
-use Rattle.ring_knowledge.specs.Learned.{known}
-use Rattle.ownership_rules.specs.Clean.{IsLenient}
-use Rattle.ownership_rules.specs.Leases.{without_end}
 use Rattle.ownership_rules.specs.Rules.{lenient}
 use Rattle.leases.specs.LeaseBooks.InStep.{IsInStep}
 use Rattle.leases.specs.declared.book.ranges.RangeIndexes.{RangeIndexes}
-use Rattle.leases.specs.LeaseBooks.Lents.{Lent, lents}
+use Rattle.leases.specs.LeaseBooks.Lents.{Lent}
 use Rattle.leases.specs.LeaseBooks.Ranges.{FindsRanges}
 use Rattle.leases.specs.LeaseRows.LeftBehind.{EntriesFit}
 use Rattle.safety.specs.Keeps.{DriverKeeps}
@@ -26,16 +23,7 @@ pub record IsNextRow (h : Header) (k : Known) (ts : List Lent) (row : Row) (t : 
   pub step : IsInStep h k ts
   pub clean : lenient h k row ≡ []
 
--- behind rows none of which breaks a rule, the newest first, comes the row of this number, and breaks none: the record and the
--- memory hold what is known before it; `first` is the number of the oldest row
-pub record IsCleanRow (h : Header) (first : ℕ) (past : List Row) (row : Row) (number : ℕ) (t : TraceRecord) (memory : ℕ → ℕ) : Type 0 where
-  pub numbered : number ≡ first + length past
-  pub room : first + length (row ∷ past) ≤ without_end
-  pub followed : FollowsTrace h (known h past) t memory
-  pub history : IsLenient h past
-  pub clean : lenient h (known h past) row ≡ []
-
--- the row is a declaration, a doorbell or a register's
+-- the row is no write of memory and no event
 abbrev pub IsOtherRow : Row → Type 0
 IsOtherRow (Write a w) = ⊥
 IsOtherRow (Read b) = ⊥
@@ -45,7 +33,3 @@ IsOtherRow _ = Unit {0}
 pub record HoldsAll {B : Type 0} (Holds : Header → List Lent → B → Type 0) (h : Header) (ts : List Lent) (book : B) (ranges : RangeIndexes) : Type 0 where
   pub held : Holds h ts book
   pub found : FindsRanges h ts ranges
-
--- that of the rows so far, the newest first; `first` is the number of the oldest
-abbrev pub FollowsBook : {B : Type 0} → (Header → List Lent → B → Type 0) → Header → ℕ → List Row → B → RangeIndexes → Type 0
-FollowsBook Holds h first past book ranges = HoldsAll Holds h (lents h first past) book ranges

@@ -9,7 +9,7 @@ use Rattle.traces.specs.Header.{IsHeader, command_id, is_driver_kind, is_transfe
 use Rattle.ring_knowledge.specs.Known.{Known}
 use Rattle.leases.specs.LeaseBooks.InStep.{AreOpen, FreeWasGiven}
 use Rattle.leases.specs.LeaseBooks.Lents.{Lent}
-use Rattle.safety.specs.RingChanges.Withdrawals.{ring_restored}
+use Rattle.ring_knowledge.specs.Histories.{ring_restored}
 
 -- the write of w at a gives position p of the command ring, and moves ring q, of which the blocks at these positions aren't restored yet
 pub record MovesRing (h : Header) (k : Known) (ts : List Lent) (command : Ring) (p : ℕ) (q : Ring) (ps : List ℕ) (a w : ℕ) : Type 0 where

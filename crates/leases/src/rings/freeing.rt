@@ -14,7 +14,7 @@ ghost use Rattle.ownership_rules.specs.OpenLeases.{open_leases};
 ghost use Rattle.ownership_rules.specs.Leases.{without_end};
 ghost use Rattle.leases.specs.LeaseBooks.Lents.{Lent, passed_on};
 ghost use Rattle.leases.specs.LeaseBooks.InStep.{AreOpen};
-ghost use Rattle.safety.specs.RingChanges.Withdrawals.{restored};
+ghost use Rattle.ring_knowledge.specs.Histories.{restored};
 ghost use Rattle.leases.specs.RingLeases.Moving.{MovesRing};
 
 use crate::book::LeaseLog;

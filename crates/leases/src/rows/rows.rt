@@ -1,17 +1,15 @@
 //! What a row does to the leases.
 ghost use Rattle.ring_knowledge.specs.declared.lease.Lease.{Lease};
-ghost use Rattle.std.specs.Prelude.{◌≡◌, ℕ, ◌∷◌, List, OnOk};
+ghost use Rattle.std.specs.Prelude.{◌≡◌, ℕ, List, OnOk};
 ghost use Rattle.trb.specs.declared.kind.BlockKind.TheVariants.{CommandCompletion};
 ghost use Rattle.trb.specs.Block.{kind};
 ghost use Rattle.traces.specs.Header.{IsHeader};
-ghost use Rattle.traces.specs.declared.row.Row.{Row as RowValue};
 ghost use Rattle.traces.specs.declared.row.Row.TheVariants.{Read};
 ghost use Rattle.trace_record.specs.RingFinder.Finding.{IsFinder};
 ghost use Rattle.ring_knowledge.specs.Known.{Known};
-ghost use Rattle.ring_knowledge.specs.Learned.{known};
 ghost use Rattle.trace_record.specs.RowPlaces.{IsNext, IsPlaced};
 ghost use Rattle.leases.specs.LeaseBooks.Lents.{Lent, grown};
-ghost use Rattle.leases.specs.LeaseRows.CleanRows.{FollowsBook, HoldsAll, IsCleanRow, IsNextRow};
+ghost use Rattle.leases.specs.LeaseRows.CleanRows.{HoldsAll, IsNextRow};
 
 use crate::book::{LeaseLog, RangeIndexes};
 use crate::rows::completions::note_completion;
@@ -44,9 +42,6 @@ pub fn note_row<B: LeaseLog, M: WordMemory>(
     ensures step { OnOk result ((list : List Lease) (k : Known) (ts : List Lent) → IsPlaced header.now k row.now place.now →
         IsNextRow header.now k ts row.now t.now (M.words memory.now) →
         HoldsAll (B.holds list) header.now ts book.old ranges.old → HoldsAll (B.holds list) header.now (grown header.now k row.now number ts) book.new ranges.new) }
-    ensures history { OnOk result ((list : List Lease) (first : ℕ) (past : List RowValue) → IsPlaced header.now (known header.now past) row.now place.now →
-        IsCleanRow header.now first past row.now number t.now (M.words memory.now) →
-        FollowsBook (B.holds list) header.now first past book.old ranges.old → FollowsBook (B.holds list) header.now first (row.now ∷ past) book.new ranges.new) }
 {
     match row {
         Row::Write { .. } => note_write(book, ranges, header, t, memory, number, place),

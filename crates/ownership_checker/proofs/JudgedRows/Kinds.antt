@@ -1,5 +1,5 @@
 -- What is said of a row by its kind, and of any row after the stop
-use Rattle.ownership_checker.proofs.LowerLaws.{◌≡◌, ℕ, Bool, true, false, arith, Result, Ok, Err, refl, sym, subst, IfErr, IfOk, OnOk, Row, Header, IsHeader, Known, broken, AfterStop, DriverKeeps, TraceRecord, StepFault, FollowsTrace, IsSetUp, IfRefused, IsLeast, IsRowStep, IsOwnedSo, IsPlaced, RowPlace, IsTracked, IsStepFrom, IsLeastFrom, Refused, Memory, set_up}
+use Rattle.ownership_checker.proofs.LowerLaws.{◌≡◌, ℕ, Bool, true, false, arith, Result, Ok, Err, refl, sym, subst, IfErr, IfOk, OnOk, Row, Header, IsHeader, Known, broken, AfterStop, DriverKeeps, TraceRecord, StepFault, FollowsTrace, IsSetUp, IfRefused, IsLeast, IsRowStep, IsOwnedSo, IsPlaced, RowPlace, IsTracked, IsStepFrom, IsLeastFrom, Refused, Memory, set_up, RingRow, FreeRow, NopRow, Ring, is_ring_row}
 
 -- any row after the stop
 pub stopped_refused : (h : Header) (k : Known) (row : Row) → k.stopped ≡ true → IsLeast h k row AfterStop
@@ -70,3 +70,10 @@ module _ (h : Header) (headed : IsHeader h) (kept : TraceRecord) (memory : ℕ �
       IfErr result (λ e. IfRefused e (λ c. (k : Known) → FollowsTrace h k kept memory → IsSetUp h k → k.stopped ≡ false → IsLeast h k row c)) →
       IfErr result (λ e. IfRefused e (IsLeastFrom h kept memory row))
   register_bad result said = grind (arith, set_up)
+
+-- a row that is of none of these kinds
+pub driven_by : (row : Row) → ((ring : Ring) → row ≡ RingRow ring → ⊥) → ((id : ℕ) → row ≡ FreeRow id → ⊥) → ((id position : ℕ) → row ≡ NopRow id position → ⊥) → is_ring_row row ≡ false
+driven_by (RingRow ring) comes goes withdraws = absurd (comes ring refl)
+driven_by (FreeRow id) comes goes withdraws = absurd (goes id refl)
+driven_by (NopRow id position) comes goes withdraws = absurd (withdraws id position refl)
+driven_by row comes goes withdraws = refl

@@ -1,8 +1,8 @@
--- What a row of the driver says that breaks no rule; where no descriptor was withdrawn nothing is free; and what breaks no rule of the trace's version
--- breaks no lenient one
-use Rattle.ownership_checker.proofs.LowerLaws.{◌≡◌, ◌∷◌, ◌++◌, ◌∙◌, ◌==◌, ℕ, Bool, true, false, if◌then◌else◌, List, [], Some, filter, refl, sym, ap, subst, inl, inr, or_parts, cases_Bool, Header, Known, Ring, learned, nothing, shape_of, flips_passed, is_not_restored, unrestored, due_positions, Row, TraceRow, Plain, Comes, Goes, broken_of, first_of, broken, Refusal, AfterStop, BadFree, BadRing, BadWithdraw, NotRestored, WriteToOwned, lenient_row, forgotten, is_bad_free, is_bad_ring, AreKept, IsKept, header_now, known_now, is_bad_withdraw, is_left, restored, ring_restored, some_flips, is_passed, withdraws_badly, restored_same, AreClean, NothingFree, broken_restored, driver_broken, list_any, no_flips, Withdraws, free_same, breaks_none, rules, arith}
+-- What a row says that breaks no rule; where no descriptor was withdrawn nothing is free; and what breaks no rule of the trace's version breaks no
+-- lenient one
+use Rattle.ownership_checker.proofs.LowerLaws.{◌≡◌, ◌∷◌, ◌++◌, ◌∙◌, ◌==◌, ℕ, Bool, true, false, if◌then◌else◌, List, [], Some, filter, refl, sym, ap, subst, inl, inr, cases_Bool, Header, Known, Ring, learned, nothing, shape_of, flips_passed, is_not_restored, unrestored, due_positions, Row, FreeRow, broken_of, first_of, broken, Refusal, AfterStop, NotRestored, WriteToOwned, lenient_row, forgotten, AreKept, IsKept, header_now, known_now, is_left, restored, ring_restored, some_flips, restored_same, AreClean, NothingFree, broken_restored, row_broken, list_any, no_flips, free_same, rules, arith, is_ring_row, header_after, known_after, RingRow}
 
--- ---- a row of the driver
+-- ---- a row
 
 abbrev chosen : Bool → Bool → List Refusal → List Refusal → List Refusal
 chosen stopped left cs ds = if stopped then AfterStop ∷ [] else if left then cs ++ NotRestored ∷ [] else ds
@@ -27,34 +27,34 @@ module _ (h : Header) (k : Known) (row : Row) where
     pub flips : some_flips h (restored h k row) row ≡ false
     pub clean : broken h (restored h k row) row ≡ []
 
-  pub breaks_no_rule : driver_broken h k row ≡ [] → BreaksNoRule
+  pub breaks_no_rule : row_broken h k row ≡ [] → BreaksNoRule
   breaks_no_rule clean = search (rules, none_chosen k.stopped (is_left h k (ring_restored h k row)) (some_flips h (restored h k row) row) (broken h k row) (broken h (restored h k row) row) clean)
 
-  pub no_rule_broken : BreaksNoRule → driver_broken h k row ≡ []
+  pub no_rule_broken : BreaksNoRule → row_broken h k row ≡ []
   no_rule_broken c = search rules
 
-  pub plain_kept : driver_broken h k row ≡ [] → IsKept h k (Plain row)
-  plain_kept clean = let c = breaks_no_rule clean in (lenient_row h (restored h k row) row c.clean, c.stands, c.flips)
+  pub row_kept : row_broken h k row ≡ [] → IsKept h k row
+  row_kept clean = let c = breaks_no_rule clean in (lenient_row h (restored h k row) row c.clean, c.stands, c.flips)
 
   -- ---- the least rule that it breaks
 
-  pub least_off : k.stopped ≡ true → first_of (driver_broken h k row) ≡ Some AfterStop
+  pub least_off : k.stopped ≡ true → first_of (row_broken h k row) ≡ Some AfterStop
   least_off off = rw off refl
 
   module _ (on : k.stopped ≡ false) where
-    pub left_broken : is_left h k (ring_restored h k row) ≡ true → driver_broken h k row ≡ broken h k row ++ NotRestored ∷ []
+    pub left_broken : is_left h k (ring_restored h k row) ≡ true → row_broken h k row ≡ broken h k row ++ NotRestored ∷ []
     left_broken left = grind arith
 
-    pub restored_broken : is_left h k (ring_restored h k row) ≡ false → driver_broken h k row ≡ broken_restored h (restored h k row) row
+    pub restored_broken : is_left h k (ring_restored h k row) ≡ false → row_broken h k row ≡ broken_restored h (restored h k row) row
     restored_broken stands = grind arith
 
-    pub least_left : (c : Refusal) → is_left h k (ring_restored h k row) ≡ true → first_of (broken h k row) ≡ Some c → first_of (driver_broken h k row) ≡ Some c
+    pub least_left : (c : Refusal) → is_left h k (ring_restored h k row) ≡ true → first_of (broken h k row) ≡ Some c → first_of (row_broken h k row) ≡ Some c
     least_left c left least = ap first_of (left_broken left) ∙ least_of_both (broken h k row) c NotRestored least
 
-    pub only_left : is_left h k (ring_restored h k row) ≡ true → broken h k row ≡ [] → first_of (driver_broken h k row) ≡ Some NotRestored
+    pub only_left : is_left h k (ring_restored h k row) ≡ true → broken h k row ≡ [] → first_of (row_broken h k row) ≡ Some NotRestored
     only_left left none = ap first_of (left_broken left) ∙ ap (λ cs. first_of (cs ++ NotRestored ∷ [])) none
 
-    pub least_restored : (c : Refusal) → is_left h k (ring_restored h k row) ≡ false → first_of (broken_restored h (restored h k row) row) ≡ Some c → first_of (driver_broken h k row) ≡ Some c
+    pub least_restored : (c : Refusal) → is_left h k (ring_restored h k row) ≡ false → first_of (broken_restored h (restored h k row) row) ≡ Some c → first_of (row_broken h k row) ≡ Some c
     least_restored c stands least = ap first_of (restored_broken stands) ∙ least
 
 module _ (h : Header) (k : Known) (row : Row) where
@@ -96,7 +96,7 @@ module _ (h : Header) (k : Known) (none : NothingFree k) where
   flips_none_restored row = subst (λ x. some_flips h x row ≡ false) (sym (restored_same h k row none)) (search (rules, flips_none))
 
   -- what it breaks is what it breaks where nothing was withdrawn
-  pub driver_same : (row : Row) → driver_broken h k row ≡ broken h k row
+  pub driver_same : (row : Row) → row_broken h k row ≡ broken h k row
   unfolding broken
   driver_same row = elim (cases_Bool k.stopped) [
     | inl off ↦ rw off refl
@@ -106,33 +106,31 @@ module _ (h : Header) (k : Known) (none : NothingFree k) where
 
 -- ---- behind rows
 
-module _ (h : Header) (past : List TraceRow) (none : NothingFree (known_now h past)) where
-  pub known_plain : (row : Row) → known_now h (Plain row ∷ past) ≡ learned (header_now h past) (known_now h past) row
-  known_plain row = ap (λ k. learned (header_now h past) k row) (restored_same (header_now h past) (known_now h past) row none)
+-- by a row of the driver no ring comes or goes, and no descriptor is withdrawn
+pub header_driven : (h : Header) (row : Row) → is_ring_row row ≡ false → header_after h row ≡ h
+header_driven h row driven = grind arith
 
-  pub plain_free : (row : Row) → NothingFree (known_now h (Plain row ∷ past))
-  plain_free row r p = search (rules, free_same, restored_same, none)
+pub driven_after : (h : Header) (k : Known) (row : Row) → is_ring_row row ≡ false → known_after h k row ≡ learned h (restored h k row) row
+driven_after h k row driven = grind arith
 
-  pub comes_free : (ring : Ring) → NothingFree (known_now h (Comes ring ∷ past))
+module _ (h : Header) (past : List Row) (none : NothingFree (known_now h past)) where
+  pub known_driven : (row : Row) → is_ring_row row ≡ false → known_now h (row ∷ past) ≡ learned (header_now h past) (known_now h past) row
+  known_driven row driven =
+      driven_after (header_now h past) (known_now h past) row driven ∙ ap (λ k. learned (header_now h past) k row) (restored_same (header_now h past) (known_now h past) row none)
+
+  pub driven_free : (row : Row) → is_ring_row row ≡ false → NothingFree (known_now h (row ∷ past))
+  driven_free row driven = rw (known_driven row driven) (λ r p. search (rules, free_same, none))
+
+  pub comes_free : (ring : Ring) → NothingFree (known_now h (RingRow ring ∷ past))
   comes_free ring = forgotten_free (known_now h past) ring.id none
 
-  pub goes_free : (id : ℕ) → NothingFree (known_now h (Goes id ∷ past))
+  pub goes_free : (id : ℕ) → NothingFree (known_now h (FreeRow id ∷ past))
   goes_free id = forgotten_free (known_now h past) id none
 
 pub nothing_free : NothingFree nothing
 unfolding nothing
 nothing_free r p = refl
 
--- what is withdrawn by the trace's version is withdrawn by the lenient rule
-pub withdrawn_kept : (h : Header) (k : Known) (r p : ℕ) → withdraws_badly h k r p ≡ false → is_bad_withdraw h k r p ≡ false
-unfolding withdraws_badly
-withdrawn_kept h k r p good = (or_parts (is_bad_withdraw h k r p) (is_passed h (shape_of h r) (k.ring r) p) good).0
-
-pub kept_now : (h : Header) (past : List TraceRow) → AreClean h past → AreKept h past
+pub kept_now : (h : Header) (past : List Row) → AreClean h past → AreKept h past
 kept_now h [] clean = tt
-kept_now h (Plain row ∷ past) clean = (kept_now h past clean.0, plain_kept (header_now h past) (known_now h past) row clean.1)
-kept_now h (Comes ring ∷ past) clean = (kept_now h past clean.0, breaks_none (known_now h past) BadRing (is_bad_ring (header_now h past) (known_now h past) ring) clean.1)
-kept_now h (Goes id ∷ past) clean = (kept_now h past clean.0, breaks_none (known_now h past) BadFree (is_bad_free (header_now h past) (known_now h past) id) clean.1)
-kept_now h (Withdraws r q ∷ past) clean =
-    let parts = breaks_none (known_now h past) BadWithdraw (withdraws_badly (header_now h past) (known_now h past) r q) clean.1 in
-    (kept_now h past clean.0, (parts.0, withdrawn_kept (header_now h past) (known_now h past) r q parts.1))
+kept_now h (row ∷ past) clean = (kept_now h past clean.0, row_kept (header_now h past) (known_now h past) row clean.1)

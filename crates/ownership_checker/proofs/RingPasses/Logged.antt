@@ -1,10 +1,5 @@
 -- What the log of a pass keeps behind one row more
-use Rattle.ownership_checker.proofs.MiddleLaws.{◌≡◌, ◌+◌, ◌<◌, ◌≤◌, ◌∷◌, ◌∙◌, ℕ, Bool, true, false, ◌==◌, None, Some, List, [], length, map, arith, refl, sym, ap, subst, or_parts, Header, Known, Ring, IsHeader, Write, learned, none-some, on_ring, open_leases, false≢true, RingKind, not_found, ring_found, IsAmong, lenient, clean_tests, is_transfer_ring, Row, TraceRow, Plain, Comes, Goes, is_driver_kind, is_transfer_kind, ring_with, without_end, AreOpen, IsInStep, Lent, ended_where, grown, lents, passed_on, FindsRanges, RangeIndexes, HoldsAll, IsNextRow, IsComing, is_bad_free, is_bad_ring, with_ring, without_ring, header_now, known_now, is_of_ring, ring_lents, comes_lent, goes_lent, in_step_now, lent_open, IsRingPassed, RingPass, ring_restored, Restores, position, none_here, AreShapedAlike, some_end, comes_alike, comes_commands, goes_alike, goes_commands, ranges_found, rung_now, headed_now, tracked_now}
-
--- before the first row the leases of a history are those of a trace
-pub lents_first : (h : Header) (first : ℕ) → lents h first [] ≡ ring_lents h first []
-unfolding lents ring_lents
-lents_first h first = refl
+use Rattle.ownership_checker.proofs.MiddleLaws.{◌≡◌, ◌+◌, ◌<◌, ◌≤◌, ◌∷◌, ◌∙◌, ℕ, Bool, true, false, ◌==◌, None, Some, List, [], length, map, arith, refl, sym, ap, subst, or_parts, Header, Known, Ring, IsHeader, Write, learned, none-some, on_ring, open_leases, false≢true, RingKind, not_found, ring_found, IsAmong, lenient, clean_tests, is_transfer_ring, Row, RingRow, FreeRow, is_driver_kind, is_transfer_kind, ring_with, without_end, AreOpen, IsInStep, Lent, ended_where, grown, lents, passed_on, FindsRanges, RangeIndexes, HoldsAll, IsNextRow, IsComing, is_bad_free, is_bad_ring, with_ring, without_ring, header_now, known_now, is_of_ring, comes_lent, goes_lent, in_step_now, lent_open, IsRingPassed, RingPass, ring_restored, Restores, position, none_here, AreShapedAlike, some_end, comes_alike, comes_commands, goes_alike, goes_commands, ranges_found, rung_now, headed_now, tracked_now, is_ring_row, header_after, header_driven}
 
 -- a ring that goes is a transfer ring
 pub goes_transfer : (h : Header) (k : Known) (id : ℕ) → is_bad_free h k id ≡ false → is_transfer_ring (ring_with h id) ≡ true
@@ -24,7 +19,7 @@ none_drives h id none transfer = grind (arith, not_found, none_here, false≢tru
 
 module _ {B M : Type 0} (words : M → ℕ → ℕ) (Holds : Header → List Lent → B → Type 0)
     (other_rings : (h g : Header) (ts : List Lent) (log : B) → AreShapedAlike h g ts → Holds h ts log → Holds g ts log)
-    (h : Header) (first : ℕ) (past : List TraceRow) (before : RingPass B M) (p : IsRingPassed words h past before) (room : first + length past < without_end) where
+    (h : Header) (first : ℕ) (past : List Row) (before : RingPass B M) (p : IsRingPassed words h past before) (room : first + length past < without_end) where
   abbrev g : Header
   g = header_now h past
 
@@ -32,7 +27,7 @@ module _ {B M : Type 0} (words : M → ℕ → ℕ) (Holds : Header → List Len
   k = known_now h past
 
   abbrev ts : List Lent
-  ts = ring_lents h first past
+  ts = lents h first past
 
   low : first + length past ≤ without_end
   low = omega (arith, room)
@@ -48,19 +43,23 @@ module _ {B M : Type 0} (words : M → ℕ → ℕ) (Holds : Header → List Len
   pub opened_before : AreOpen before.header k ts
   opened_before = subst (λ (y : Header). AreOpen y k ts) (sym p.header) (lent_open h first past low)
 
+  -- the log keeps what is lent behind a row
+  abbrev pub IsLogged : Row → B → RangeIndexes → Type 0
+  IsLogged row log x = HoldsAll Holds (header_now h (row ∷ past)) (lents h first (row ∷ past)) log x
+
   -- what is lent behind a row, as the log is told of it by the rings of the pass
-  pub behind_logged : (later : Header → Known) (us : List Lent) → us ≡ passed_on (open_leases g k) (open_leases g (later g)) (first + length past) ts → (number : ℕ) → number ≡ first + length past → (log : B) (x : RangeIndexes) →
-      HoldsAll Holds before.header (passed_on (open_leases before.header k) (open_leases before.header (later before.header)) number ts) log x → HoldsAll Holds g us log x
-  behind_logged later us is number numbered log x held = grind arith
+  pub behind_logged : (row : Row) → header_after g row ≡ g → (later : Header → Known) → lents h first (row ∷ past) ≡ passed_on (open_leases g k) (open_leases g (later g)) (first + length past) ts → (number : ℕ) → number ≡ first + length past → (log : B) (x : RangeIndexes) →
+      HoldsAll Holds before.header (passed_on (open_leases before.header k) (open_leases before.header (later before.header)) number ts) log x → IsLogged row log x
+  behind_logged row same later is number numbered log x held = rw same (grind arith)
 
   -- a row of the driver that restores no ring
-  pub plain_logged : (row : Row) → known_now h (Plain row ∷ past) ≡ learned g k row → (number : ℕ) → number ≡ first + length past → (log : B) (x : RangeIndexes) →
-      HoldsAll Holds before.header (grown before.header k row number ts) log x → HoldsAll Holds g (ring_lents h first (Plain row ∷ past)) log x
-  unfolding ring_lents grown
-  plain_logged row is number numbered log x held = grind (arith, behind_logged)
+  pub driven_logged : (row : Row) → is_ring_row row ≡ false → known_now h (row ∷ past) ≡ learned g k row → (number : ℕ) → number ≡ first + length past → (log : B) (x : RangeIndexes) →
+      HoldsAll Holds before.header (grown before.header k row number ts) log x → IsLogged row log x
+  unfolding lents grown
+  driven_logged row driven is number numbered log x held = grind (arith, header_driven, behind_logged)
 
   pub comes_logged : (ring : Ring) → IsComing ring → k.stopped ≡ false → is_bad_ring g k ring ≡ false → HoldsAll Holds g ts before.log before.ranges →
-      HoldsAll Holds (with_ring g ring) (ring_lents h first (Comes ring ∷ past)) before.log before.ranges
+      HoldsAll Holds (with_ring g ring) (lents h first (RingRow ring ∷ past)) before.log before.ranges
   comes_logged ring coming on good held =
       let is = headed_now words h past before p in
       let d = (tracked_now words h past before p).keeps on in
@@ -71,17 +70,17 @@ module _ {B M : Type 0} (words : M → ℕ → ℕ) (Holds : Header → List Len
       })
 
   pub goes_logged : (id number : ℕ) → number ≡ first + length past → k.stopped ≡ false → is_bad_free g k id ≡ false → (log : B) → Holds before.header (map (ended_where (is_of_ring id) number) ts) log →
-      HoldsAll Holds g ts before.log before.ranges → HoldsAll Holds (without_ring g id) (ring_lents h first (Goes id ∷ past)) log before.ranges
+      HoldsAll Holds g ts before.log before.ranges → HoldsAll Holds (without_ring g id) (lents h first (FreeRow id ∷ past)) log before.ranges
   goes_logged id number numbered on good log ended held =
       let is = headed_now words h past before p in
       let d = (tracked_now words h past before p).keeps on in
-      let over : ring_lents h first (Goes id ∷ past) ≡ map (ended_where (is_of_ring id) (first + length past)) ts = goes_lent h first past low is d id good in
-      let there : Holds g (ring_lents h first (Goes id ∷ past)) log =
+      let over : lents h first (FreeRow id ∷ past) ≡ map (ended_where (is_of_ring id) (first + length past)) ts = goes_lent h first past low is d id good in
+      let there : Holds g (lents h first (FreeRow id ∷ past)) log =
       subst (λ us. Holds g us log) (ap (λ n. map (ended_where (is_of_ring id) n) ts) numbered ∙ sym over)
       (subst (λ (y : Header). Holds y (map (ended_where (is_of_ring id) number) ts) log) p.header ended) in
-      let opened = lent_open h first (Goes id ∷ past) (omega (arith, room)) in
+      let opened = lent_open h first (FreeRow id ∷ past) (omega (arith, room)) in
       record {
-        held = other_rings g (without_ring g id) (ring_lents h first (Goes id ∷ past)) log (goes_alike g is k d id good (ring_lents h first (Goes id ∷ past)) opened) there;
+        held = other_rings g (without_ring g id) (lents h first (FreeRow id ∷ past)) log (goes_alike g is k d id good (lents h first (FreeRow id ∷ past)) opened) there;
         found = subst (λ us. FindsRanges (without_ring g id) us before.ranges) (sym over)
             (ranges_found g (without_ring g id) before.ranges (goes_commands g is k d id good) (map (ended_where (is_of_ring id) (first + length past)) ts)
             (some_end g before.ranges (is_of_ring id) (first + length past) ts held.found));
@@ -89,6 +88,6 @@ module _ {B M : Type 0} (words : M → ℕ → ℕ) (Holds : Header → List Len
 
   -- the doorbell of an endpoint that has a ring
   pub rung_lents : (row : Row) (id : ℕ) → ((a w : ℕ) → row ≡ Write a w → ⊥) → ring_restored g k row ≡ Some id →
-      ring_lents h first (Plain row ∷ past) ≡ passed_on (open_leases g k) (open_leases g (on_ring g k id Restores)) (first + length past) ts
+      lents h first (row ∷ past) ≡ passed_on (open_leases g k) (open_leases g (on_ring g k id Restores)) (first + length past) ts
   unfolding ring_restored
   rung_lents row id other has = grind (arith, rung_now, none-some)

@@ -1,8 +1,8 @@
 -- A row more of a pass
-use Rattle.ownership_checker.proofs.LowerLaws.{◌≡◌, ◌+◌, ◌++◌, ◌∷◌, ◌∙◌, ℕ, headline, true, false, List, [], All, Option, Some, None, Result, IfErr, suc, length, reverse, arith, refl, sym, ap, subst, inl, inr, reverse-append, All-cons, All-head, All-nil, All-tail, Header, Known, Ring, IsHeader, DriverKeeps, nothing, on_ring, false≢true, lenient_row, nothing_kept, clean_tests, EventState, Xfer, Row, TraceRow, Plain, Comes, Goes, id_below, IsAmong, TraceRecord, FollowsTrace, IsWithin, IsLeast, IsRowStep, Refusal, IsTracked, ContextsFit, IsComing, forgotten, is_bad_free, is_bad_ring, with_ring, without_ring, AreKept, FitsFields, header_now, known_now, is_left, restored, restored_on, ring_restored, some_flips, row_comes, stopped_still, BadFree, BadRing, BadWithdraw, withdraws_badly, restored_same, IsLeastOfRow, DoNoHarm, IsRingPassed, NothingFree, RingPass, kept_driver, Withdraws, IsFinder, contexts_fit, EntriesFit, nothing_fits, still_fit, row_keeps, withdraw_keeps, gone_ring_kept, comes_keeps, IsRingStep, least_broken, none_broken, reversed_twice, rules}
+use Rattle.ownership_checker.proofs.LowerLaws.{◌≡◌, ◌+◌, ◌++◌, ◌∷◌, ◌∙◌, ℕ, headline, true, false, List, [], All, Option, Some, None, Result, IfErr, suc, length, reverse, arith, refl, sym, ap, subst, inl, inr, reverse-append, All-cons, All-head, All-nil, All-tail, Header, Known, Ring, IsHeader, DriverKeeps, nothing, on_ring, false≢true, lenient_row, nothing_kept, clean_tests, EventState, Xfer, Row, RingRow, FreeRow, id_below, IsAmong, TraceRecord, FollowsTrace, IsWithin, IsLeast, IsRowStep, Refusal, IsTracked, ContextsFit, IsComing, forgotten, is_bad_free, is_bad_ring, with_ring, without_ring, AreKept, IsRow, header_now, known_now, is_left, restored, restored_on, ring_restored, some_flips, row_comes, stopped_still, BadFree, BadRing, BadWithdraw, withdraws_badly, restored_same, IsLeastOfRow, DoNoHarm, IsRingPassed, NothingFree, RingPass, kept_driver, NopRow, IsFinder, contexts_fit, EntriesFit, nothing_fits, still_fit, row_keeps, withdraw_keeps, gone_ring_kept, comes_keeps, IsRingStep, least_broken, none_broken, reversed_twice, rules, is_ring_row, kept_coming, kept_going, kept_withdrawing, coming_alone, going_alone, withdrawing_alone}
 use Rattle.trace_record.proofs.RingFinder.HeaderRings.{shape_allowed}
 use Rattle.leases.proofs.LeaseRows.EntriesFit.{row_fits}
-use Rattle.ownership_checker.proofs.RingPasses.Histories.{comes_free, driver_same, flips_none_restored, goes_free, kept_now, no_rule_broken, nothing_free, plain_free, stands_where_restored}
+use Rattle.ownership_checker.proofs.RingPasses.Histories.{comes_free, driven_after, driven_free, driver_same, flips_none_restored, goes_free, header_driven, kept_now, no_rule_broken, nothing_free, stands_where_restored}
 use Rattle.trace_record.specs.declared.fault.StepFault as step
 use Rattle.trace_record.specs.declared.fault.StepFault.TheVariants as variants
 use Rattle.trace_record.specs.Steps as steps
@@ -16,14 +16,14 @@ pub coming_by_header : (h : Header) (r : Ring) → IsHeader (with_ring h r) → 
 unfolding with_ring
 coming_by_header h r is kind = search (rules, id_below (with_ring h r) is r, among_last, shape_allowed (with_ring h r) is r)
 
-all_joined : (xs ys : List TraceRow) → All FitsFields xs → All FitsFields ys → All FitsFields (xs ++ ys)
+all_joined : (xs ys : List Row) → All IsRow xs → All IsRow ys → All IsRow (xs ++ ys)
 all_joined [] ys first second = second
 all_joined (x ∷ xs) ys first second = search (rules, All-cons, All-head, All-tail, all_joined xs ys)
 
-pub all_reversed : (rows : List TraceRow) → All FitsFields rows → All FitsFields (reverse rows)
+pub all_reversed : (rows : List Row) → All IsRow rows → All IsRow (reverse rows)
 all_reversed [] are = are
-all_reversed (row ∷ rows) are = rw (reverse-append (row ∷ []) rows) (all_joined (reverse rows) (row ∷ []) (all_reversed rows (All-tail FitsFields row rows are))
-    (All-cons FitsFields row [] (All-head FitsFields row rows are) (All-nil FitsFields)))
+all_reversed (row ∷ rows) are = rw (reverse-append (row ∷ []) rows) (all_joined (reverse rows) (row ∷ []) (all_reversed rows (All-tail IsRow row rows are))
+    (All-cons IsRow row [] (All-head IsRow row rows are) (All-nil IsRow)))
 
 one_more : (events : Option EventState) (n : ℕ) → IsWithin events n → IsWithin events (n + 1)
 one_more events n within = grind arith
@@ -62,7 +62,7 @@ module _ {B M : Type 0} (words : M → ℕ → ℕ) where
     unwithdrawn = λ none. nothing_free;
   }
 
-  module _ (h : Header) (past : List TraceRow) (before : RingPass B M) (p : IsRingPassed words h past before) where
+  module _ (h : Header) (past : List Row) (before : RingPass B M) (p : IsRingPassed words h past before) where
     abbrev g : Header
     g = header_now h past
 
@@ -77,24 +77,24 @@ module _ {B M : Type 0} (words : M → ℕ → ℕ) where
     headed_now = subst IsHeader p.header p.headed
 
     -- behind a row of the driver: what it starts or moves stood as declared
-    pub plain_behind : (row : Row) (after : TraceRecord) (memory : ℕ → ℕ) → is_left g k (ring_restored g k row) ≡ false → some_flips g (restored g k row) row ≡ false →
+    pub driven_behind : (row : Row) → is_ring_row row ≡ false → (after : TraceRecord) (memory : ℕ → ℕ) → is_left g k (ring_restored g k row) ≡ false → some_flips g (restored g k row) row ≡ false →
         IsRowStep g (restored g k row) row after memory → IsWithin after.events (length past + 1) →
         (later : RingPass B M) → later.header ≡ before.header → later.finder ≡ before.finder → later.record ≡ after → words later.memory ≡ memory →
-        (later.has_withdrawn ≡ false → NothingFree (known_now h (Plain row ∷ past))) → IsRingPassed words h (Plain row ∷ past) later
-    plain_behind row after memory stands flips now reads later header same is at none =
+        (later.has_withdrawn ≡ false → NothingFree (known_now h (row ∷ past))) → IsRingPassed words h (row ∷ past) later
+    driven_behind row driven after memory stands flips now reads later header same is at none =
         let clean = lenient_row g (restored g k row) row now.clean in
         let on : k.stopped ≡ false = sym (stopped_still g k (ring_restored g k row)) ∙ (clean_tests g (restored g k row) row clean).0 in
         let keeps = tracked_now.keeps on in
         let keeps_restored : DriverKeeps g (restored g k row) = row_keeps g headed_now k keeps row stands in
         record {
           opening = p.opening;
-          header = header ∙ p.header;
+          header = header ∙ p.header ∙ sym (header_driven g row driven);
           headed = rw header p.headed;
           found = rw (header, same) p.found;
           few_reads = rw is (subst (IsWithin after.events) (omega arith) reads);
-          tracked = rw (is, at, header, p.header)
+          tracked = rw (is, at, header, p.header, driven_after g k row driven)
               (record { follows = now.followed; keeps = λ still. kept_driver g headed_now (restored g k row) row keeps_restored (row_comes g headed_now k keeps row clean flips) still });
-          entries = row_fits g headed_now (restored g k row) row keeps_restored clean (restored_fits g k (ring_restored g k row) p.entries);
+          entries = rw (driven_after g k row driven) (row_fits g headed_now (restored g k row) row keeps_restored clean (restored_fits g k (ring_restored g k row) p.entries));
           clean = (p.clean, no_rule_broken g k row (record { on = on; stands = stands; flips = flips; clean = now.clean }));
           unwithdrawn = none;
         }
@@ -104,13 +104,13 @@ module _ {B M : Type 0} (words : M → ℕ → ℕ) where
       pub none_now : NothingFree k
       none_now = p.unwithdrawn has_none
 
-      pub quiet_behind : (row : Row) (after : TraceRecord) (memory : ℕ → ℕ) → IsRowStep before.header k row after memory → IsWithin after.events (length past + 1) →
-          (later : RingPass B M) → later.header ≡ before.header → later.finder ≡ before.finder → later.record ≡ after → words later.memory ≡ memory → IsRingPassed words h (Plain row ∷ past) later
-      quiet_behind row after memory step reads later header same is at =
-          plain_behind row after memory (stands_where_restored g k none_now row) (flips_none_restored g k none_now row)
-          (rw (restored_same g k row none_now, ← p.header) step) reads later header same is at (λ none. plain_free h past none_now row)
+      pub quiet_behind : (row : Row) → is_ring_row row ≡ false → (after : TraceRecord) (memory : ℕ → ℕ) → IsRowStep before.header k row after memory → IsWithin after.events (length past + 1) →
+          (later : RingPass B M) → later.header ≡ before.header → later.finder ≡ before.finder → later.record ≡ after → words later.memory ≡ memory → IsRingPassed words h (row ∷ past) later
+      quiet_behind row driven after memory step reads later header same is at =
+          driven_behind row driven after memory (stands_where_restored g k none_now row) (flips_none_restored g k none_now row)
+          (rw (restored_same g k row none_now, ← p.header) step) reads later header same is at (λ none. driven_free h past none_now row driven)
 
-      pub least_quiet : (row : Row) (c : Refusal) → IsLeast before.header k row c → IsLeastOfRow g k (Plain row) c
+      pub least_quiet : (row : Row) (c : Refusal) → IsLeast before.header k row c → IsLeastOfRow g k row c
       least_quiet row c least = rw (driver_same g k none_now row, ← p.header) least
 
     -- where the ring that a row starts or moves stands as declared, this holds what is known once that is the controller's again
@@ -119,64 +119,66 @@ module _ {B M : Type 0} (words : M → ℕ → ℕ) where
     restored_tracked row o after is on stands follows = record { follows = rw (← is) follows; keeps = λ still. row_keeps before.header p.headed k (p.tracked.keeps on) row stands }
 
     -- behind a ring that comes
-    pub comes_behind : (ring : Ring) (after : TraceRecord) → ring.shape.kind ≡ Xfer → (DriverKeeps before.header k → k.stopped ≡ false → IsRingStep before.header k (Comes ring) after (words before.memory)) →
+    pub comes_behind : (ring : Ring) (after : TraceRecord) → ring.shape.kind ≡ Xfer → (DriverKeeps before.header k → k.stopped ≡ false → IsRingStep before.header k (RingRow ring) after (words before.memory)) →
         k.stopped ≡ false → IsWithin after.events (length past) → (later : RingPass B M) → later.header ≡ with_ring before.header ring → IsHeader later.header → IsFinder later.header.rings later.finder → later.record ≡ after →
-        words later.memory ≡ words before.memory → later.has_withdrawn ≡ before.has_withdrawn → IsRingPassed words h (Comes ring ∷ past) later
+        words later.memory ≡ words before.memory → later.has_withdrawn ≡ before.has_withdrawn → IsRingPassed words h (RingRow ring ∷ past) later
     comes_behind ring after kind stepped on reads later header is found recorded at same =
         let keeps = tracked_now.keeps on in
-        let now : IsRingStep g k (Comes ring) after (words before.memory) = rw p.header at (stepped (p.tracked.keeps on) on) in
+        let now : IsRingStep g k (RingRow ring) after (words before.memory) = rw p.header at (stepped (p.tracked.keeps on) on) in
         let there : later.header ≡ with_ring g ring = header ∙ ap (λ (x : Header). with_ring x ring) p.header in
         let coming : IsComing ring = coming_by_header g ring (subst IsHeader there is) kind in
+        let good = kept_coming g k ring now.kept in
         record {
           opening = p.opening;
           header = there;
           headed = is;
           found = found;
           few_reads = rw recorded (one_later after (length past) reads);
-          tracked = rw (recorded, at, there) (record { follows = now.followed; keeps = λ still. comes_keeps g headed_now ring coming k keeps now.kept.1 });
+          tracked = rw (recorded, at, there) (record { follows = now.followed; keeps = λ still. comes_keeps g headed_now ring coming k keeps good.1 });
           entries = forgotten_fits k _ p.entries;
-          clean = (p.clean, none_broken k BadRing (is_bad_ring g k ring) now.kept);
+          clean = (p.clean, none_broken k _ BadRing (is_bad_ring g k ring) (coming_alone g k ring) good);
           unwithdrawn = λ none. comes_free h past (p.unwithdrawn (sym same ∙ none)) ring;
         }
 
     -- behind a ring that goes
-    pub goes_behind : (id : ℕ) (after : TraceRecord) → (DriverKeeps before.header k → k.stopped ≡ false → IsRingStep before.header k (Goes id) after (words before.memory)) →
+    pub goes_behind : (id : ℕ) (after : TraceRecord) → (DriverKeeps before.header k → k.stopped ≡ false → IsRingStep before.header k (FreeRow id) after (words before.memory)) →
         k.stopped ≡ false → IsWithin after.events (length past) → (later : RingPass B M) → later.header ≡ without_ring before.header id → IsHeader later.header → IsFinder later.header.rings later.finder → later.record ≡ after →
-        words later.memory ≡ words before.memory → later.has_withdrawn ≡ before.has_withdrawn → IsRingPassed words h (Goes id ∷ past) later
+        words later.memory ≡ words before.memory → later.has_withdrawn ≡ before.has_withdrawn → IsRingPassed words h (FreeRow id ∷ past) later
     goes_behind id after stepped on reads later header is found recorded at same =
         let keeps = tracked_now.keeps on in
-        let now : IsRingStep g k (Goes id) after (words before.memory) = rw p.header at (stepped (p.tracked.keeps on) on) in
+        let now : IsRingStep g k (FreeRow id) after (words before.memory) = rw p.header at (stepped (p.tracked.keeps on) on) in
         let there : later.header ≡ without_ring g id = header ∙ ap (λ (x : Header). without_ring x id) p.header in
+        let good = kept_going g k id now.kept in
         record {
           opening = p.opening;
           header = there;
           headed = is;
           found = found;
           few_reads = rw recorded (one_later after (length past) reads);
-          tracked = rw (recorded, at, there) (record { follows = now.followed; keeps = λ still. gone_ring_kept g headed_now k keeps id now.kept.1 });
+          tracked = rw (recorded, at, there) (record { follows = now.followed; keeps = λ still. gone_ring_kept g headed_now k keeps id good.1 });
           entries = forgotten_fits k _ p.entries;
-          clean = (p.clean, none_broken k BadFree (is_bad_free g k id) now.kept);
+          clean = (p.clean, none_broken k _ BadFree (is_bad_free g k id) (going_alone g k id) good);
           unwithdrawn = λ none. goes_free h past (p.unwithdrawn (sym same ∙ none)) id;
         }
 
     -- behind a descriptor that is withdrawn
-    pub withdrawn_behind : (r q : ℕ) (after : TraceRecord) → (DriverKeeps before.header k → k.stopped ≡ false → IsRingStep before.header k (Withdraws r q) after (words before.memory)) →
+    pub withdrawn_behind : (r q : ℕ) (after : TraceRecord) → (DriverKeeps before.header k → k.stopped ≡ false → IsRingStep before.header k (NopRow r q) after (words before.memory)) →
         (DriverKeeps before.header k → withdraws_badly before.header k r q ≡ false) → k.stopped ≡ false → IsWithin after.events (length past) →
         (later : RingPass B M) → later.header ≡ before.header → later.finder ≡ before.finder → later.record ≡ after → words later.memory ≡ words before.memory → later.has_withdrawn ≡ true →
-        IsRingPassed words h (Withdraws r q ∷ past) later
+        IsRingPassed words h (NopRow r q ∷ past) later
     unfolding on_ring
     withdrawn_behind r q after stepped good on reads later header same recorded at has =
         let keeps = tracked_now.keeps on in
-        let now : IsRingStep g k (Withdraws r q) after (words before.memory) = rw p.header at (stepped (p.tracked.keeps on) on) in
+        let now : IsRingStep g k (NopRow r q) after (words before.memory) = rw p.header at (stepped (p.tracked.keeps on) on) in
         record {
           opening = p.opening;
           header = header ∙ p.header;
           headed = rw header p.headed;
           found = rw (header, same) p.found;
           few_reads = rw recorded (one_later after (length past) reads);
-          tracked = rw (recorded, at, header, p.header) (record { follows = now.followed; keeps = λ still. withdraw_keeps g r q headed_now k keeps now.kept.1 });
-          entries = still_fit k (known_now h (Withdraws r q ∷ past)) refl (λ s d at. at) p.entries;
-          clean = (p.clean, none_broken k BadWithdraw (withdraws_badly g k r q) (on, rw p.header at (good (p.tracked.keeps on))));
+          tracked = rw (recorded, at, header, p.header) (record { follows = now.followed; keeps = λ still. withdraw_keeps g r q headed_now k keeps (kept_withdrawing g k r q now.kept).1 });
+          entries = still_fit k (known_now h (NopRow r q ∷ past)) refl (λ s d at. at) p.entries;
+          clean = (p.clean, none_broken k _ BadWithdraw (withdraws_badly g k r q) (withdrawing_alone g k r q) (on, rw p.header at (good (p.tracked.keeps on))));
           unwithdrawn = λ none. absurd (false≢true (sym none ∙ has));
         }
 
@@ -186,46 +188,46 @@ module _ {B M : Type 0} (words : M → ℕ → ℕ) where
     same_still later header finder known memory withdrawn = rw (header, finder, known, memory, withdrawn) (assumption p)
 
     -- no run beside the rows, in their order, does harm
-    pub no_harm : All FitsFields past → DoNoHarm h (reverse past)
+    pub no_harm : All IsRow past → DoNoHarm h (reverse past)
     no_harm are = headline h (reverse past) p.opening (all_reversed past are) (subst (AreKept h) (sym (reversed_twice past)) (kept_now h past p.clean))
 
   -- ---- a ring that is refused, whatever rows were passed before it
 
-  pub comes_refused : (before : RingPass B M) (ring : Ring) → ((h : Header) (past : List TraceRow) → IsRingPassed words h past before → (known_now h past).stopped ≡ false) → (e : step.StepFault) →
+  pub comes_refused : (before : RingPass B M) (ring : Ring) → ((h : Header) (past : List Row) → IsRingPassed words h past before → (known_now h past).stopped ≡ false) → (e : step.StepFault) →
       steps.IfRefused e (λ c. (c ≡ BadRing) × ((k : Known) → FollowsTrace before.header k before.record (words before.memory) → is_bad_ring before.header k ring ≡ true)) →
-      steps.IfRefused e (λ c. (h : Header) (past : List TraceRow) → IsRingPassed words h past before → IsLeastOfRow (header_now h past) (known_now h past) (Comes ring) c)
+      steps.IfRefused e (λ c. (h : Header) (past : List Row) → IsRingPassed words h past before → IsLeastOfRow (header_now h past) (known_now h past) (RingRow ring) c)
   comes_refused before ring on (variants.Refused c) bad = λ h past p.
       let g = header_now h past in
       let k = known_now h past in
-      subst (λ (x : Refusal). IsLeastOfRow g k (Comes ring) x) (sym bad.0)
-      (least_broken k BadRing (is_bad_ring g k ring) (on h past p) (subst (λ (x : Header). is_bad_ring x k ring ≡ true) p.header (bad.1 k p.tracked.follows)))
+      subst (λ (x : Refusal). IsLeastOfRow g k (RingRow ring) x) (sym bad.0)
+      (least_broken k _ BadRing (is_bad_ring g k ring) (coming_alone g k ring) (on h past p) (subst (λ (x : Header). is_bad_ring x k ring ≡ true) p.header (bad.1 k p.tracked.follows)))
   comes_refused before ring on variants.Memory bad = tt
 
-  pub goes_refused : (before later : RingPass B M) (id : ℕ) → ((h : Header) (past : List TraceRow) → IsRingPassed words h past before → IsRingPassed words h past later × ((known_now h past).stopped ≡ false)) →
+  pub goes_refused : (before later : RingPass B M) (id : ℕ) → ((h : Header) (past : List Row) → IsRingPassed words h past before → IsRingPassed words h past later × ((known_now h past).stopped ≡ false)) →
       (e : step.StepFault) →
       steps.IfRefused e (λ c. (c ≡ BadFree) × ((k : Known) (memory : ℕ → ℕ) → FollowsTrace later.header k later.record memory → DriverKeeps later.header k → is_bad_free later.header k id ≡ true)) →
-      steps.IfRefused e (λ c. (h : Header) (past : List TraceRow) → IsRingPassed words h past before → IsLeastOfRow (header_now h past) (known_now h past) (Goes id) c)
+      steps.IfRefused e (λ c. (h : Header) (past : List Row) → IsRingPassed words h past before → IsLeastOfRow (header_now h past) (known_now h past) (FreeRow id) c)
   goes_refused before later id still (variants.Refused c) bad = λ h past p.
       let g = header_now h past in
       let k = known_now h past in
       let q = (still h past p).0 in
       let on = (still h past p).1 in
-      subst (λ (x : Refusal). IsLeastOfRow g k (Goes id) x) (sym bad.0)
-      (least_broken k BadFree (is_bad_free g k id) on (subst (λ (x : Header). is_bad_free x k id ≡ true) q.header (bad.1 k (words later.memory) q.tracked.follows (q.tracked.keeps on))))
+      subst (λ (x : Refusal). IsLeastOfRow g k (FreeRow id) x) (sym bad.0)
+      (least_broken k _ BadFree (is_bad_free g k id) (going_alone g k id) on (subst (λ (x : Header). is_bad_free x k id ≡ true) q.header (bad.1 k (words later.memory) q.tracked.follows (q.tracked.keeps on))))
   goes_refused before later id still variants.Memory bad = tt
 
   -- a descriptor that is refused
-  pub withdrawn_refused : (before later : RingPass B M) (r q : ℕ) → ((h : Header) (past : List TraceRow) → IsRingPassed words h past before → IsRingPassed words h past later × ((known_now h past).stopped ≡ false)) →
+  pub withdrawn_refused : (before later : RingPass B M) (r q : ℕ) → ((h : Header) (past : List Row) → IsRingPassed words h past before → IsRingPassed words h past later × ((known_now h past).stopped ≡ false)) →
       (e : step.StepFault) →
       steps.IfRefused e (λ c. (c ≡ BadWithdraw) × ((k : Known) → FollowsTrace later.header k later.record (words later.memory) → DriverKeeps later.header k → ContextsFit later.header k → withdraws_badly later.header k r q ≡ true)) →
-      steps.IfRefused e (λ c. (h : Header) (past : List TraceRow) → IsRingPassed words h past before → IsLeastOfRow (header_now h past) (known_now h past) (Withdraws r q) c)
+      steps.IfRefused e (λ c. (h : Header) (past : List Row) → IsRingPassed words h past before → IsLeastOfRow (header_now h past) (known_now h past) (NopRow r q) c)
   withdrawn_refused before later r q still (variants.Refused c) bad = λ h past p.
       let g = header_now h past in
       let k = known_now h past in
       let l = (still h past p).0 in
       let on = (still h past p).1 in
       let keeps = l.tracked.keeps on in
-      subst (λ (x : Refusal). IsLeastOfRow g k (Withdraws r q) x) (sym bad.0)
-      (least_broken k BadWithdraw (withdraws_badly g k r q) on
+      subst (λ (x : Refusal). IsLeastOfRow g k (NopRow r q) x) (sym bad.0)
+      (least_broken k _ BadWithdraw (withdraws_badly g k r q) (withdrawing_alone g k r q) on
       (subst (λ (x : Header). withdraws_badly x k r q ≡ true) l.header (bad.1 k l.tracked.follows keeps (contexts_fit later.header k keeps))))
   withdrawn_refused before later r q still variants.Memory bad = tt

@@ -3,25 +3,24 @@ use Rattle.std.specs.Prelude.{◌≡◌, ◌≤◌, ℕ, Bool, true, false, List
 use Rattle.segments.specs.RingKeeps.{IsRestored}
 use Rattle.segments.specs.Walk.{WalkReads}
 use Rattle.traces.specs.declared.header.Header.{Header}
-use Rattle.traces.specs.declared.trace_row.TraceRow.{TraceRow}
+use Rattle.traces.specs.declared.row.Row.{Row}
 use Rattle.traces.specs.Header.{shape_of}
 use Rattle.trace_reader.specs.Reading.{TraceText}
 use Rattle.ring_knowledge.specs.declared.lease.Lease.{Lease}
 use Rattle.safety.specs.RingsKeep.{IsDriverRing}
-use Rattle.leases.specs.LeaseBooks.Lents.{lease_of}
-use Rattle.safety.specs.RingChanges.Histories.{header_now, known_now}
-use Rattle.leases.specs.RingLeases.RingLents.{ring_lents}
+use Rattle.leases.specs.LeaseBooks.Lents.{lease_of, lents}
+use Rattle.ring_knowledge.specs.Histories.{header_now, known_now}
 use Rattle.safety.specs.Harmless.{DoNoHarm}
-use Rattle.ownership_checker.specs.RingPasses.Rules.{ring_verdict}
+use Rattle.ownership_rules.specs.Rules.{trace_verdict}
 
 -- the leases of the rows, as they begin: by their first row, then kind, ring and position; first is the number of the first row
-abbrev pub leases_of : Header → ℕ → List TraceRow → List Lease
-leases_of h first rows = map lease_of (ring_lents h first (reverse rows))
+abbrev pub leases_of : Header → ℕ → List Row → List Lease
+leases_of h first rows = map lease_of (lents h first (reverse rows))
 
 -- behind any number of rows, of each command and transfer ring that is there then, and of which nothing that was withdrawn is the driver's still:
 -- the walk through memory from the floor's spot reads whole descriptors as they were declared, up to one border, and waits there; it reads no
 -- Link that wasn't given, and nothing outside the ring
-abbrev pub WalksRead : Header → List TraceRow → Type 0
+abbrev pub WalksRead : Header → List Row → Type 0
 WalksRead h rows =
     (done r : ℕ) → done ≤ length rows → IsDriverRing (header_now h (reverse (take done rows))) r →
     IsRestored ((known_now h (reverse (take done rows))).ring r) →
@@ -29,7 +28,7 @@ WalksRead h rows =
 
 -- a trace is accepted with these leases: no row breaks a rule, and they are its leases
 pub record IsAccepted (trace : TraceText) (leases : List Lease) : Type 0 where
-  pub verdict : ring_verdict trace.header trace.first trace.rows ≡ None
+  pub verdict : trace_verdict trace.header trace.first trace.rows ≡ None
   pub certified : leases ≡ leases_of trace.header trace.first trace.rows
 
 -- a trace is accepted with these leases; a walk behind any of its rows reads what was declared; and no run of the controller's model beside

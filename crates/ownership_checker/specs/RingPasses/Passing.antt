@@ -2,17 +2,16 @@
 use Rattle.std.specs.Prelude.{◌≡◌, ℕ, false, List, length}
 use Rattle.segments.specs.RingKeeps.{IsRestored}
 use Rattle.traces.specs.declared.header.Header.{Header}
-use Rattle.traces.specs.declared.trace_row.TraceRow.{TraceRow}
+use Rattle.traces.specs.declared.row.Row.{Row}
 use Rattle.traces.specs.Header.{IsHeader}
 use Rattle.ring_knowledge.specs.Known.{Known}
 use Rattle.trace_record.specs.RingFinder.Finding.{IsFinder}
-use Rattle.safety.specs.RingChanges.Histories.{header_now, known_now}
+use Rattle.ring_knowledge.specs.Histories.{header_now, known_now}
 use Rattle.trace_record.specs.Fresh.{IsWithin}
 use Rattle.ownership_checker.specs.JudgedRows.Tracking.{IsTracked}
-use Rattle.leases.specs.LeaseBooks.Lents.{Lent}
+use Rattle.leases.specs.LeaseBooks.Lents.{Lent, lents}
 use Rattle.leases.specs.LeaseRows.CleanRows.{HoldsAll}
 use Rattle.leases.specs.LeaseRows.LeftBehind.{EntriesFit}
-use Rattle.leases.specs.RingLeases.RingLents.{ring_lents}
 use Rattle.ownership_checker.specs.RingPasses.Clean.{AreClean}
 use Rattle.ownership_checker.specs.declared.pass.ring_pass.RingPass.{RingPass}
 
@@ -22,7 +21,7 @@ NothingFree k = (r : ℕ) → IsRestored (k.ring r)
 
 -- the rows so far, the newest first, break no rule; the header is that of the rings that are there behind them, and the record and the
 -- memory hold what is known then; `h` is the header before the first
-pub record IsRingPassed {B M : Type 0} (words : M → ℕ → ℕ) (h : Header) (past : List TraceRow) (pass : RingPass B M) : Type 0 where
+pub record IsRingPassed {B M : Type 0} (words : M → ℕ → ℕ) (h : Header) (past : List Row) (pass : RingPass B M) : Type 0 where
   pub opening : IsHeader h
   pub header : pass.header ≡ header_now h past
   pub headed : IsHeader pass.header
@@ -35,5 +34,5 @@ pub record IsRingPassed {B M : Type 0} (words : M → ℕ → ℕ) (h : Header) 
 
 -- the log keeps the leases of the rows so far, the newest first, and the indexes find the ranges among them; `first` is the number of the
 -- oldest row
-abbrev pub IsRingLogged : {B M : Type 0} → (Header → List Lent → B → Type 0) → Header → ℕ → List TraceRow → RingPass B M → Type 0
-IsRingLogged Holds h first past pass = HoldsAll Holds (header_now h past) (ring_lents h first past) pass.log pass.ranges
+abbrev pub IsRingLogged : {B M : Type 0} → (Header → List Lent → B → Type 0) → Header → ℕ → List Row → RingPass B M → Type 0
+IsRingLogged Holds h first past pass = HoldsAll Holds (header_now h past) (lents h first past) pass.log pass.ranges

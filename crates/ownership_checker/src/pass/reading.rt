@@ -1,13 +1,13 @@
 ghost use Rattle.trace_record.specs.declared.fault.StepFault.TheVariants.{Refused};
 ghost use Rattle.std.specs.Prelude.{◌≡◌, ℕ, Bool, List, Option, Some, Ok, ◌++◌, IfErr, IfOk, OnOk};
-ghost use Rattle.traces.specs.declared.trace_row.TraceRow.{TraceRow};
+ghost use Rattle.traces.specs.declared.row.Row.{Row};
 ghost use Rattle.ring_knowledge.specs.declared.lease.Lease.{Lease};
 ghost use Rattle.trace_reader.specs.Streaming.Answers.{told_failures};
 ghost use Rattle.trace_reader.specs.Streaming.ReaderState.{IsOpened, keeps_rows};
 ghost use Rattle.trace_reader.specs.Streaming.Streams.{HasRead, IfBadLine, IsBadLine, OfStream};
 ghost use Rattle.trace_reader.specs.Reading.{trace_of};
 ghost use Rattle.ownership_checker.specs.RingPasses.Reading.{Begins, IfRefusedRow, IfWhole, IsWholeLog, OfTrace, with_rows};
-ghost use Rattle.ownership_checker.specs.RingPasses.Rules.{ring_verdict};
+ghost use Rattle.ownership_rules.specs.Rules.{trace_verdict};
 
 use crate::pass::ring_pass::RingPass;
 use guest_memory::WordMemory;
@@ -16,7 +16,7 @@ use ownership_rules::Refusal;
 use std::alloc::Global;
 use trace_reader::{RowReader, Source, StreamFault};
 use trace_record::StepFault;
-use traces::TraceRow;
+use traces::Row;
 
 /// What a pass over the rows of a trace comes to.
 #[derive(Drop)]
@@ -40,7 +40,7 @@ pub fn pass_rows<S: Source, B: LeaseLog + Drop, M: WordMemory + Drop>(
     ensures whole { IfOk result (λ passed. IfWhole passed (λ kept. (keeps : Bool) (held : Option (List ℕ)) (list : List Lease) → IsOpened keeps held (S.held source.old) (Ok reader) →
         Begins (B.holds list) reader log → OfTrace keeps held (S.held source.new) (λ trace. IsWholeLog (B.holds list) trace kept))) }
     ensures refused { IfOk result (λ passed. IfRefusedRow passed (λ row c. (keeps : Bool) (held : Option (List ℕ)) → IsOpened keeps held (S.held source.old) (Ok reader) →
-        OfTrace keeps held (S.held source.new) (λ trace. ring_verdict trace.header trace.first trace.rows ≡ Some (row, c)))) }
+        OfTrace keeps held (S.held source.new) (λ trace. trace_verdict trace.header trace.first trace.rows ≡ Some (row, c)))) }
     ensures line { IfErr result (λ e. IfBadLine e (λ line fault. (keeps : Bool) (held : Option (List ℕ)) → IsOpened keeps held (S.held source.old) (Ok reader) →
         IsBadLine keeps held (S.held source.new) line fault)) }
     ensures failures { S.failed source.new ≡ told_failures (S.failed source.old) result }
@@ -49,25 +49,9 @@ pub fn pass_rows<S: Source, B: LeaseLog + Drop, M: WordMemory + Drop>(
     let header = reader.header().copy(alloc)?;
     let mut pass = RingPass::new(alloc, header, log, memory)?;
     while let Some((number, row)) = reader.next_row(source)? {
-        match row {
-            TraceRow::Plain(row) => match pass.driver_row(number, &row) {
-                Ok(()) => drop(row),
-                Err(fault) => return ended_at(&mut reader, source, number, fault),
-            },
-            TraceRow::Comes(ring) => match pass.ring_comes(ring.into_ring()) {
-                Ok(()) => {}
-                Err(fault) => return ended_at(&mut reader, source, number, fault),
-            },
-            TraceRow::Goes(id) => match pass.ring_goes(number, id) {
-                Ok(()) => {}
-                Err(fault) => return ended_at(&mut reader, source, number, fault),
-            },
-            TraceRow::Withdraws { ring, position } => {
-                match pass.descriptor_withdrawn(number, ring, position) {
-                    Ok(()) => {}
-                    Err(fault) => return ended_at(&mut reader, source, number, fault),
-                }
-            }
+        match pass.row(number, &row) {
+            Ok(()) => drop(row),
+            Err(fault) => return ended_at(&mut reader, source, number, fault),
         }
     }
     Ok(Passed::Whole(pass.into_log()))
@@ -83,9 +67,9 @@ fn ended_at<S: Source, B: Drop>(
 ) -> Result<Passed<B>, StreamFault>
     ensures whole { IfOk result (λ passed. IfWhole passed (λ kept. ⊥)) }
     ensures refused { IfOk result (λ passed. IfRefusedRow passed (λ row c. (row ≡ number) × (fault ≡ Refused c) ×
-        ((held : Option (List ℕ)) (first : ℕ) (done : List TraceRow) → HasRead held (S.held source.old) first done reader.old →
-        (more : List TraceRow) × OfStream held (S.held source.new) (λ text. trace_of (keeps_rows reader.old) text ≡ Ok (with_rows reader.old first (done ++ more)))))) }
-    ensures line { IfErr result (λ e. IfBadLine e (λ line fault. (held : Option (List ℕ)) (first : ℕ) (done : List TraceRow) → HasRead held (S.held source.old) first done reader.old →
+        ((held : Option (List ℕ)) (first : ℕ) (done : List Row) → HasRead held (S.held source.old) first done reader.old →
+        (more : List Row) × OfStream held (S.held source.new) (λ text. trace_of (keeps_rows reader.old) text ≡ Ok (with_rows reader.old first (done ++ more)))))) }
+    ensures line { IfErr result (λ e. IfBadLine e (λ line fault. (held : Option (List ℕ)) (first : ℕ) (done : List Row) → HasRead held (S.held source.old) first done reader.old →
         IsBadLine (keeps_rows reader.old) held (S.held source.new) line fault)) }
     ensures failures { S.failed source.new ≡ told_failures (S.failed source.old) result }
 {
@@ -103,9 +87,9 @@ fn ended_at<S: Source, B: Drop>(
 
 /// Reads the rows that are left, for a bad line among theirs.
 fn read_on<S: Source>(reader: &mut RowReader, source: &mut S) -> Result<(), StreamFault>
-    ensures rows { OnOk result ((held : Option (List ℕ)) (first : ℕ) (done : List TraceRow) → HasRead held (S.held source.old) first done reader.old →
-        (more : List TraceRow) × OfStream held (S.held source.new) (λ text. trace_of (keeps_rows reader.old) text ≡ Ok (with_rows reader.old first (done ++ more)))) }
-    ensures line { IfErr result (λ e. IfBadLine e (λ line fault. (held : Option (List ℕ)) (first : ℕ) (done : List TraceRow) → HasRead held (S.held source.old) first done reader.old →
+    ensures rows { OnOk result ((held : Option (List ℕ)) (first : ℕ) (done : List Row) → HasRead held (S.held source.old) first done reader.old →
+        (more : List Row) × OfStream held (S.held source.new) (λ text. trace_of (keeps_rows reader.old) text ≡ Ok (with_rows reader.old first (done ++ more)))) }
+    ensures line { IfErr result (λ e. IfBadLine e (λ line fault. (held : Option (List ℕ)) (first : ℕ) (done : List Row) → HasRead held (S.held source.old) first done reader.old →
         IsBadLine (keeps_rows reader.old) held (S.held source.new) line fault)) }
     ensures failures { S.failed source.new ≡ told_failures (S.failed source.old) result }
 {

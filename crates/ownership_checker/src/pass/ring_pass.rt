@@ -1,24 +1,23 @@
 //! A pass over rows between which rings come and go, and descriptors are withdrawn.
 ghost use Rattle.std.specs.Prelude.{◌≡◌, ◌+◌, ◌<◌, ◌≤◌, ℕ, true, false, [], ◌∷◌, List, All, length, map, reverse, IfErr, IfOk, OnOk};
 ghost use Rattle.trb.specs.declared.ring_kind.RingKind.TheVariants.{Xfer};
-ghost use Rattle.traces.specs.Header.{IsHeader};
+ghost use Rattle.traces.specs.Header.{IsHeader, ring_with};
 ghost use Rattle.traces.specs.Limits.{most_streamed_lines};
 ghost use Rattle.traces.specs.declared.header.Header.{Header};
-ghost use Rattle.traces.specs.declared.row.Row.TheVariants.{Read};
-ghost use Rattle.traces.specs.declared.trace_row.TraceRow.{TraceRow};
-ghost use Rattle.traces.specs.declared.trace_row.TraceRow.TheVariants.{Plain, Comes, Goes};
-ghost use Rattle.traces.specs.Header.{ring_with};
+ghost use Rattle.traces.specs.declared.row.Row.TheVariants.{Read, Ring as RingRow, Free as FreeRow};
+ghost use Rattle.traces.specs.declared.row.Row.{Row};
 ghost use Rattle.ring_knowledge.specs.declared.lease.Lease.{Lease};
 ghost use Rattle.ring_knowledge.specs.Known.{Known};
 ghost use Rattle.trace_record.specs.RingFinder.Finding.{IsFinder};
 ghost use Rattle.ownership_rules.specs.Leases.{without_end};
-ghost use Rattle.safety.specs.EndpointsKeep.{is_transfer_ring};
+ghost use Rattle.ownership_rules.specs.Rings.{is_transfer_ring};
 ghost use Rattle.leases.specs.LeaseBooks.InStep.{AreOpen};
 ghost use Rattle.leases.specs.LeaseBooks.Lents.{Lent, ended_where, lents};
-ghost use Rattle.leases.specs.RingLeases.RingLents.{is_of_ring, ring_lents};
+ghost use Rattle.leases.specs.RingLeases.RingLents.{is_of_ring};
 ghost use Rattle.trace_record.specs.FollowsTrace.{FollowsTrace};
 ghost use Rattle.safety.specs.Harmless.{DoNoHarm};
-ghost use Rattle.safety.specs.RingChanges.Histories.{FitsFields, header_now, known_now};
+ghost use Rattle.traces.specs.Rows.{IsRow, is_ring_row};
+ghost use Rattle.ring_knowledge.specs.Histories.{header_now, known_now};
 ghost use Rattle.trace_record.specs.Steps.{IfRefused};
 ghost use Rattle.trace_record.specs.RowPlaces.{IsPlaced};
 ghost use Rattle.ownership_checker.specs.RingPasses.Clean.{IsLeastOfRow};
@@ -87,19 +86,20 @@ impl<B: LeaseLog + Drop, M: WordMemory + Drop> RingPass<B, M> {
         })
     }
 
-    /// Checks what the driver did, or an event that it read, and notes it and its leases.
+    /// Checks one row more by its kind, and notes it and its leases.
     #[inline(always)]
-    pub fn driver_row(&mut self, number: u32, row: &Row) -> Result<(), StepFault>
-        requires so_far { (h : Header) × (past : List TraceRow) × IsRingPassed M.words h past self.old × (length past ≤ most_streamed_lines) }
-        ensures passed { OnOk result ((h : Header) (past : List TraceRow) → IsRingPassed M.words h past self.old → IsRingPassed M.words h (Plain row.now ∷ past) self.new) }
-        ensures logged { OnOk result ((list : List Lease) (h : Header) (first : ℕ) (past : List TraceRow) → IsRingPassed M.words h past self.old →
+    pub fn row(&mut self, number: u32, row: &Row) -> Result<(), StepFault>
+        requires so_far { (h : Header) × (past : List Row) × IsRingPassed M.words h past self.old × (length past ≤ most_streamed_lines) }
+        requires fits { IsRow row.now }
+        ensures passed { OnOk result ((h : Header) (past : List Row) → IsRingPassed M.words h past self.old → IsRingPassed M.words h (row.now ∷ past) self.new) }
+        ensures logged { OnOk result ((list : List Lease) (h : Header) (first : ℕ) (past : List Row) → IsRingPassed M.words h past self.old →
             number ≡ first + length past → first + length past < without_end →
-            IsRingLogged (B.holds list) h first past self.old → IsRingLogged (B.holds list) h first (Plain row.now ∷ past) self.new) }
-        ensures refused { IfErr result (λ e. IfRefused e (λ c. (h : Header) (past : List TraceRow) → IsRingPassed M.words h past self.old →
-            IsLeastOfRow (header_now h past) (known_now h past) (Plain row.now) c)) }
+            IsRingLogged (B.holds list) h first past self.old → IsRingLogged (B.holds list) h first (row.now ∷ past) self.new) }
+        ensures refused { IfErr result (λ e. IfRefused e (λ c. (h : Header) (past : List Row) → IsRingPassed M.words h past self.old →
+            IsLeastOfRow (header_now h past) (known_now h past) row.now c)) }
     {
-        if self.has_withdrawn {
-            return self.row_behind_withdrawals(number, row);
+        if self.has_withdrawn || is_of_ring(row) {
+            return self.rare_row(number, row);
         }
         match row {
             Row::Write { at, word } => {
@@ -116,17 +116,39 @@ impl<B: LeaseLog + Drop, M: WordMemory + Drop> RingPass<B, M> {
         }
     }
 
+    /// The same of a row by which a ring comes or goes or a descriptor is withdrawn, or of any behind one that was. It stays apart, so that
+    /// nothing is kept of it where other rows go inline.
+    #[inline(never)]
+    fn rare_row(&mut self, number: u32, row: &Row) -> Result<(), StepFault>
+        requires so_far { (h : Header) × (past : List Row) × IsRingPassed M.words h past self.old × (length past ≤ most_streamed_lines) }
+        requires fits { IsRow row.now }
+        requires rare { is_ring_row row.now ≡ false → self.old.has_withdrawn ≡ true }
+        ensures passed { OnOk result ((h : Header) (past : List Row) → IsRingPassed M.words h past self.old → IsRingPassed M.words h (row.now ∷ past) self.new) }
+        ensures logged { OnOk result ((list : List Lease) (h : Header) (first : ℕ) (past : List Row) → IsRingPassed M.words h past self.old →
+            number ≡ first + length past → first + length past < without_end →
+            IsRingLogged (B.holds list) h first past self.old → IsRingLogged (B.holds list) h first (row.now ∷ past) self.new) }
+        ensures refused { IfErr result (λ e. IfRefused e (λ c. (h : Header) (past : List Row) → IsRingPassed M.words h past self.old →
+            IsLeastOfRow (header_now h past) (known_now h past) row.now c)) }
+    {
+        match row {
+            Row::Ring { ring } => self.ring_comes(ring.as_ring().copy()?),
+            Row::Free { ring: id } => self.ring_goes(number, *id),
+            Row::Nop { ring, position } => { self.descriptor_withdrawn(number, *ring, *position) }
+            _ => self.row_behind_withdrawals(number, row),
+        }
+    }
+
     /// The same of a Command Completion Event, where nothing was withdrawn. It stays apart, so that writes and other rows go inline.
     #[inline(never)]
     fn completion_row(&mut self, number: u32, event: Block) -> Result<(), StepFault>
         requires unwithdrawn { self.old.has_withdrawn ≡ false }
-        requires so_far { (h : Header) × (past : List TraceRow) × IsRingPassed M.words h past self.old × (length past ≤ most_streamed_lines) }
-        ensures passed { OnOk result ((h : Header) (past : List TraceRow) → IsRingPassed M.words h past self.old → IsRingPassed M.words h (Plain (Read event) ∷ past) self.new) }
-        ensures logged { OnOk result ((list : List Lease) (h : Header) (first : ℕ) (past : List TraceRow) → IsRingPassed M.words h past self.old →
+        requires so_far { (h : Header) × (past : List Row) × IsRingPassed M.words h past self.old × (length past ≤ most_streamed_lines) }
+        ensures passed { OnOk result ((h : Header) (past : List Row) → IsRingPassed M.words h past self.old → IsRingPassed M.words h ((Read event) ∷ past) self.new) }
+        ensures logged { OnOk result ((list : List Lease) (h : Header) (first : ℕ) (past : List Row) → IsRingPassed M.words h past self.old →
             number ≡ first + length past → first + length past < without_end →
-            IsRingLogged (B.holds list) h first past self.old → IsRingLogged (B.holds list) h first (Plain (Read event) ∷ past) self.new) }
-        ensures refused { IfErr result (λ e. IfRefused e (λ c. (h : Header) (past : List TraceRow) → IsRingPassed M.words h past self.old →
-            IsLeastOfRow (header_now h past) (known_now h past) (Plain (Read event)) c)) }
+            IsRingLogged (B.holds list) h first past self.old → IsRingLogged (B.holds list) h first ((Read event) ∷ past) self.new) }
+        ensures refused { IfErr result (λ e. IfRefused e (λ c. (h : Header) (past : List Row) → IsRingPassed M.words h past self.old →
+            IsLeastOfRow (header_now h past) (known_now h past) (Read event) c)) }
     {
         let row = Row::Read { event };
         let place = self.record.place(&self.header, &self.finder, &row);
@@ -137,16 +159,17 @@ impl<B: LeaseLog + Drop, M: WordMemory + Drop> RingPass<B, M> {
     #[inline(always)]
     fn placed_row(&mut self, number: u32, row: &Row, place: &RowPlace) -> Result<(), StepFault>
         requires unwithdrawn { self.old.has_withdrawn ≡ false }
-        requires so_far { (h : Header) × (past : List TraceRow) × IsRingPassed M.words h past self.old × (length past ≤ most_streamed_lines) }
-        ensures passed { OnOk result ((h : Header) (past : List TraceRow) → IsRingPassed M.words h past self.old → IsPlaced self.old.header (known_now h past) row.now place.now →
-            IsRingPassed M.words h (Plain row.now ∷ past) self.new) }
-        ensures logged { OnOk result ((list : List Lease) (h : Header) (first : ℕ) (past : List TraceRow) → IsRingPassed M.words h past self.old →
+        requires so_far { (h : Header) × (past : List Row) × IsRingPassed M.words h past self.old × (length past ≤ most_streamed_lines) }
+        requires driven { is_ring_row row.now ≡ false }
+        ensures passed { OnOk result ((h : Header) (past : List Row) → IsRingPassed M.words h past self.old → IsPlaced self.old.header (known_now h past) row.now place.now →
+            IsRingPassed M.words h (row.now ∷ past) self.new) }
+        ensures logged { OnOk result ((list : List Lease) (h : Header) (first : ℕ) (past : List Row) → IsRingPassed M.words h past self.old →
             IsPlaced self.old.header (known_now h past) row.now place.now →
             number ≡ first + length past → first + length past < without_end →
-            IsRingLogged (B.holds list) h first past self.old → IsRingLogged (B.holds list) h first (Plain row.now ∷ past) self.new) }
-        ensures refused { IfErr result (λ e. IfRefused e (λ c. (h : Header) (past : List TraceRow) → IsRingPassed M.words h past self.old →
+            IsRingLogged (B.holds list) h first past self.old → IsRingLogged (B.holds list) h first (row.now ∷ past) self.new) }
+        ensures refused { IfErr result (λ e. IfRefused e (λ c. (h : Header) (past : List Row) → IsRingPassed M.words h past self.old →
             IsPlaced self.old.header (known_now h past) row.now place.now →
-            IsLeastOfRow (header_now h past) (known_now h past) (Plain row.now) c)) }
+            IsLeastOfRow (header_now h past) (known_now h past) row.now c)) }
     {
         note_row(
             &mut self.log,
@@ -171,15 +194,15 @@ impl<B: LeaseLog + Drop, M: WordMemory + Drop> RingPass<B, M> {
 
     /// Checks a transfer ring that comes, and takes it up. No lease begins or ends (xHCI 4.9).
     #[inline(never)]
-    pub fn ring_comes(&mut self, ring: Ring) -> Result<(), StepFault>
-        requires so_far { (h : Header) × (past : List TraceRow) × IsRingPassed M.words h past self.old }
+    fn ring_comes(&mut self, ring: Ring) -> Result<(), StepFault>
+        requires so_far { (h : Header) × (past : List Row) × IsRingPassed M.words h past self.old }
         requires transfers { ring.shape.kind ≡ Xfer }
-        ensures passed { OnOk result ((h : Header) (past : List TraceRow) → IsRingPassed M.words h past self.old → IsRingPassed M.words h (Comes ring ∷ past) self.new) }
-        ensures logged { OnOk result ((list : List Lease) (h : Header) (first : ℕ) (past : List TraceRow) → IsRingPassed M.words h past self.old →
+        ensures passed { OnOk result ((h : Header) (past : List Row) → IsRingPassed M.words h past self.old → IsRingPassed M.words h (RingRow ring ∷ past) self.new) }
+        ensures logged { OnOk result ((list : List Lease) (h : Header) (first : ℕ) (past : List Row) → IsRingPassed M.words h past self.old →
             first + length past < without_end →
-            IsRingLogged (B.holds list) h first past self.old → IsRingLogged (B.holds list) h first (Comes ring ∷ past) self.new) }
-        ensures refused { IfErr result (λ e. IfRefused e (λ c. (h : Header) (past : List TraceRow) → IsRingPassed M.words h past self.old →
-            IsLeastOfRow (header_now h past) (known_now h past) (Comes ring) c)) }
+            IsRingLogged (B.holds list) h first past self.old → IsRingLogged (B.holds list) h first (RingRow ring ∷ past) self.new) }
+        ensures refused { IfErr result (λ e. IfRefused e (λ c. (h : Header) (past : List Row) → IsRingPassed M.words h past self.old →
+            IsLeastOfRow (header_now h past) (known_now h past) (RingRow ring) c)) }
     {
         if self.record.registers.is_stopped() {
             return Err(StepFault::Refused(Refusal::AfterStop));
@@ -197,14 +220,14 @@ impl<B: LeaseLog + Drop, M: WordMemory + Drop> RingPass<B, M> {
 
     /// Checks a ring that goes, ends the leases of its blocks and Links, and forgets it (xHCI 4.9).
     #[inline(never)]
-    pub fn ring_goes(&mut self, number: u32, id: u8) -> Result<(), StepFault>
-        requires so_far { (h : Header) × (past : List TraceRow) × IsRingPassed M.words h past self.old }
-        ensures passed { OnOk result ((h : Header) (past : List TraceRow) → IsRingPassed M.words h past self.old → IsRingPassed M.words h (Goes id ∷ past) self.new) }
-        ensures logged { OnOk result ((list : List Lease) (h : Header) (first : ℕ) (past : List TraceRow) → IsRingPassed M.words h past self.old →
+    fn ring_goes(&mut self, number: u32, id: u8) -> Result<(), StepFault>
+        requires so_far { (h : Header) × (past : List Row) × IsRingPassed M.words h past self.old }
+        ensures passed { OnOk result ((h : Header) (past : List Row) → IsRingPassed M.words h past self.old → IsRingPassed M.words h (FreeRow id ∷ past) self.new) }
+        ensures logged { OnOk result ((list : List Lease) (h : Header) (first : ℕ) (past : List Row) → IsRingPassed M.words h past self.old →
             number ≡ first + length past → first + length past < without_end →
-            IsRingLogged (B.holds list) h first past self.old → IsRingLogged (B.holds list) h first (Goes id ∷ past) self.new) }
-        ensures refused { IfErr result (λ e. IfRefused e (λ c. (h : Header) (past : List TraceRow) → IsRingPassed M.words h past self.old →
-            IsLeastOfRow (header_now h past) (known_now h past) (Goes id) c)) }
+            IsRingLogged (B.holds list) h first past self.old → IsRingLogged (B.holds list) h first (FreeRow id ∷ past) self.new) }
+        ensures refused { IfErr result (λ e. IfRefused e (λ c. (h : Header) (past : List Row) → IsRingPassed M.words h past self.old →
+            IsLeastOfRow (header_now h past) (known_now h past) (FreeRow id) c)) }
     {
         if self.record.registers.is_stopped() {
             return Err(StepFault::Refused(Refusal::AfterStop));
@@ -276,18 +299,18 @@ impl<B: LeaseLog + Drop, M: WordMemory + Drop> RingPass<B, M> {
 
     /// The log of the rows so far. No run of the controller's model beside them does harm.
     pub fn into_log(self) -> B
-        ensures harmless { (h : Header) (past : List TraceRow) → IsRingPassed M.words h past self → All FitsFields past → DoNoHarm h (reverse past) }
-        ensures logged { (list : List Lease) (h : Header) (first : ℕ) (past : List TraceRow) → IsRingLogged (B.holds list) h first past self →
-            B.holds list (header_now h past) (ring_lents h first past) result }
+        ensures harmless { (h : Header) (past : List Row) → IsRingPassed M.words h past self → All IsRow past → DoNoHarm h (reverse past) }
+        ensures logged { (list : List Lease) (h : Header) (first : ℕ) (past : List Row) → IsRingLogged (B.holds list) h first past self →
+            B.holds list (header_now h past) (lents h first past) result }
     {
         self.log
     }
 
     /// What is known behind the rows so far, and the log of their leases.
     pub fn into_behind(self) -> Behind<B, M>
-        ensures behind { (h : Header) (past : List TraceRow) → IsRingPassed M.words h past self → IsBehind M.words h past result }
-        ensures logged { (list : List Lease) (h : Header) (first : ℕ) (past : List TraceRow) → IsRingLogged (B.holds list) h first past self →
-            B.holds list (header_now h past) (ring_lents h first past) result.log }
+        ensures behind { (h : Header) (past : List Row) → IsRingPassed M.words h past self → IsBehind M.words h past result }
+        ensures logged { (list : List Lease) (h : Header) (first : ℕ) (past : List Row) → IsRingLogged (B.holds list) h first past self →
+            B.holds list (header_now h past) (lents h first past) result.log }
     {
         Behind {
             header: self.header,
@@ -296,4 +319,12 @@ impl<B: LeaseLog + Drop, M: WordMemory + Drop> RingPass<B, M> {
             log: self.log,
         }
     }
+}
+
+/// A ring comes or goes by the row, or a descriptor is withdrawn.
+#[inline(always)]
+fn is_of_ring(row: &Row) -> bool
+    ensures { result ≡ is_ring_row row.now }
+{
+    matches!(row, Row::Ring { .. } | Row::Free { .. } | Row::Nop { .. })
 }

@@ -2,6 +2,7 @@
 ghost use Rattle.std.specs.Prelude.{◌≡◌, ◌+◌, ℕ, false, length, None, IfErr, OnOk};
 ghost use Rattle.traces.specs.Header.{IsHeader};
 ghost use Rattle.traces.specs.Limits.{most_streamed_lines};
+ghost use Rattle.traces.specs.Rows.{is_ring_row};
 ghost use Rattle.traces.specs.declared.row.Row.TheVariants.{Bell, Write};
 ghost use Rattle.ring_knowledge.specs.Known.{Known};
 ghost use Rattle.trace_record.specs.RingFinder.Finding.{IsFinder};
@@ -25,7 +26,7 @@ use traces::{Header, Row};
 
 /// Checks a row, and notes it. `place` is where the word lies that it writes, and the command that it gives or ends.
 #[inline(always)]
-pub fn check_row<M: WordMemory>(
+pub(crate) fn check_row<M: WordMemory>(
     header: &Header,
     finder: &Finder,
     kept: &mut TraceRecord,
@@ -37,6 +38,7 @@ pub fn check_row<M: WordMemory>(
     requires found { IsFinder header.now.rings finder.now }
     requires as_many { length kept.now.rings.items ≡ length header.now.rings }
     requires few_reads { IsWithin kept.now.events most_streamed_lines }
+    requires driven { is_ring_row row.now ≡ false }
     ensures ok { OnOk result ((k : Known) → IsTracked header.now k kept.old (M.words memory.old) →
         IsPlaced header.now k row.now place.now → IsRowStep header.now k row.now kept.new (M.words memory.new)) }
     ensures refused { IfErr result (λ e. IfRefused e (λ c. (k : Known) → IsTracked header.now k kept.old (M.words memory.old) →
@@ -68,6 +70,7 @@ pub fn check_row<M: WordMemory>(
         ),
         Row::Bell { slot, target } => check_doorbell(header, finder, kept, memory, *slot, *target),
         Row::Read { event } => check_event(header, finder, kept, memory, *event, place),
+        Row::Ring { .. } | Row::Free { .. } | Row::Nop { .. } => Ok(()),
     }
 }
 

@@ -1,5 +1,5 @@
 -- The notes of rows need of each ring what the rows need
-use Rattle.replayer.proofs.LowerLaws.{◌≡◌, ◌+◌, ◌==◌, ◌&&◌, ◌∷◌, ◌++◌, if◌then◌else◌, ◌∙◌, ℕ, Bool, not, max, List, [], map, Option, refl, sym, ap, arith, append_assoc, Block, BlockKind, CommandCompletion, code, slot, is_command_completion, is_transfer_event, is_success, Header, Row, Read, TraceRow, is_ring, Known, RingSpot, event_at, command_at, next_command, number_behind, is_placed_by, is_placed, begins_anew, number_reported, ends_need, number_needed, need, header_after, known_after, any_notes, post_of, Note, Begun, Made, listed, open_stopped, placed, placed_note, reporting_look, transfer_notes, completing_look, event_notes, row_notes, notes, need_before, need_in, NeedsLaw, has, has_listed, has_placed}
+use Rattle.replayer.proofs.LowerLaws.{◌≡◌, ◌+◌, ◌==◌, ◌&&◌, ◌∷◌, ◌++◌, if◌then◌else◌, ◌∙◌, ℕ, Bool, not, max, List, [], map, Option, refl, sym, ap, arith, append_assoc, Block, BlockKind, CommandCompletion, code, slot, is_command_completion, is_transfer_event, is_success, Header, Row, Read, is_ring, Known, RingSpot, event_at, command_at, next_command, number_behind, is_placed_by, is_placed, begins_anew, number_reported, ends_need, need, header_after, known_after, any_notes, post_of, Note, Begun, Made, listed, open_stopped, placed, placed_note, reporting_look, transfer_notes, completing_look, event_notes, row_notes, notes, need_before, need_in, NeedsLaw, has, has_listed, has_placed}
 
 zero_most : (n : ℕ) → max 0 n ≡ n
 zero_most n = omega arith
@@ -64,12 +64,12 @@ module _ (h : Header) where
       need_in ((if zero then [] else map Begun (listed o)) ++ rest) r ≡ (if not zero && is_ring r o then 0 else max 0 (need_in rest r))
   bell_need zero o rest r = grind (arith, zero_most, begun_need, has_listed)
 
-  any_need : (k : Known) (row : TraceRow) (rest : List Note) (r : ℕ) →
-      need_in (any_notes h k row ++ rest) r ≡ (if ends_need h k r row then 0 else max (number_needed h k r row) (need_in rest r))
-  unfolding any_notes ends_need number_needed need_in need_before row_notes begins_anew number_reported is_placed
+  any_need : (k : Known) (row : Row) (rest : List Note) (r : ℕ) →
+      need_in (any_notes h k row ++ rest) r ≡ (if ends_need h k r row then 0 else max (number_reported h k r row) (need_in rest r))
+  unfolding any_notes ends_need number_reported need_in need_before row_notes begins_anew is_placed
   any_need k row rest r = grind (arith, bell_need, event_need, zero_most)
 
-needs_of : (rows : List TraceRow) (h : Header) (k : Known) (r : ℕ) → need_in (notes h k rows) r ≡ need h k r rows
+needs_of : (rows : List Row) (h : Header) (k : Known) (r : ℕ) → need_in (notes h k rows) r ≡ need h k r rows
 unfolding notes need need_in need_before
 needs_of [] h k r = refl
 needs_of (row ∷ rows) h k r = grind (arith, any_need, needs_of rows (header_after h row) (known_after h k row) r)

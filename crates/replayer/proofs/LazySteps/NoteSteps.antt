@@ -1,10 +1,10 @@
 -- The steps of the notes of one row are those of the lazy schedule before it
-use Rattle.replayer.proofs.MiddleLaws.{rules, arith, ne_eqb, ◌≡◌, ◌+◌, ◌==◌, ◌&&◌, ◌||◌, ◌∷◌, ◌++◌, if◌then◌else◌, ◌∙◌, ℕ, Bool, List, [], map, Option, Some, None, refl, sym, ap, eq-eqb, eqb-true, append_assoc, flat_map, fun_ext, cases_Bool, false≢true, put, Block, BlockKind, CommandCompletion, kind, code, slot, is_command_completion, Spot, Command, Header, Row, Bell, Read, Step, Known, learned, RingSpot, command_at, next_command, is_placed_by, is_placed, need, taken_up_to, command_taken, report_goals, open_goals, stopped_goals, goals, post_of, looks_to, steps_before, brought, pointers_after, Note, Begun, Made, header_behind, rows_behind, any_notes, TraceRow, Plain, header_after, known_after, restored_on, ring_restored, steps_for, pointers_for, if_open, open_stopped, placed, placed_note, reporting_look, transfer_notes, completing_look, event_notes, row_notes, need_before, need_in, with_need, filled, note_goals, note_steps, pointers_behind, steps_of, has, has_placed, placed_need}
+use Rattle.replayer.proofs.MiddleLaws.{rules, arith, ne_eqb, ◌≡◌, ◌+◌, ◌==◌, ◌&&◌, ◌||◌, ◌∷◌, ◌++◌, if◌then◌else◌, ◌∙◌, ℕ, Bool, List, [], map, Option, Some, None, refl, sym, ap, eq-eqb, eqb-true, append_assoc, flat_map, fun_ext, cases_Bool, false≢true, put, Block, BlockKind, CommandCompletion, kind, code, slot, is_command_completion, Spot, Command, Header, Row, Bell, Read, Step, Known, learned, RingSpot, command_at, next_command, is_placed_by, is_placed, need, taken_up_to, command_taken, report_goals, open_goals, stopped_goals, goals, post_of, looks_to, steps_before, brought, pointers_after, Note, Begun, Made, header_behind, rows_behind, any_notes, header_after, known_after, restored_on, ring_restored, steps_for, pointers_for, if_open, open_stopped, placed, placed_note, reporting_look, transfer_notes, completing_look, event_notes, row_notes, need_before, need_in, with_need, filled, note_goals, note_steps, pointers_behind, steps_of, has, has_placed, placed_need}
 
 put_first : (f p : ℕ → Spot) (q r : ℕ) (b : Bool) → (if b then f r else (if r == q then f q else p r)) ≡ (if (q == r) || b then f r else p r)
 put_first f p q r b = grind (arith, cases_Bool, eqb-true, eq-eqb, ne_eqb, false≢true, Bool)
 
-module _ (h : Header) (rows : List TraceRow) where
+module _ (h : Header) (rows : List Row) where
   begun_steps : (p : ℕ → Spot) (l : List ℕ) (rest : List Note) → steps_of h rows p (filled (map Begun l ++ rest)) ≡ steps_of h rows p (filled rest)
   unfolding steps_of filled with_need note_steps note_goals pointers_behind brought header_behind rows_behind
   begun_steps p [] rest = refl
@@ -25,7 +25,7 @@ module _ (h : Header) (rows : List TraceRow) where
   unfolding steps_of note_steps pointers_behind note_goals brought header_behind rows_behind
   look_then p look post rest same to_come = grind (arith, append_assoc)
 
-  module _ (k : Known) (later : List TraceRow) (b : Block) (p : ℕ → Spot) (rest : List Note) (needs : (r : ℕ) → need_in rest r ≡ need h (learned h k (Read b)) r later) where
+  module _ (k : Known) (later : List Row) (b : Block) (p : ℕ → Spot) (rest : List Note) (needs : (r : ℕ) → need_in rest r ≡ need h (learned h k (Read b)) r later) where
     abbrev m : ℕ → ℕ
     m r = need h (learned h k (Read b)) r later
 
@@ -85,16 +85,16 @@ module _ (h : Header) (rows : List TraceRow) where
     unfolding event_notes goals steps_of filled with_need note_steps note_goals pointers_behind brought header_behind rows_behind
     event_steps κ = search (rules, transfer_steps, completion_steps)
 
-  pub event_row_steps : (k : Known) (p : ℕ → Spot) (b : Block) (later : List TraceRow) (rest : List Note) → ((r : ℕ) → need_in rest r ≡ need h (learned h k (Read b)) r later) →
+  pub event_row_steps : (k : Known) (p : ℕ → Spot) (b : Block) (later : List Row) (rest : List Note) → ((r : ℕ) → need_in rest r ≡ need h (learned h k (Read b)) r later) →
       steps_of h rows p (filled (row_notes h k (Read b) ++ rest)) ≡ steps_before h k p (Read b) later ++ steps_of h rows (pointers_after h k p (Read b) later) (filled rest)
   unfolding row_notes steps_before pointers_after is_placed floor_behind
   event_row_steps k p b later rest needs = event_steps k later b p rest needs (kind b)
 
   -- ---- the row of any kind
 
-  pub any_steps : (k : Known) (p : ℕ → Spot) (row : TraceRow) (later : List TraceRow) (rest : List Note) → ((r : ℕ) → need_in rest r ≡ need (header_after h row) (known_after h k row) r later) →
+  pub any_steps : (k : Known) (p : ℕ → Spot) (row : Row) (later : List Row) (rest : List Note) → ((r : ℕ) → need_in rest r ≡ need (header_after h row) (known_after h k row) r later) →
       steps_of h rows p (filled (any_notes h k row ++ rest)) ≡ steps_for h k p row later ++ steps_of h rows (pointers_for h k p row later) (filled rest)
   unfolding any_notes row_notes steps_for pointers_for steps_before pointers_after ring_restored restored_on steps_of filled with_need note_steps note_goals pointers_behind header_behind rows_behind brought
-  any_steps k p (Plain (Read b)) later rest needs = event_row_steps k p b later rest needs
-  any_steps k p (Plain (Bell s t)) later rest needs = (grind (arith, begun_steps))
+  any_steps k p (Read b) later rest needs = event_row_steps k p b later rest needs
+  any_steps k p (Bell s t) later rest needs = (grind (arith, begun_steps))
   any_steps k p _ later rest needs = refl

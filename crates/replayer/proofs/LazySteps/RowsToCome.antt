@@ -1,7 +1,7 @@
 -- Only the note of the next row changes the rings that are there and the rows to come
-use Rattle.replayer.proofs.Words.{arith, ◌≡◌, List, Header, TraceRow, Note, Next, header_behind, rows_behind}
+use Rattle.replayer.proofs.Words.{arith, ◌≡◌, List, Header, Row, Note, Next, header_behind, rows_behind}
 
-module _ (h : Header) (rows : List TraceRow) where
+module _ (h : Header) (rows : List Row) where
   pub other_header : (note : Note) → (note ≡ Next → ⊥) → header_behind h rows note ≡ h
   unfolding header_behind
   other_header note other = grind arith

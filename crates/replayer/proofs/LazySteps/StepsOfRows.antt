@@ -1,10 +1,10 @@
 -- The steps of a trace's notes are its lazy schedule
-use Rattle.replayer.proofs.MiddleLaws.{◌≡◌, ◌∷◌, ◌++◌, ◌∙◌, ℕ, List, [], reverse, sym, ap, append-nil, append_assoc, reverse-append, reverse-reverse, Spot, Header, TraceRow, Step, NextRow, Known, header_after, header_now, known_after, known_now, steps_for, brought, pointers_for, pointers_at, lazy_run, lazy_steps, Note, Next, notes, need_before, need_in, with_need, filled, note_goals, note_steps, pointers_behind, header_behind, rows_behind, steps_of, StepsLaw, one_more, needs_law}
+use Rattle.replayer.proofs.MiddleLaws.{◌≡◌, ◌∷◌, ◌++◌, ◌∙◌, ℕ, List, [], reverse, sym, ap, append-nil, append_assoc, reverse-append, reverse-reverse, Spot, Header, Row, Step, NextRow, Known, header_after, header_now, known_after, known_now, steps_for, brought, pointers_for, pointers_at, lazy_run, lazy_steps, Note, Next, notes, need_before, need_in, with_need, filled, note_goals, note_steps, pointers_behind, header_behind, rows_behind, steps_of, StepsLaw, one_more, needs_law}
 use Rattle.replayer.proofs.LazySteps.NoteSteps.{any_steps}
 
 module _ (h : Header) where
   -- one more row of the run
-  one_row : (past later : List TraceRow) (row : TraceRow) →
+  one_row : (past later : List Row) (row : Row) →
       reverse (lazy_run h (row ∷ past) later)
       ≡ reverse (lazy_run h past (row ∷ later)) ++ (steps_for (header_now h past) (known_now h past) (pointers_at h past (row ∷ later)) row later ++ NextRow ∷ [])
   unfolding lazy_run
@@ -14,7 +14,7 @@ module _ (h : Header) where
       reverse-append (NextRow ∷ reverse before) run
       ∙ ap (λ (s : List Step). reverse run ++ s) (reverse-append (NextRow ∷ []) (reverse before) ∙ ap (λ (s : List Step). s ++ NextRow ∷ []) (reverse-reverse before))
 
-  so_far : (past later : List TraceRow) →
+  so_far : (past later : List Row) →
       reverse (lazy_run h past later) ++ steps_of (header_now h past) later (pointers_at h past later) (filled (notes (header_now h past) (known_now h past) later))
       ≡ reverse (lazy_run h (reverse later ++ past) [])
   unfolding notes steps_of filled pointers_at with_need note_steps note_goals pointers_behind header_behind rows_behind brought need_in need_before

@@ -1,16 +1,16 @@
 -- The lazy schedule has brought each ring that an endpoint has to its floor behind each row
-use Rattle.replayer.proofs.Words.{◌≡◌, ◌∷◌, ◌++◌, ◌∙◌, List, [], All, ap, append-nil, append_assoc, refl, reverse, subst, sym, Header, NextRow, Step, TraceRow, IsHeader, AreKept, FitsFields, header_now, known_now, IsTimely, lazy_run, lazy_steps, one_more, pointers_at, steps_for}
+use Rattle.replayer.proofs.Words.{◌≡◌, ◌∷◌, ◌++◌, ◌∙◌, List, [], All, ap, append-nil, append_assoc, refl, reverse, subst, sym, Header, NextRow, Step, Row, IsHeader, AreKept, IsRow, header_now, known_now, IsTimely, lazy_run, lazy_steps, one_more, pointers_at, steps_for}
 use Rattle.std.proofs.lemmas.List.{reverse-append, reverse-reverse}
 use Rattle.safety.proofs.LazyRuns.WholeRuns.{lazy_law}
 use Rattle.replayer.specs.Schedules.Floors.{StandsAtFloors, StandsBehind}
 
 module _ (h : Header) where
   -- the lazy run of more rows goes on where that of fewer ended
-  record GoesOn (later past tail : List TraceRow) : Type 0 where
+  record GoesOn (later past tail : List Row) : Type 0 where
     then : List Step
     same : lazy_run h (reverse later ++ past) tail ≡ then ++ lazy_run h past (later ++ tail)
 
-  goes_on : (later past tail : List TraceRow) → GoesOn later past tail
+  goes_on : (later past tail : List Row) → GoesOn later past tail
   unfolding lazy_run
   goes_on [] past tail = record { then = []; same = refl }
   goes_on (row ∷ rest) past tail =
@@ -22,16 +22,16 @@ module _ (h : Header) where
       }
 
   -- its steps up to a row, and the others
-  parts : (past later : List TraceRow) (on : GoesOn later past []) → lazy_steps h (reverse past ++ later) ≡ reverse (lazy_run h past later) ++ reverse on.then
+  parts : (past later : List Row) (on : GoesOn later past []) → lazy_steps h (reverse past ++ later) ≡ reverse (lazy_run h past later) ++ reverse on.then
   unfolding lazy_steps
   parts past later on =
       let turned : reverse (reverse past ++ later) ≡ reverse later ++ past = reverse-append (reverse past) later ∙ ap (λ rows. reverse later ++ rows) (reverse-reverse past) in
       ap (λ rows. reverse (lazy_run h rows [])) turned ∙ ap reverse on.same ∙ reverse-append on.then (lazy_run h past (later ++ [])) ∙ ap (λ rows. reverse (lazy_run h past rows) ++ reverse on.then) (append-nil later)
 
-  pub stands_at_floors : (rows : List TraceRow) → IsHeader h → All FitsFields rows → AreKept h (reverse rows) → IsTimely h (reverse rows) → StandsAtFloors h rows (lazy_steps h rows)
+  pub stands_at_floors : (rows : List Row) → IsHeader h → All IsRow rows → AreKept h (reverse rows) → IsTimely h (reverse rows) → StandsAtFloors h rows (lazy_steps h rows)
   stands_at_floors rows is fits kept timely past later same =
       let turned : reverse rows ≡ reverse later ++ past = ap reverse same ∙ reverse-append (reverse past) later ∙ ap (λ l. reverse later ++ l) (reverse-reverse past) in
-      let goes = lazy_law h past later is (subst (All FitsFields) same fits) (subst (AreKept h) turned kept) (subst (IsTimely h) turned timely) in
+      let goes = lazy_law h past later is (subst (All IsRow) same fits) (subst (AreKept h) turned kept) (subst (IsTimely h) turned timely) in
       let on = goes_on later past [] in
       record {
         made = lazy_run h past later;

@@ -1,7 +1,7 @@
 -- A replay that ends with harm: up to there the steps are a run, and the world after them isn't safe
-use Rattle.replayer.proofs.LowerLaws.{◌≡◌, ◌∙◌, ℕ, suc, ◌+◌, ◌≤◌, List, [], ◌∷◌, ◌++◌, Option, Some, None, refl, ap, arith, length, take, reverse, append-nil, common_steps, Header, TraceRow, Step, Harm, harm_of, Harmful, judged, Scene, scene_before, scene_ending_from, scene_reached, scene_replayed, step_made, DoesHarm, rows_made, turned}
+use Rattle.replayer.proofs.LowerLaws.{◌≡◌, ◌∙◌, ℕ, suc, ◌+◌, ◌≤◌, List, [], ◌∷◌, ◌++◌, Option, Some, None, refl, ap, arith, length, take, reverse, append-nil, common_steps, Header, Row, Step, Harm, harm_of, Harmful, judged, Scene, scene_before, scene_ending_from, scene_reached, scene_replayed, step_made, DoesHarm, rows_made, turned}
 
-module _ (h : Header) (rows : List TraceRow) where
+module _ (h : Header) (rows : List Row) where
   -- the first so many of these steps, behind those done, lead to a world that isn't safe, and the replay of them alone ends as that of all
   record IsFound (steps done : List Step) (from : Option Scene) (m n : ℕ) (k : Harm) : Type 0 where
     pub count : ℕ

@@ -5,15 +5,14 @@ use Rattle.std.proofs.lemmas.Bool.Decides.{nat_tests}
 use Rattle.std.proofs.lemmas.Grind.{common_steps}
 use Rattle.traces.specs.declared.ring.Ring.{Ring}
 use Rattle.traces.specs.declared.row.Row.{Row}
-use Rattle.traces.specs.declared.row.Row.TheVariants.{Bell, Read, Reg, Sub, Write}
-use Rattle.traces.specs.declared.trace_row.TraceRow.{TraceRow}
-use Rattle.traces.specs.declared.trace_row.TraceRow.TheVariants.{Comes, Goes, Plain, Withdraws}
+use Rattle.traces.specs.declared.row.Row.TheVariants.{Read}
 use Rattle.trb.specs.declared.block.Block.{Block}
 use Rattle.traces.specs.declared.step.Step.{Step}
 use Rattle.traces.specs.declared.step.Step.TheVariants.{Look}
 use Rattle.controller_model.specs.declared.seen.Seen.{Seen}
 use Rattle.replayer.specs.declared.scheduler.attempt.Unmade.{Unmade}
-use Rattle.replayer.specs.Schedules.Making.{IsMade, Making, behind_look, blocks_of_ring, is_command_kind, is_waited, looked_at, looked_at_each, made_before, made_behind_looks, made_looks, made_step, rings_at, tried_step, unless_possible, with_active}
+use Rattle.replayer.specs.Schedules.Making.{IsMade, Making, behind_look, blocks_of_ring, is_waited, looked_at, looked_at_each, made_before, made_behind_looks, made_looks, made_step, rings_at, tried_step, unless_possible, with_active}
+use Rattle.traces.specs.Header.{is_command_kind}
 use Rattle.replayer.proofs.Schedules.Making.{left, made_is, made_of, unmade}
 
 pub any_before : (ring : Ring) (looks : ℕ) → 0 < looks → nat_lt 0 looks ≡ (nat_lt 0 looks || is_command_kind ring.shape.kind)
@@ -149,17 +148,7 @@ module _ (m k : Making) (rings : List (Bor Ring)) (active : List Ring) (i : ℕ)
 
 -- ---- rows before which nothing is posted
 
-pub not_read : (m : Making) (row : Row) (late : Option Ring) → ((b : Block) → row ≡ Read b → ⊥) → made_before m (Plain row) late ≡ Some m
+pub not_read : (m : Making) (row : Row) (late : Option Ring) → ((b : Block) → row ≡ Read b → ⊥) → made_before m row late ≡ Some m
 unfolding made_before
 not_read m (Read b) late other = absurd (other b refl)
-not_read m (Sub r blocks) late other = refl
-not_read m (Write a w) late other = refl
-not_read m (Reg r v) late other = refl
-not_read m (Bell s t) late other = refl
-
-pub not_plain : (m : Making) (row : TraceRow) (late : Option Ring) → ((r : Row) → row ≡ Plain r → ⊥) → made_before m row late ≡ Some m
-unfolding made_before
-not_plain m (Plain row) late other = absurd (other row refl)
-not_plain m (Comes ring) late other = refl
-not_plain m (Goes id) late other = refl
-not_plain m (Withdraws r p) late other = refl
+not_read m row late other = refl

@@ -1,36 +1,43 @@
 -- The rows of a trace, checked and noted one by one
-use Rattle.replayer.proofs.Words.{◌≡◌, ℕ, ◌+◌, ◌<◌, ◌≤◌, List, [], ◌∷◌, ◌++◌, Some, ap, sym, ◌∙◌, arith, length, get_or, subst, Result, All, OnOk, map, reverse, take, drop, drop_all, take_all, append-nil, append_assoc, common_steps, most_lines, most_streamed_lines, Header, Row, TraceRow, Plain, Known, nothing, Refusal, learned, IsKept, header_now, known_now, restored, restored_on, ring_restored, fun_ext, DriverKeeps, IsTransferRing, TraceRecord, FollowsTrace, AreClean, IsLeastOfRow, IsRingPassed, ring_verdict, RingPass, kept_now, row_refused, kept_on, restored_learns, row_learns, Note, Next, Placed, any_notes, notes, placed_note, row_notes, AreNoted, MayBeRead}
+use Rattle.replayer.proofs.Words.{◌≡◌, ℕ, ◌+◌, ◌<◌, ◌≤◌, List, [], ◌∷◌, ◌++◌, Some, ap, sym, ◌∙◌, arith, length, get_or, subst, Result, All, OnOk, map, reverse, take, drop, drop_all, take_all, append-nil, append_assoc, common_steps, most_lines, most_streamed_lines, Header, Row, Known, nothing, Refusal, learned, IsKept, header_now, known_now, restored, restored_on, ring_restored, fun_ext, DriverKeeps, IsTransferRing, TraceRecord, FollowsTrace, AreClean, IsLeastOfRow, IsRingPassed, trace_verdict, RingPass, kept_now, row_refused, kept_on, restored_learns, row_learns, Note, Next, Placed, any_notes, notes, placed_note, row_notes, AreNoted, MayBeRead, is_ring_row, header_driven, driven_after, false, RingRow, FreeRow, false≢true, refl}
 
 pub on_any : {X E P : Type 0} (r : Result X E) → P → OnOk r P
 on_any r p = grind arith
 
-left : (rows : List TraceRow) (i : ℕ) (d : TraceRow) → i < length rows → drop i rows ≡ get_or rows i d ∷ drop (i + 1) rows
+-- the notes of a row by which no ring comes or goes are those of what the driver did or read
+pub any_driven : (h : Header) (k : Known) (row : Row) → is_ring_row row ≡ false → any_notes h k row ≡ row_notes h k row
+unfolding any_notes
+any_driven h k (RingRow ring) driven = absurd (false≢true (sym driven))
+any_driven h k (FreeRow id) driven = absurd (false≢true (sym driven))
+any_driven h k row driven = refl
+
+left : (rows : List Row) (i : ℕ) (d : Row) → i < length rows → drop i rows ≡ get_or rows i d ∷ drop (i + 1) rows
 left rows i d h = grind (arith, common_steps, h)
 
-more_taken : (rows : List TraceRow) (i : ℕ) (d : TraceRow) → i < length rows → reverse (take (i + 1) rows) ≡ get_or rows i d ∷ reverse (take i rows)
+more_taken : (rows : List Row) (i : ℕ) (d : Row) → i < length rows → reverse (take (i + 1) rows) ≡ get_or rows i d ∷ reverse (take i rows)
 more_taken rows i d h = grind (arith, common_steps, h)
 
-all_again : (rows : List TraceRow) (i : ℕ) → reverse (reverse (take i rows)) ++ drop i rows ≡ rows
+all_again : (rows : List Row) (i : ℕ) → reverse (reverse (take i rows)) ++ drop i rows ≡ rows
 all_again rows i = grind (arith, common_steps)
 
-so_many : (rows : List TraceRow) (i : ℕ) → i ≤ length rows → length (reverse (take i rows)) ≡ i
+so_many : (rows : List Row) (i : ℕ) → i ≤ length rows → length (reverse (take i rows)) ≡ i
 so_many rows i h = grind (arith, common_steps, h)
 
 -- so many rows were noted
-pub record IsNoted {B M : Type 0} (words : M → ℕ → ℕ) (h : Header) (rows : List TraceRow) (first done number : ℕ) (pass : RingPass B M) (list : List Note) : Type 0 where
+pub record IsNoted {B M : Type 0} (words : M → ℕ → ℕ) (h : Header) (rows : List Row) (first done number : ℕ) (pass : RingPass B M) (list : List Note) : Type 0 where
   pub numbered : number ≡ first + done
   pub passed : IsRingPassed words h (reverse (take done rows)) pass
   pub noted : list ++ notes (header_now h (reverse (take done rows))) (known_now h (reverse (take done rows))) (drop done rows) ≡ notes h nothing rows
 
-module _ {B M : Type 0} {words : M → ℕ → ℕ} {h : Header} {rows : List TraceRow} {first : ℕ} where
+module _ {B M : Type 0} {words : M → ℕ → ℕ} {h : Header} {rows : List Row} {first : ℕ} where
   pub started : (pass : RingPass B M) (list : List Note) → list ≡ [] → IsRingPassed words h [] pass → IsNoted words h rows first 0 first pass list
   started pass list none passed = record { numbered = omega arith; passed = passed; noted = ap (λ l. l ++ notes h nothing rows) none }
 
-  module _ {i number : ℕ} {pass : RingPass B M} {list : List Note} (p : IsNoted words h rows first i number pass list) (row : TraceRow) (below : i < length rows) (is_row : get_or rows i row ≡ row) where
-    abbrev past : List TraceRow
+  module _ {i number : ℕ} {pass : RingPass B M} {list : List Note} (p : IsNoted words h rows first i number pass list) (row : Row) (below : i < length rows) (is_row : get_or rows i row ≡ row) where
+    abbrev past : List Row
     past = reverse (take i rows)
 
-    pub few : first + length rows ≤ most_lines + 1 → (g : Header) × (rows_so : List TraceRow) × IsRingPassed words g rows_so pass × (length rows_so ≤ most_streamed_lines)
+    pub few : first + length rows ≤ most_lines + 1 → (g : Header) × (rows_so : List Row) × IsRingPassed words g rows_so pass × (length rows_so ≤ most_streamed_lines)
     few within = (h, past, p.passed, omega (arith, below, within, so_many rows i (omega (arith, below))))
 
     next_past : reverse (take (i + 1) rows) ≡ row ∷ past
@@ -39,8 +46,8 @@ module _ {B M : Type 0} {words : M → ℕ → ℕ} {h : Header} {rows : List Tr
     rest : drop i rows ≡ row ∷ drop (i + 1) rows
     rest = left rows i row below ∙ ap (λ x. x ∷ drop (i + 1) rows) is_row
 
-    pub stepped : (after : RingPass B M) (mid : List Note) → ((g : Header) (so : List TraceRow) → IsRingPassed words g so pass → IsRingPassed words g (row ∷ so) after) →
-        ((g : Header) (so : List TraceRow) → IsRingPassed words g so pass → mid ≡ list ++ any_notes (header_now g so) (known_now g so) row) →
+    pub stepped : (after : RingPass B M) (mid : List Note) → ((g : Header) (so : List Row) → IsRingPassed words g so pass → IsRingPassed words g (row ∷ so) after) →
+        ((g : Header) (so : List Row) → IsRingPassed words g so pass → mid ≡ list ++ any_notes (header_now g so) (known_now g so) row) →
         IsNoted words h rows first (i + 1) (number + 1) after (mid ++ Next ∷ [])
     unfolding notes
     stepped after mid passes says =
@@ -50,9 +57,9 @@ module _ {B M : Type 0} {words : M → ℕ → ℕ} {h : Header} {rows : List Tr
           noted = rw (next_past, says h past p.passed) (simp append_assoc (rw rest at p.noted));
         }
 
-    pub refused : (c : Refusal) → ((g : Header) (so : List TraceRow) → IsRingPassed words g so pass → IsLeastOfRow (header_now g so) (known_now g so) row c) → ring_verdict h first rows ≡ Some (number, c)
+    pub refused : (c : Refusal) → ((g : Header) (so : List Row) → IsRingPassed words g so pass → IsLeastOfRow (header_now g so) (known_now g so) row c) → trace_verdict h first rows ≡ Some (number, c)
     refused c least =
-        ap (ring_verdict h first) (sym (all_again rows i) ∙ ap (λ l. reverse past ++ l) rest)
+        ap (trace_verdict h first) (sym (all_again rows i) ∙ ap (λ l. reverse past ++ l) rest)
         ∙ row_refused h first past (drop (i + 1) rows) row c p.passed.clean (least h past p.passed)
         ∙ ap (λ n. Some (n, c)) (ap (λ n. first + n) (so_many rows i (omega (arith, below))) ∙ sym p.numbered)
 
@@ -67,7 +74,7 @@ module _ {B M : Type 0} {words : M → ℕ → ℕ} {h : Header} {rows : List Tr
 
 -- ---- a row of the driver, or one that reads an event
 
-may_read : (g : Header) (k : Known) (row : Row) → IsKept g k (Plain row) → MayBeRead g k row
+may_read : (g : Header) (k : Known) (row : Row) → IsKept g k row → MayBeRead g k row
 unfolding ring_restored restored_on
 may_read g k row kept = grind arith
 
@@ -75,31 +82,31 @@ placed_same : (g : Header) (k : Known) (row : Row) → placed_note g (restored g
 unfolding placed_note ring_restored restored_on
 placed_same g k row = fun_ext (λ r. ap (λ t. Placed r t) (grind (arith, row_learns, restored_learns)))
 
-module _ {B M : Type 0} (words : M → ℕ → ℕ) (h : Header) (past : List TraceRow) (row : Row) (pass after : RingPass B M) (p : IsRingPassed words h past pass) (q : IsRingPassed words h (Plain row ∷ past) after) where
+module _ {B M : Type 0} (words : M → ℕ → ℕ) (h : Header) (past : List Row) (row : Row) (pass after : RingPass B M) (p : IsRingPassed words h past pass) (q : IsRingPassed words h (row ∷ past) after) where
   abbrev g : Header
   g = header_now h past
 
   abbrev k : Known
   k = known_now h past
 
-  kept : IsKept g k (Plain row)
-  kept = (kept_now h (Plain row ∷ past) q.clean).1
+  kept : IsKept g k row
+  kept = (kept_now h (row ∷ past) q.clean).1
 
   pub followed : (hd : Header) (record_ : TraceRecord) (memory : ℕ → ℕ) → hd ≡ pass.header → record_ ≡ pass.record → memory ≡ words pass.memory → FollowsTrace hd k record_ memory
   followed hd record_ memory first second third = rw (first, second, third) p.tracked.follows
 
   -- the notes before the row is noted in the record, and those behind
-  pub plain_noted : (old mid new : List Note) (placed : List ℕ) (before behind : Header) (record_ : TraceRecord) (memory : ℕ → ℕ) → before ≡ pass.header → behind ≡ after.header → record_ ≡ after.record →
+  pub driven_noted : is_ring_row row ≡ false → (old mid new : List Note) (placed : List ℕ) (before behind : Header) (record_ : TraceRecord) (memory : ℕ → ℕ) → before ≡ pass.header → behind ≡ after.header → record_ ≡ after.record →
       memory ≡ words after.memory → (DriverKeeps before k → MayBeRead before k row → AreNoted before k row old mid placed) →
       ((j : Known) (d : Row) (m : ℕ → ℕ) → FollowsTrace behind (learned behind j d) record_ m → All (IsTransferRing behind) placed → new ≡ mid ++ map (placed_note behind j d) placed) →
       new ≡ old ++ row_notes g k row
-  plain_noted old mid new placed before behind record_ memory first second third fourth noted placings =
+  driven_noted driven old mid new placed before behind record_ memory first second third fourth noted placings =
       let one : before ≡ g = first ∙ p.header in
-      let two : behind ≡ g = second ∙ q.header in
+      let two : behind ≡ g = second ∙ q.header ∙ header_driven g row driven in
       let says : AreNoted g k row old mid placed =
       subst (λ x. AreNoted x k row old mid placed) one
-      (noted (subst (λ x. DriverKeeps x k) (sym first) (p.tracked.keeps (kept_on g k (Plain row) kept))) (subst (λ x. MayBeRead x k row) (sym one) (may_read g k row kept))) in
-      let follows : FollowsTrace behind (learned behind (restored g k row) row) record_ memory = rw (two, third, fourth) (rw q.header at q.tracked.follows) in
+      (noted (subst (λ x. DriverKeeps x k) (sym first) (p.tracked.keeps (kept_on g k row kept))) (subst (λ x. MayBeRead x k row) (sym one) (may_read g k row kept))) in
+      let follows : FollowsTrace behind (learned behind (restored g k row) row) record_ memory = rw (two, third, fourth) (rw (q.header, header_driven g row driven, driven_after g k row driven) at q.tracked.follows) in
       placings (restored g k row) row memory follows (subst (λ x. All (IsTransferRing x) placed) (sym two) says.rings)
       ∙ ap (λ x. mid ++ map (placed_note x (restored g k row) row) placed) two
       ∙ ap (λ f. mid ++ map f placed) (placed_same g k row)

@@ -1,10 +1,10 @@
 -- A run whose worlds are all safe is replayed without harm
-use Rattle.replayer.proofs.Words.{append-nil, ◌≡◌, ℕ, ◌+◌, List, [], ◌∷◌, Option, Some, refl, sym, ◌∙◌, ap, subst, arith, ◌++◌, reverse, option_and_then, All, common_steps, All-cons, All-head, All-nil, All-tail, Header, Step, TraceRow, IsStep, NoHarm, judged, Scene, scene_before, scene_ending_from, scene_reached, scene_replayed, step_made, ContainsAll, DoNoHarm}
+use Rattle.replayer.proofs.Words.{append-nil, ◌≡◌, ℕ, ◌+◌, List, [], ◌∷◌, Option, Some, refl, sym, ◌∙◌, ap, subst, arith, ◌++◌, reverse, option_and_then, All, common_steps, All-cons, All-head, All-nil, All-tail, Header, Step, Row, IsStep, NoHarm, judged, Scene, scene_before, scene_ending_from, scene_reached, scene_replayed, step_made, ContainsAll, DoNoHarm}
 
 pub turned : (s : Step) (steps past : List Step) → reverse (s ∷ steps) ++ past ≡ reverse steps ++ s ∷ past
 turned s steps past = grind (arith, common_steps)
 
-module _ (h : Header) (rows : List TraceRow) where
+module _ (h : Header) (rows : List Row) where
   -- the last step of a run
   last_step : (s : Step) (past : List Step) (x y : Scene) → scene_reached h rows past ≡ Some x → scene_reached h rows (s ∷ past) ≡ Some y → step_made x s ≡ Some y
   last_step s past x y here next = sym (ap (λ o. option_and_then (λ u. step_made u s) o) here) ∙ next

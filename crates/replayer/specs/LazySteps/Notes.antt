@@ -13,15 +13,14 @@ use Rattle.commands.specs.declared.command.Command.TheVariants.{StopEndpoint}
 use Rattle.commands.specs.Changes.{Change, changes}
 use Rattle.traces.specs.declared.header.Header.{Header}
 use Rattle.traces.specs.declared.row.Row.{Row}
-use Rattle.traces.specs.declared.row.Row.TheVariants.{Bell, Read}
-use Rattle.traces.specs.declared.trace_row.TraceRow.{TraceRow}
-use Rattle.traces.specs.declared.trace_row.TraceRow.TheVariants.{Comes, Goes, Plain}
+use Rattle.traces.specs.declared.row.Row.TheVariants.{Bell, Read, Ring as RingRow, Free as FreeRow}
 use Rattle.traces.specs.Header.{command_id}
 use Rattle.ring_knowledge.specs.Known.{Known}
 use Rattle.ring_knowledge.specs.Learned.{learned}
 use Rattle.ring_knowledge.specs.Rings.{RingSpot, event_at, command_at, next_command}
 use Rattle.ring_knowledge.specs.Completions.{changed_by}
-use Rattle.safety.specs.RingChanges.Histories.{header_after, known_after}
+use Rattle.traces.specs.LivingRings.{header_after}
+use Rattle.ring_knowledge.specs.Histories.{known_after}
 use Rattle.safety.specs.LazyRuns.Needs.{ring_placed}
 use Rattle.safety.specs.LazyRuns.Lazy.{post_of}
 use Rattle.replayer.specs.declared.lazy_steps.note.Note.{Note}
@@ -92,13 +91,12 @@ module _ (h : Header) where
   row_notes k _ = []
 
   -- the notes of a row of any kind: a ring that comes stands at its beginning, and of one that goes nothing more is needed
-  unfoldable pub any_notes : Known → TraceRow → List Note
-  any_notes k (Plain row) = row_notes k row
-  any_notes k (Comes ring) = Placed ring.id (Data 0) ∷ []
-  any_notes k (Goes id) = Begun id ∷ Placed id (Data 0) ∷ []
-  any_notes k _ = []
+  unfoldable pub any_notes : Known → Row → List Note
+  any_notes k (RingRow ring) = Placed ring.id (Data 0) ∷ []
+  any_notes k (FreeRow id) = Begun id ∷ Placed id (Data 0) ∷ []
+  any_notes k row = row_notes k row
 
 -- the notes of the rows, from the rings that are there and what is known
-unfoldable pub notes : Header → Known → List TraceRow → List Note
+unfoldable pub notes : Header → Known → List Row → List Note
 notes h k [] = []
 notes h k (row ∷ rows) = any_notes h k row ++ (Next ∷ notes (header_after h row) (known_after h k row) rows)

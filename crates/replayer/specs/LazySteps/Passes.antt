@@ -6,9 +6,9 @@ use Rattle.segments.specs.declared.spot.Spot.{Spot}
 use Rattle.traces.specs.declared.header.Header.{Header}
 use Rattle.traces.specs.declared.step.Step.{Step}
 use Rattle.traces.specs.declared.step.Step.TheVariants.{NextRow}
-use Rattle.traces.specs.declared.trace_row.TraceRow.{TraceRow}
+use Rattle.traces.specs.declared.row.Row.{Row}
 use Rattle.ring_knowledge.specs.Rings.{RingSpot}
-use Rattle.safety.specs.RingChanges.Histories.{header_after}
+use Rattle.traces.specs.LivingRings.{header_after}
 use Rattle.safety.specs.LazyRuns.Lazy.{taken_up_to, stop_goal, looks_to, brought}
 use Rattle.replayer.specs.declared.lazy_steps.note.Note.{Note}
 use Rattle.replayer.specs.declared.lazy_steps.note.Note.TheVariants.{Begun, Succeeded, Taken, StoppedAt, StoppedOpen, Made, Next, Placed}
@@ -55,21 +55,21 @@ module _ (h : Header) where
   pointers_behind pointers note = brought h pointers (note_goals note)
 
 -- the rings that are there behind the next of these rows, if there is one
-abbrev pub header_next : Header → List TraceRow → Header
+abbrev pub header_next : Header → List Row → Header
 header_next h [] = h
 header_next h (row ∷ rows) = header_after h row
 
 -- those behind a note, and the rows that are still to come
-unfoldable pub header_behind : Header → List TraceRow → Note → Header
+unfoldable pub header_behind : Header → List Row → Note → Header
 header_behind h rows Next = header_next h rows
 header_behind h rows note = h
 
-unfoldable pub rows_behind : List TraceRow → Note → List TraceRow
+unfoldable pub rows_behind : List Row → Note → List Row
 rows_behind rows Next = drop 1 rows
 rows_behind rows note = rows
 
 -- the steps of the notes, from where the pointers stand, with the rings that are there and these rows to come
-unfoldable pub steps_of : Header → List TraceRow → (ℕ → Spot) → List Note → List Step
+unfoldable pub steps_of : Header → List Row → (ℕ → Spot) → List Note → List Step
 steps_of h rows pointers [] = []
 steps_of h rows pointers (note ∷ rest) =
     note_steps h pointers note ++ steps_of (header_behind h rows note) (rows_behind rows note) (pointers_behind h pointers note) rest

@@ -1,16 +1,13 @@
 -- The eager schedule, in which one ring may be late, and the schedules of a wide search
 use Rattle.std.specs.Prelude.{◌≡◌, ℕ, ◌+◌, ◌-◌, ◌<◌, ◌==◌, ◌++◌, Bool, true, false, not, if◌then◌else◌, List, [], ◌∷◌, filter, length, nat_le, take, Option, Some, None, option_and_then, option_map, option_to_list}
-use Rattle.trb.specs.declared.ring_kind.RingKind.{RingKind}
-use Rattle.trb.specs.declared.ring_kind.RingKind.TheVariants.{Cmd, Evt, Xfer}
 use Rattle.traces.specs.declared.header.Header.{Header}
 use Rattle.traces.specs.declared.ring.Ring.{Ring}
+use Rattle.traces.specs.Header.{is_event_kind}
 use Rattle.traces.specs.declared.row.Row.{Row}
 use Rattle.traces.specs.declared.row.Row.TheVariants.{Bell}
 use Rattle.traces.specs.declared.step.Step.{Step}
 use Rattle.traces.specs.declared.step.Step.TheVariants.{NextRow}
-use Rattle.traces.specs.declared.trace_row.TraceRow.{TraceRow}
-use Rattle.traces.specs.declared.trace_row.TraceRow.TheVariants.{Plain}
-use Rattle.world_state.specs.RingRows.{header_after}
+use Rattle.traces.specs.LivingRings.{header_after}
 use Rattle.world_state.specs.Scenes.{scene_before}
 use Rattle.replayer.specs.Schedules.Making.{Making, looked_at_each, made_before, made_step}
 
@@ -27,30 +24,29 @@ is_bell (Bell s t) = true
 is_bell _ = false
 
 -- the rings at which a controller looks behind a row: only a doorbell makes a ring active
-unfoldable pub rings_looked_at : Header → List Ring → TraceRow → List Ring
-rings_looked_at h active (Plain row) = if is_bell row then h.rings else active
-rings_looked_at h active row = active
+unfoldable pub rings_looked_at : Header → List Ring → Row → List Ring
+rings_looked_at h active row = if is_bell row then h.rings else active
 
 -- the eager steps of rows, of which the first is posted for, made, and followed by looks; h has the rings that are there and aren't late
-unfoldable pub eager_row : Option Ring → Header → List Ring → TraceRow → Making → Option (List Ring × Making)
+unfoldable pub eager_row : Option Ring → Header → List Ring → Row → Making → Option (List Ring × Making)
 eager_row late h active row m =
     option_and_then (λ posted. option_and_then (λ made. looked_at_each [] made (rings_looked_at h active row)) (made_step posted NextRow)) (made_before m row late)
 
-unfoldable pub eager_rows : Option Ring → Header → List Ring → List TraceRow → Making → Option (Header × Making)
+unfoldable pub eager_rows : Option Ring → Header → List Ring → List Row → Making → Option (Header × Making)
 eager_rows late h active [] m = Some (h, m)
 eager_rows late h active (row ∷ rows) m = option_and_then (λ p. eager_rows late (header_after h row) p.0 rows p.1) (eager_row late h active row m)
 
 -- no steps yet
-abbrev pub nothing_made : Header → List TraceRow → Making
+abbrev pub nothing_made : Header → List Row → Making
 nothing_made h rows = record { steps = []; scene = scene_before h rows }
 
 abbrev pub looked_at_last : Option Ring → Header → Making → Option (List Step)
 looked_at_last late h m = option_map (λ p. p.1.steps) (looked_at_each [] m (h.rings ++ option_to_list late))
 
-module _ (h : Header) (rows : List TraceRow) where
+module _ (h : Header) (rows : List Row) where
   -- the eager schedule of the first rows: directly before each event that is read its post, behind each row looks at each active ring until it
   -- waits, and at the end looks at each ring that is there; one ring may be late
-  unfoldable pub eager_schedule : List TraceRow → Option Ring → Option (List Step)
+  unfoldable pub eager_schedule : List Row → Option Ring → Option (List Step)
   eager_schedule first late =
       option_and_then (λ p. looked_at_last late p.0 p.1) (eager_rows late (without_late h late) [] first (nothing_made h rows))
 
@@ -58,13 +54,8 @@ module _ (h : Header) (rows : List TraceRow) where
   lines_of None otherwise = otherwise
   lines_of (Some steps) otherwise = length steps
 
-  abbrev pub is_event_kind : RingKind → Bool
-  is_event_kind Evt = true
-  is_event_kind Cmd = false
-  is_event_kind Xfer = false
-
   -- the eager schedules of the first rows in which one of these rings is late, ring by ring, until they have so many lines
-  unfoldable pub late_schedules : List TraceRow → ℕ → ℕ → List Ring → List (List Step)
+  unfoldable pub late_schedules : List Row → ℕ → ℕ → List Ring → List (List Step)
   late_schedules first lines left [] = []
   late_schedules first lines left (ring ∷ rings) =
       if is_event_kind ring.shape.kind then late_schedules first lines left rings

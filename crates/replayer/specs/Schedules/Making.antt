@@ -5,16 +5,13 @@ use Rattle.trb.specs.declared.block.Block.{Block}
 use Rattle.trb.specs.Block.{kind}
 use Rattle.trb.specs.declared.kind.BlockKind.{BlockKind}
 use Rattle.trb.specs.declared.kind.BlockKind.TheVariants.{TransferEvent, CommandCompletion}
-use Rattle.trb.specs.declared.ring_kind.RingKind.{RingKind}
-use Rattle.trb.specs.declared.ring_kind.RingKind.TheVariants.{Cmd, Evt, Xfer}
 use Rattle.segments.specs.Places.{links, place_count}
 use Rattle.traces.specs.declared.ring.Ring.{Ring}
+use Rattle.traces.specs.Header.{is_command_kind}
 use Rattle.traces.specs.declared.row.Row.{Row}
 use Rattle.traces.specs.declared.row.Row.TheVariants.{Read}
 use Rattle.traces.specs.declared.step.Step.{Step}
 use Rattle.traces.specs.declared.step.Step.TheVariants.{Finish, Look, Other, Report}
-use Rattle.traces.specs.declared.trace_row.TraceRow.{TraceRow}
-use Rattle.traces.specs.declared.trace_row.TraceRow.TheVariants.{Plain}
 use Rattle.traces.specs.Limits.{most_schedule_lines}
 use Rattle.world_state.specs.Scenes.{Scene, step_made}
 use Rattle.controller_model.specs.declared.seen.Seen.{Seen}
@@ -86,11 +83,6 @@ unfoldable pub made_looks : ℕ → Bool → Making → ℕ → Option (Bool × 
 made_looks zero b m r = Some (true, m)
 made_looks (suc n) b m r = option_and_then (λ p. behind_look b (made_looks n true p.1 r) p) (tried_step m (Look r))
 
-abbrev pub is_command_kind : RingKind → Bool
-is_command_kind Cmd = true
-is_command_kind Evt = false
-is_command_kind Xfer = false
-
 -- how many blocks a ring has
 abbrev pub blocks_of_ring : Ring → ℕ
 blocks_of_ring ring = place_count ring.shape + length (links ring.shape)
@@ -118,6 +110,6 @@ made_post m s None = made_step m s
 made_post m s (Some late) = made_behind_looks (blocks_of_ring late) m s late.id
 
 -- directly before a row the post of the event that it reads, if it reads one
-unfoldable pub made_before : Making → TraceRow → Option Ring → Option Making
-made_before m (Plain (Read b)) late = made_post m (post_by_kind (kind b) b) late
+unfoldable pub made_before : Making → Row → Option Ring → Option Making
+made_before m (Read b) late = made_post m (post_by_kind (kind b) b) late
 made_before m row late = Some m

@@ -3,18 +3,18 @@ ghost use Rattle.traces.specs.Header.{IsHeader};
 ghost use Rattle.traces.specs.TraceRows.{IsTraceRow};
 ghost use Rattle.trb.specs.declared.ring_kind.RingKind.TheVariants.{Xfer};
 ghost use Rattle.trace_record.specs.RingFinder.Finding.{IsFinder};
-ghost use Rattle.world_state.specs.RingRows.{header_after, with_ring, without_ring};
+ghost use Rattle.traces.specs.LivingRings.{header_after, with_ring, without_ring};
 
 use std::alloc::{AllocError, Global};
 use trace_record::Finder;
-use traces::{Header, Ring, TraceRow};
+use traces::{Header, Ring, Row};
 
 /// The rings that are there behind a row.
 pub(crate) fn follow_row(
     alloc: Global,
     header: &mut Header,
     finder: &mut Finder,
-    row: &TraceRow,
+    row: &Row,
 ) -> Result<(), AllocError>
     requires found { IsFinder header.now.rings finder.now }
     requires then_headed { IsHeader (header_after header.now row.now) }
@@ -23,13 +23,13 @@ pub(crate) fn follow_row(
     ensures found { OnOk result (IsFinder header.new.rings finder.new) }
 {
     match row {
-        TraceRow::Comes(ring) => add_ring(header, finder, ring.as_ring()),
-        TraceRow::Goes(id) => {
+        Row::Ring { ring } => add_ring(header, finder, ring.as_ring()),
+        Row::Free { ring: id } => {
             drop_ring(header, *id);
             *finder = Finder::new(alloc, header)?;
             Ok(())
         }
-        TraceRow::Plain(_) | TraceRow::Withdraws { .. } => Ok(()),
+        _ => Ok(()),
     }
 }
 

@@ -18,14 +18,14 @@ use crate::lazy_steps::there::follow_row;
 use segments::Spot;
 use std::alloc::{AllocError, Global};
 use trace_record::Finder;
-use traces::{Header, Step, TraceRow};
+use traces::{Header, Row, Step};
 
 /// The steps of a schedule from the notes on its rows, beside which the rings are these at first: needs are filled from the last note to the
 /// first, and then the rings are looked at from the first to the last. Notes of a ring that isn't there are those of a ring without Links.
 pub fn steps_of_notes(
     alloc: Global,
     header: Header,
-    rows: &[TraceRow],
+    rows: &[Row],
     mut notes: Vec<Note>,
 ) -> Result<Vec<Step>, AllocError>
     requires headed { IsHeader header }
@@ -41,7 +41,7 @@ pub fn steps_of_notes(
 fn walk_notes(
     alloc: Global,
     header: Header,
-    rows: &[TraceRow],
+    rows: &[Row],
     notes: &[Note],
 ) -> Result<Vec<Step>, AllocError>
     requires headed { IsHeader header }
@@ -66,7 +66,7 @@ fn follow_note(
     alloc: Global,
     header: &mut Header,
     finder: &mut Finder,
-    rows: &[TraceRow],
+    rows: &[Row],
     next: usize,
     note: &Note,
 ) -> Result<usize, AllocError>

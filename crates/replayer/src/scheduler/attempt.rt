@@ -4,13 +4,14 @@ ghost use Rattle.traces.specs.Limits.{most_schedule_lines};
 ghost use Rattle.traces.specs.Rows.{AreSteps, IsRow, IsStep, steps_are_fact};
 ghost use Rattle.traces.specs.TraceRows.{IsTraceRow};
 ghost use Rattle.trb.specs.Block.{IsBlock, kind};
-ghost use Rattle.replayer.specs.Schedules.Making.{is_command_kind, is_waited, post_by_kind, rings_at};
+ghost use Rattle.replayer.specs.Schedules.Making.{is_waited, post_by_kind, rings_at};
+ghost use Rattle.traces.specs.Header.{is_command_kind};
 
 use crate::scheduler::rings::add_ring;
 use controller_model::{Seen, StepFault, World};
-use guest_memory::PageMemory;
+use guest_memory::SparseMemory;
 use std::alloc::{AllocError, Global};
-use traces::{Ring, Row, Schedule, Step, Steps, Trace, TraceRow};
+use traces::{Ring, Row, Schedule, Step, Steps, Trace};
 use trb::{Block, BlockKind, RingKind};
 
 /// The most steps that a schedule has.
@@ -38,7 +39,7 @@ impl From<AllocError> for Unmade {
 /// The steps so far, and the world after them.
 #[derive(Drop)]
 pub(crate) struct Attempt<'t> {
-    world: World<'t, PageMemory>,
+    world: World<'t, SparseMemory>,
     steps: Vec<Step>,
     ghost fitting: { AreSteps steps.items } by { steps_are_fact steps.items },
     ghost within: { length steps.items + 1 ≤ most_schedule_lines },
@@ -48,7 +49,6 @@ impl<'t> Attempt<'t> {
     ghost use Rattle.std.specs.Prelude.{IfOk, List, option_map};
     ghost use Rattle.traces.specs.declared.row.Row.TheVariants.{Read};
     ghost use Rattle.traces.specs.declared.step.Step.TheVariants.{Look as LookAt};
-    ghost use Rattle.traces.specs.declared.trace_row.TraceRow.TheVariants.{Plain};
     ghost use Rattle.replayer.specs.Schedules.Making.{IsMade, Making, blocks_of_ring, looked_at, looked_at_each, made_before, made_behind_looks, made_step, made_steps, tried_step};
     ghost use Rattle.replayer.specs.Schedules.Eager.{nothing_made};
     ghost use Rattle.replayer.specs.Schedules.Attempts.{HasMade};
@@ -57,7 +57,7 @@ impl<'t> Attempt<'t> {
     pub(crate) fn new(alloc: Global, trace: &'t Trace) -> Result<Attempt<'t>, AllocError>
         ensures { IfOk result (λ attempt. HasMade attempt (nothing_made trace.now.header trace.now.rows)) }
     {
-        let world = World::new(alloc, trace, PageMemory::new(alloc))?;
+        let world = World::new(alloc, trace, SparseMemory::new(alloc))?;
         Ok(Attempt {
             world,
             steps: Vec::new(alloc),
@@ -114,22 +114,10 @@ impl<'t> Attempt<'t> {
     }
 
     /// Posts the event that a row reads, if it reads one. Where a ring is late, it is looked at until the event is possible.
-    pub(crate) fn post_before(&mut self, row: &TraceRow, late: Option<&Ring>) -> Result<(), Unmade>
+    pub(crate) fn post_before(&mut self, row: &Row, late: Option<&Ring>) -> Result<(), Unmade>
         requires { IsTraceRow row.now }
         ensures { (m : Making) → HasMade self.old m →
             IsMade result (made_before m row.now (option_map (λ ring. ring.now) late.entry)) (λ done n. HasMade self.new n) }
-    {
-        match row {
-            TraceRow::Plain(row) => self.post(row, late),
-            _ => Ok(()),
-        }
-    }
-
-    /// Posts the event that a row of the driver reads, if it reads one.
-    fn post(&mut self, row: &Row, late: Option<&Ring>) -> Result<(), Unmade>
-        requires { IsRow row.now }
-        ensures { (m : Making) → HasMade self.old m →
-            IsMade result (made_before m (Plain row.now) (option_map (λ ring. ring.now) late.entry)) (λ done n. HasMade self.new n) }
     {
         match (row, late) {
             (Row::Read { event }, Some(ring)) => self.make_behind_looks(post_of(event), ring),

@@ -12,9 +12,9 @@ use crate::scheduler::fault::ScheduleFault;
 use crate::scheduler::lazy::steps_of;
 use crate::scheduler::rings::{add_ring, follow_rings, looked_rings, prompt_rings, rings_behind};
 use crate::{ReplayFault, replay};
-use guest_memory::PageMemory;
+use guest_memory::SparseMemory;
 use std::alloc::{AllocError, Global};
-use traces::{Header, Ring, Row, Schedule, Step, Steps, Trace, TraceRow};
+use traces::{Header, Ring, Row, Schedule, Step, Steps, Trace};
 use trb::RingKind;
 use world_state::Harm;
 
@@ -46,8 +46,6 @@ pub fn harmful_schedule(
     row: u32,
 ) -> Result<Option<Schedule>, AllocError>
     requires few { trace.now.first + length trace.now.rows ≤ most_lines + 1 }
-    requires behind { trace.now.first ≤ row }
-    requires inside { row < trace.now.first + length trace.now.rows }
     ensures harm { IfOk result (λ found. IfSome found (λ schedule.
         (harm : HarmValue) × DoesHarm trace.now.header trace.now.rows (row - trace.now.first + 1) schedule.steps harm)) }
 {
@@ -59,7 +57,7 @@ pub fn harmful_schedule(
 
 /// A run that does harm beside a trace, of which `check` tells that the row with this line number is the first that breaks a rule: the eager schedule of the rows up to that one, or else the lazy one, with looks at each ring behind it, up to the first step
 /// after which the world isn't safe. That is told by the replay of what was made. A wide search tries more, where neither does harm. None
-/// where no schedule that was tried does, which doesn't say that no run does.
+/// where no schedule that was tried does, which doesn't say that no run does, and where the trace has no such row.
 pub fn harmful_run(
     alloc: Global,
     trace: &Trace,
@@ -67,14 +65,15 @@ pub fn harmful_run(
     search: Search,
 ) -> Result<Option<HarmfulRun>, AllocError>
     requires few { trace.now.first + length trace.now.rows ≤ most_lines + 1 }
-    requires behind { trace.now.first ≤ row }
-    requires inside { row < trace.now.first + length trace.now.rows }
     ensures harm { IfOk result (λ found. IfSome found (λ run.
         DoesHarm trace.now.header trace.now.rows (row - trace.now.first + 1) run.schedule.steps run.harm)) }
 {
+    if row < trace.first || (row - trace.first) as usize >= trace.rows.as_slice().len() {
+        return Ok(None);
+    }
     let refused = (row - trace.first) as usize;
     // no run beside the rows before it does harm
-    if let TraceRow::Plain(Row::Read { .. }) = trace.rows.as_slice()[refused] {
+    if let Row::Read { .. } = trace.rows.as_slice()[refused] {
         return Ok(None);
     }
     let first = &trace.rows.as_slice()[..refused + 1];
@@ -102,7 +101,7 @@ fn lines_of(made: &Result<Schedule, Unmade>, otherwise: usize) -> usize {
 fn harm_with_a_late_ring(
     alloc: Global,
     trace: &Trace,
-    first: &[TraceRow],
+    first: &[Row],
     lines: usize,
 ) -> Result<Option<HarmfulRun>, AllocError>
     requires { All IsTraceRow first.now }
@@ -132,7 +131,7 @@ fn harm_with_a_late_ring(
 fn eager_schedule(
     alloc: Global,
     trace: &Trace,
-    first: &[TraceRow],
+    first: &[Row],
     late: Option<&Ring>,
 ) -> Result<Schedule, Unmade>
     requires { All IsTraceRow first.now }
@@ -165,15 +164,11 @@ fn lazy_run(alloc: Global, trace: &Trace, refused: usize) -> Result<Option<Harmf
 
 /// The lazy schedule of rows, if none of them breaks a rule, then the next row, and looks at each active ring until it waits, at one that
 /// just went too.
-fn lazy_schedule_behind(
-    alloc: Global,
-    trace: &Trace,
-    before: &[TraceRow],
-) -> Result<Schedule, Unmade>
+fn lazy_schedule_behind(alloc: Global, trace: &Trace, before: &[Row]) -> Result<Schedule, Unmade>
     requires few { length before.now ≤ most_lines }
     requires fitting { All IsTraceRow before.now }
 {
-    let memory = PageMemory::new(alloc);
+    let memory = SparseMemory::new(alloc);
     let steps = match steps_of(alloc, &trace.header, 1, before, memory) {
         Ok(steps) => steps,
         Err(ScheduleFault::Refused { .. }) => return Err(Unmade::Dropped),

@@ -5,7 +5,7 @@ ghost use Rattle.traces.specs.TraceRows.{IsTraceRow};
 ghost use Rattle.world_state.specs.Steps.{NoHarm};
 ghost use Rattle.controller_model.specs.Showing.{scene_replayed};
 ghost use Rattle.ownership_checker.specs.RingPasses.Clean.{AreClean};
-ghost use Rattle.ownership_checker.specs.RingPasses.Rules.{ring_verdict};
+ghost use Rattle.ownership_rules.specs.Rules.{trace_verdict};
 ghost use Rattle.safety.specs.LazyRuns.LateEvents.{IsTimely};
 ghost use Rattle.safety.specs.LazyRuns.Law.{ContainsAll};
 ghost use Rattle.safety.specs.LazyRuns.Lazy.{lazy_steps};
@@ -15,9 +15,9 @@ ghost use Rattle.replayer.specs.Schedules.Verdicts.{IfRefusedAt};
 use crate::lazy_steps::steps_of_notes;
 use crate::scheduler::fault::ScheduleFault;
 use crate::scheduler::notes::notes_of;
-use guest_memory::{PageMemory, WordMemory};
+use guest_memory::{SparseMemory, WordMemory};
 use std::alloc::Global;
-use traces::{Header, Schedule, Step, Steps, Trace, TraceRow};
+use traces::{Header, Row, Schedule, Step, Steps, Trace};
 
 /// Checks a trace in one pass, and makes its lazy schedule: all rows in their order, and directly before each event that is read the steps
 /// of the controller that it needs; a ring that comes or goes and a descriptor that is withdrawn need none. Where no success is read while
@@ -36,14 +36,14 @@ pub fn lazy_schedule(alloc: Global, trace: &Trace) -> Result<Schedule, ScheduleF
         StandsAtFloors trace.now.header trace.now.rows schedule.steps) }
     ensures few { IfOk result (λ schedule. length schedule.steps ≤ 3 * length trace.now.rows + 3) }
     ensures refused { IfErr result (λ e. IfRefusedAt e (λ row c.
-        ring_verdict trace.now.header trace.now.first trace.now.rows ≡ Some (row, c))) }
+        trace_verdict trace.now.header trace.now.first trace.now.rows ≡ Some (row, c))) }
 {
     let steps = steps_of(
         alloc,
         &trace.header,
         trace.first,
         trace.rows.as_slice(),
-        PageMemory::new(alloc),
+        SparseMemory::new(alloc),
     )?;
     Ok(Schedule {
         steps: Steps::new(steps),
@@ -55,7 +55,7 @@ pub(crate) fn steps_of<M: WordMemory + Drop>(
     alloc: Global,
     header: &Header,
     first: u32,
-    rows: &[TraceRow],
+    rows: &[Row],
     memory: M,
 ) -> Result<Vec<Step>, ScheduleFault>
     requires headed { IsHeader header.now }
@@ -64,7 +64,7 @@ pub(crate) fn steps_of<M: WordMemory + Drop>(
     requires zero { (a : ℕ) → M.words memory a ≡ 0 }
     ensures clean { OnOk result (AreClean header.now (reverse rows.now)) }
     ensures steps { IfOk result (λ steps. steps.items ≡ lazy_steps header.now rows.now) }
-    ensures refused { IfErr result (λ e. IfRefusedAt e (λ row c. ring_verdict header.now first rows.now ≡ Some (row, c))) }
+    ensures refused { IfErr result (λ e. IfRefusedAt e (λ row c. trace_verdict header.now first rows.now ≡ Some (row, c))) }
 {
     let rings = header.copy(alloc)?;
     let notes = notes_of(alloc, rings, first, rows, memory)?;

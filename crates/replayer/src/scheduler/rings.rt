@@ -1,13 +1,13 @@
 //! The rings that are there behind rows, without one that is late.
 ghost use Rattle.std.specs.Prelude.{◌≡◌, ◌==◌, ◌++◌, ◌∷◌, [], IfOk, OnOk, filter, not, option_map, reverse};
 ghost use Rattle.traces.specs.declared.header.Header.{Header as HeaderValue};
-ghost use Rattle.world_state.specs.RingRows.{header_after};
+ghost use Rattle.traces.specs.LivingRings.{header_after};
 ghost use Rattle.replayer.specs.Schedules.Making.{rings_at};
-ghost use Rattle.safety.specs.RingChanges.Histories.{header_now};
+ghost use Rattle.ring_knowledge.specs.Histories.{header_now};
 ghost use Rattle.replayer.specs.Schedules.Eager.{is_bell, is_late, rings_looked_at, without_late};
 
 use std::alloc::{AllocError, Global};
-use traces::{Header, Ring, Row, TraceRow};
+use traces::{Header, Ring, Row};
 
 /// Whether a ring is the one that is late.
 fn is_late(late: Option<&Ring>, ring: &Ring) -> bool
@@ -37,15 +37,12 @@ pub(crate) fn prompt_rings<'t>(
 }
 
 /// The rings that are there behind a row, where these are there before it.
-pub(crate) fn follow_rings<'t>(
-    rings: &mut Vec<&'t Ring>,
-    row: &'t TraceRow,
-) -> Result<(), AllocError>
+pub(crate) fn follow_rings<'t>(rings: &mut Vec<&'t Ring>, row: &'t Row) -> Result<(), AllocError>
     ensures { OnOk result ((h : HeaderValue) → rings_at rings.old.items ≡ h.rings → rings_at rings.new.items ≡ (header_after h row.now).rings) }
 {
     match row {
-        TraceRow::Comes(ring) => add_ring(rings, ring.as_ring())?,
-        TraceRow::Goes(id) => drop_ring(rings, *id),
+        Row::Ring { ring } => add_ring(rings, ring.as_ring())?,
+        Row::Free { ring: id } => drop_ring(rings, *id),
         _ => {}
     }
     Ok(())
@@ -62,7 +59,7 @@ fn drop_ring<'t>(rings: &mut Vec<&'t Ring>, id: u8)
 pub(crate) fn rings_behind<'t>(
     alloc: Global,
     header: &'t Header,
-    rows: &'t [TraceRow],
+    rows: &'t [Row],
 ) -> Result<Vec<&'t Ring>, AllocError>
     ensures { IfOk result (λ rings. rings_at rings.items ≡ (header_now header.now (reverse rows.now)).rings) }
 {
@@ -85,14 +82,11 @@ fn is_bell(row: &Row) -> bool
 pub(crate) fn looked_rings<'a, 't>(
     prompt: &'a [&'t Ring],
     active: &'a [&'t Ring],
-    row: &TraceRow,
+    row: &Row,
 ) -> &'a [&'t Ring]
     ensures { (h : HeaderValue) → rings_at prompt.now ≡ h.rings → rings_at result.now ≡ rings_looked_at h (rings_at active.now) row.now }
 {
-    match row {
-        TraceRow::Plain(row) => { if is_bell(row) { prompt } else { active } }
-        _ => active,
-    }
+    if is_bell(row) { prompt } else { active }
 }
 
 /// Adds a ring.

@@ -1,19 +1,19 @@
 -- Where all events are read, the controller can post an event that is possible
-use Rattle.safety.proofs.LowerLaws.{rules, [], ◌≡◌, ◌++◌, ◌∙◌, List, All, reverse, refl, sym, ap, subst, append-nil, reverse-reverse, Header, TraceRow, FitsFields, ContainsAll, GoesSoFar, LazyLaw, AllAreRead, lazy_run, lazy_steps, ◌+◌, ◌∷◌, length, arith, Block, World, Known, Agrees, Runs, all_read, ◌-◌, ◌<◌, ◌≤◌, ◌==◌, ◌&&◌, ◌||◌, ℕ, nat_lt, not, true, false, ne_eqb, lt-ltb, ltb-false, and_from, or_parts, not-false, not_from_false, cycle, kind, is_event, cycle_of, same_in_lap, shape_facts, has_room, Read, IsHeader, event_shape, event_size, can_post, is_past_room, is_impossible_by_kind, is_impossible, event_tests, lenient_tests, lenient, DriverKeeps, EventFacts, event_facts, event_ring_is, size_is, AllFail, tests_fail}
+use Rattle.safety.proofs.LowerLaws.{rules, [], ◌≡◌, ◌++◌, ◌∙◌, List, All, reverse, sym, ap, subst, append-nil, reverse-reverse, Header, Row, IsRow, ContainsAll, GoesSoFar, LazyLaw, AllAreRead, lazy_run, lazy_steps, ◌+◌, ◌∷◌, length, arith, Block, World, Known, Agrees, Runs, all_read, ◌-◌, ◌<◌, ◌≤◌, ◌==◌, ◌&&◌, ◌||◌, ℕ, nat_lt, not, true, false, ne_eqb, lt-ltb, ltb-false, and_from, or_parts, not-false, not_from_false, cycle, kind, is_event, cycle_of, same_in_lap, shape_facts, has_room, Read, IsHeader, event_shape, event_size, can_post, is_past_room, is_impossible_by_kind, is_impossible, event_tests, lenient_tests, lenient, DriverKeeps, EventFacts, event_facts, event_ring_is, size_is, AllFail, tests_fail}
 use Rattle.safety.proofs.Words.{scene_reached}
 
 -- Behind all rows of a trace nothing is left to read: from the law of the lazy run behind each row
 
 module _ (h : Header) where
   -- the rows, told from their history
-  pub whole : (rows : List TraceRow) → reverse (reverse rows) ++ [] ≡ rows
+  pub whole : (rows : List Row) → reverse (reverse rows) ++ [] ≡ rows
   whole rows = append-nil (reverse (reverse rows)) ∙ reverse-reverse rows
 
-  steps_are : (rows : List TraceRow) → reverse (lazy_steps h rows) ≡ lazy_run h (reverse rows) []
+  steps_are : (rows : List Row) → reverse (lazy_steps h rows) ≡ lazy_run h (reverse rows) []
   unfolding lazy_steps
   steps_are rows = reverse-reverse (lazy_run h (reverse rows) [])
 
-  contains : (rows : List TraceRow) → GoesSoFar h (reverse rows) [] → ContainsAll h rows (reverse (lazy_steps h rows))
+  contains : (rows : List Row) → GoesSoFar h (reverse rows) [] → ContainsAll h rows (reverse (lazy_steps h rows))
   contains rows goes = record {
     scene = goes.scene;
     run = ap (λ steps. scene_reached h rows steps) (steps_are rows) ∙ ap (λ l. scene_reached h l (lazy_run h (reverse rows) [])) (sym (whole rows)) ∙ goes.run;
@@ -21,7 +21,7 @@ module _ (h : Header) where
   }
 
   pub all_are_read : LazyLaw h → AllAreRead h
-  all_are_read law rows is are kept timely = contains rows (law (reverse rows) [] is (subst (λ l. All FitsFields l) (sym (whole rows)) are) kept timely)
+  all_are_read law rows is are kept timely = contains rows (law (reverse rows) [] is (subst (λ l. All IsRow l) (sym (whole rows)) are) kept timely)
 
 -- A run whose events are all read: the world agrees with what is known now
 

@@ -1,5 +1,5 @@
 -- The step of a row with a Command Completion Event: the looks for it, and what follows where the controller can finish its command
-use Rattle.safety.proofs.UpperLaws.{[], cond_both, ◌≡◌, ◌∷◌, ◌++◌, ◌∙◌, ℕ, true, List, reverse, Some, sym, ap, subst, eq-eqb, rules, and_from, cond-true, not_from_false, Block, kind, pointer, is_command_completion, Spot, cycle_of, is_open, cycle_of_bit, command_of, Header, Read, TraceRow, Plain, Step, IsHeader, shape_of, command_id, World, UnderWay, can_post, Known, lenient, next_command, was_stop_seen, DriverKeeps, Agrees, next_at_floor, command_at_is, command_of-with_cycle, ◌≢◌, ◌⊎◌, ◌+◌, ◌≤◌, ◌==◌, if◌then◌else◌, suc, Option, None, arith, refl, inl, inr, flat_map, cases_eq, cases_lt, cond-false, put, code, Data, Shape, IsSpot, number, rank, after, ceiling, MayReach, crossing_positive, after_reached, number-after, rank_least, rank_most, Command, StopEndpoint, changes, RingSpot, command_at, event_read, learned, UnderWayMatches, TakenCommand, ring_here, ring_elsewhere, completion_kind, transfer_not_command, put_at, put_off, next_is, need, ended_with, finish_finished, finished_as, behind_taken, brought, command_taken, lazy_further, lazy_goals, looks_to, open_goals, stopped_goals, taken_up_to, known_changed_by, known_changed_by_all, completed, known_finished, held_at_ceiling, known_in_state, stop_ended, known_succeeded, false, false≢true, IsBlock, RingView, Finish, RingState, state_of, Runs, finish_is, finish_runs, posts_posted, counted, made, lazy_brought, goals, pointers_after, post_of, agrees_now, CompletionSays, completion_says, commands_open, CommandsOpen, AreTimely, IsHeld, need_of_held, timely_then, StandsAt, Follows, Leads, Past, may_post, AtFloors, Traced, traced_behind, looks_for, MayBring, commands_stand, IsActiveIfOpen, Carries, HadBefore, RingsGo}
+use Rattle.safety.proofs.UpperLaws.{[], cond_both, ◌≡◌, ◌∷◌, ◌++◌, ◌∙◌, ℕ, true, List, reverse, Some, sym, ap, subst, eq-eqb, rules, and_from, cond-true, not_from_false, Block, kind, pointer, is_command_completion, Spot, cycle_of, is_open, cycle_of_bit, command_of, Header, Read, Row, Step, IsHeader, shape_of, command_id, World, UnderWay, can_post, Known, lenient, next_command, was_stop_seen, DriverKeeps, Agrees, next_at_floor, command_at_is, command_of-with_cycle, ◌≢◌, ◌⊎◌, ◌+◌, ◌≤◌, ◌==◌, if◌then◌else◌, suc, Option, None, arith, refl, inl, inr, flat_map, cases_eq, cases_lt, cond-false, put, code, Data, Shape, IsSpot, number, rank, after, ceiling, MayReach, crossing_positive, after_reached, number-after, rank_least, rank_most, Command, StopEndpoint, changes, RingSpot, command_at, event_read, learned, UnderWayMatches, TakenCommand, ring_here, ring_elsewhere, completion_kind, transfer_not_command, put_at, put_off, next_is, need, ended_with, finish_finished, finished_as, behind_taken, brought, command_taken, lazy_further, lazy_goals, looks_to, open_goals, stopped_goals, taken_up_to, known_changed_by, known_changed_by_all, completed, known_finished, held_at_ceiling, known_in_state, stop_ended, known_succeeded, false, false≢true, IsBlock, RingView, Finish, RingState, state_of, Runs, finish_is, finish_runs, posts_posted, counted, made, lazy_brought, goals, pointers_after, post_of, agrees_now, CompletionSays, completion_says, commands_open, CommandsOpen, AreTimely, IsHeld, need_of_held, timely_then, StandsAt, Follows, Leads, Past, may_post, AtFloors, Traced, traced_behind, looks_for, MayBring, commands_stand, IsActiveIfOpen, Carries, HadBefore, RingsGo}
 use Rattle.safety.proofs.DriverHistories.{kept_driver, run_keeps}
 use Rattle.safety.specs.LazyRuns.Needs.{is_placed}
 use Rattle.safety.proofs.LazyRuns.LooksRun.{AllBrought, Fits, AllFit, AreApart, goals_reached, stands_same, further_then, further_not}
@@ -36,7 +36,7 @@ module _ (h : Header) where
   unfolding known_succeeded changes known_changed_by_all known_changed_by held_at_ceiling is_open
   stop_succeeded k n s i r had = search (rules, known_in_state, held_at_ceiling, is_open, ring_here, ceiling, shape_of)
 
-  module _ (is : IsHeader h) (past : Past h) (later : List TraceRow) (b : Block) (completion : is_command_completion (kind b) ≡ true) (timely : AreTimely h past.known (Plain (Read b) ∷ later))
+  module _ (is : IsHeader h) (past : Past h) (later : List Row) (b : Block) (completion : is_command_completion (kind b) ≡ true) (timely : AreTimely h past.known ((Read b) ∷ later))
       (d : DriverKeeps h past.known) where
     abbrev k : Known
     k = past.known
@@ -147,8 +147,8 @@ module _ (h : Header) where
       past_it = search (rules, k, at_command, cases_lt, goal, further_then, goal_number, further_not, rank_least, rank_most)
 
       -- the run comes to where the event is posted
-      pub prepared : (made : List Step) → Leads h past made (Plain (Read b) ∷ later) w →
-          AllBrought h past (Plain (Read b) ∷ later) made w pointers (lazy_goals h k later (kind b) b) (flat_map (looks_to h pointers) (lazy_goals h k later (kind b) b))
+      pub prepared : (made : List Step) → Leads h past made ((Read b) ∷ later) w →
+          AllBrought h past ((Read b) ∷ later) made w pointers (lazy_goals h k later (kind b) b) (flat_map (looks_to h pointers) (lazy_goals h k later (kind b) b))
       prepared made run = search (rules, flat_map, looks_to, goals_are, goals_reached, command_taken, k, stopped_goals, command_at, next_command, all_fit)
 
       pub rings_stay : (s i r : ℕ) → k.ring_of s i ≡ Some r → brought h pointers (lazy_goals h k later (kind b) b) r ≡ pointers r
@@ -170,12 +170,12 @@ module _ (h : Header) where
 
 module _ (h : Header) where
   -- where the rings stand before the event is posted
-  abbrev pub spots_then : Past h → List TraceRow → Block → ℕ → Spot
+  abbrev pub spots_then : Past h → List Row → Block → ℕ → Spot
   spots_then past later b = brought h past.pointers (lazy_goals h past.known later (kind b) b)
 
-  pub record ReadyToFinish (past : Past h) (later : List TraceRow) (b : Block) : Type 0 where
+  pub record ReadyToFinish (past : Past h) (later : List Row) (b : Block) : Type 0 where
     pub world : World
-    pub run : Leads h past (reverse (looks_for h past later b) ++ past.made) (Plain (Read b) ∷ later) world
+    pub run : Leads h past (reverse (looks_for h past later b) ++ past.made) ((Read b) ∷ later) world
     pub traced : Traced h past.known (spots_then past later b) world
     pub stay : (s i r : ℕ) → past.known.ring_of s i ≡ Some r → spots_then past later b r ≡ (past.known.ring r).floor
     pub opened : is_open (past.known.ring (command_id h)) ≡ true
@@ -189,9 +189,9 @@ module _ (h : Header) where
     pub command_is : command_of taken.block ≡ Some says.command
     pub stopped_is : taken.has_stopped ≡ was_stop_seen past.known says.command
 
-  module _ (is : IsHeader h) (past : Past h) (later : List TraceRow) (b : Block) (w : World) (completion : is_command_completion (kind b) ≡ true) (clean : lenient h past.known (Read b) ≡ [])
-      (timely : AreTimely h past.known (Plain (Read b) ∷ later)) (f : Follows h past.known past.pointers w) where
-    pub ready_to_finish : Leads h past past.made (Plain (Read b) ∷ later) w → ReadyToFinish past later b
+  module _ (is : IsHeader h) (past : Past h) (later : List Row) (b : Block) (w : World) (completion : is_command_completion (kind b) ≡ true) (clean : lenient h past.known (Read b) ≡ [])
+      (timely : AreTimely h past.known ((Read b) ∷ later)) (f : Follows h past.known past.pointers w) where
+    pub ready_to_finish : Leads h past past.made ((Read b) ∷ later) w → ReadyToFinish past later b
     ready_to_finish run =
         let says = completion_says h past.known b completion clean in
         let trace = traced_behind h past.known past.pointers w f in
@@ -219,12 +219,12 @@ module _ (h : Header) where
         }
 
   -- the rings stand at their floors
-  pub floors_then : (past : Past h) (later : List TraceRow) (b : Block) → (ready : ReadyToFinish past later b) → AtFloors h past.known ready.world
+  pub floors_then : (past : Past h) (later : List Row) (b : Block) → (ready : ReadyToFinish past later b) → AtFloors h past.known ready.world
   floors_then past later b ready =
       assumption (λ (s i r : ℕ) (had : past.known.ring_of s i ≡ Some r). subst (λ t. StandsAt h ready.world r t) (ready.stay s i r had) (ready.traced.rings s i r had), ready.traced.active)
 
   -- it can be posted, with what its code does
-  pub finish_posted : (past : Past h) (later : List TraceRow) (b : Block) (v : World) → is_command_completion (kind b) ≡ true → (ready : ReadyToFinish past later b) →
+  pub finish_posted : (past : Past h) (later : List Row) (b : Block) (v : World) → is_command_completion (kind b) ≡ true → (ready : ReadyToFinish past later b) →
       ended_with h h ready.world b ready.taken ≡ Some v → finish_finished h h ready.world b ≡ Some v
   unfolding finish_finished finished_as
   finish_posted past later b v completion ready ends = search (rules, cond-true, and_from, not_from_false, eq-eqb)
@@ -246,14 +246,14 @@ module _ (h : Header) where
 
   -- ---- the schedule's steps
 
-  other_pointer : (b : Block) (past : Past h) (later : List TraceRow) (r : ℕ) → is_placed h past.known r b ≡ false →
+  other_pointer : (b : Block) (past : Past h) (later : List Row) (r : ℕ) → is_placed h past.known r b ≡ false →
       pointers_after h past.known past.pointers (Read b) later r ≡ lazy_brought h past.pointers (goals h past.known later (kind b) b) r
   unfolding pointers_after
   other_pointer b past later r other = cond-false (is_placed h past.known r b) ((learned h past.known (Read b)).ring r).floor _ other
 
   -- ---- the world behind the finish and the row
 
-  module _ (is : IsHeader h) (past : Past h) (later : List TraceRow) (b : Block) (block : IsBlock b) (clean : lenient h past.known (Read b) ≡ []) (completion : is_command_completion (kind b) ≡ true)
+  module _ (is : IsHeader h) (past : Past h) (later : List Row) (b : Block) (block : IsBlock b) (clean : lenient h past.known (Read b) ≡ []) (completion : is_command_completion (kind b) ≡ true)
       (now : ℕ → Spot) (brought : (q : ℕ) → lazy_brought h past.pointers (goals h past.known later (kind b) b) q ≡ now q) (w u x : World) (m : Known) (trace : Traced h past.known now w)
       (stay : (s i r : ℕ) → past.known.ring_of s i ≡ Some r → now r ≡ (past.known.ring r).floor)
       (started : past.known.started ≡ true) (opened : is_open (past.known.ring (command_id h)) ≡ true)
@@ -324,7 +324,7 @@ module _ (h : Header) where
       command_active = λ on. ap (λ (g : RingState). g.active) command_is ∙ trace.command_active opened;
     }
 
-    pub completion_step : Leads h past (reverse (looks_for h past later b) ++ past.made) (Plain (Read b) ∷ later) w → Carries h past (Read b) later
+    pub completion_step : Leads h past (reverse (looks_for h past later b) ++ past.made) ((Read b) ∷ later) w → Carries h past (Read b) later
     unfolding post_of made
     completion_step run =
         event_step h is past later b block w trace.runs trace.all_read u posted (Finish b) (reverse (looks_for h past later b) ++ past.made) (finish_finished h h w b) (λ e. cc) refl at

@@ -1,5 +1,5 @@
 -- The step of a row that reads a Command Completion Event, whatever its command and its code
-use Rattle.safety.proofs.UpperLaws.{[], ◌≡◌, ◌+◌, ◌==◌, ◌∙◌, ℕ, not, true, false, List, Option, Some, is_some, unwrap_or, refl, sym, ap, rules, or_parts, cond-false, cond-true, Block, IsBlock, kind, code, slot, is_command_completion, Command, changes, command_of, named_context, can_succeed, Header, Read, TraceRow, Config, IsHeader, command_id, register_or_zero, World, posted, Known, event_read, learned, lenient, on_ring, command_at, next_command, is_bad_area, has_bad_context, CommandKeeps, Agrees, bad_command_context, ring_elsewhere, StatesMatch, ChangeKeeps, states_match, let_go, completion_kind, seen_after, stop_ended_is, next_unfinished, stored, stored_block, world_changed_by_all, bindings_effect, ended, ended_with, passes_end, finish_succeeded, completed, known_finished, known_succeeded, is_placed_by, ◌≢◌, ◌<◌, ◌∷◌, Bool, map, All, get_or, eq-eqb, list_any, All-head, All-tail, ConfigureEndpoint, Running, Change, SlotGoesOn, Disables, Places, placed_by_context, added_endpoints, is_dropped, context_pointer, context_cycle, is_ring, is_among, has_repeats, ring_bound, binding_in, DriverKeeps, Stands, bad_context_parts, same_context, configure_same, slot_above, may_add, have_none, numbered, apart, ReadyAt, HasNone, ring_at, ready_next, placed_there, none_there, false≢true, each_fails, any_of_map, known_changed_by, subst, inl, inr, cases_Bool, PlacesNone, command_numbered, SetTrDequeue, Stopped, may_move, MayMove, ContextSize, AreNoPlacings, arith, AddressDevice, is_off, address_same, first_binds, second_moves, slot_binds, slot_moves, and_left, and_right, not-true, Plain, was_stop_seen, learned_read, next_known, failed_read, put_off, Carries, Past, RingsGo, AtFloors, Follows, Leads, AreTimely, same_meant}
+use Rattle.safety.proofs.UpperLaws.{[], ◌≡◌, ◌+◌, ◌==◌, ◌∙◌, ℕ, not, true, false, List, Option, Some, is_some, unwrap_or, refl, sym, ap, rules, or_parts, cond-false, cond-true, Block, IsBlock, kind, code, slot, is_command_completion, Command, changes, command_of, named_context, can_succeed, Header, Read, Row, Config, IsHeader, command_id, register_or_zero, World, posted, Known, event_read, learned, lenient, on_ring, command_at, next_command, is_bad_area, has_bad_context, CommandKeeps, Agrees, bad_command_context, ring_elsewhere, StatesMatch, ChangeKeeps, states_match, let_go, completion_kind, seen_after, stop_ended_is, next_unfinished, stored, stored_block, world_changed_by_all, bindings_effect, ended, ended_with, passes_end, finish_succeeded, completed, known_finished, known_succeeded, is_placed_by, ◌≢◌, ◌<◌, ◌∷◌, Bool, map, All, get_or, eq-eqb, list_any, All-head, All-tail, ConfigureEndpoint, Running, Change, SlotGoesOn, Disables, Places, placed_by_context, added_endpoints, is_dropped, context_pointer, context_cycle, is_ring, is_among, has_repeats, ring_bound, binding_in, DriverKeeps, Stands, bad_context_parts, same_context, configure_same, slot_above, may_add, have_none, numbered, apart, ReadyAt, HasNone, ring_at, ready_next, placed_there, none_there, false≢true, each_fails, any_of_map, known_changed_by, subst, inl, inr, cases_Bool, PlacesNone, command_numbered, SetTrDequeue, Stopped, may_move, MayMove, ContextSize, AreNoPlacings, arith, AddressDevice, is_off, address_same, first_binds, second_moves, slot_binds, slot_moves, and_left, and_right, not-true, was_stop_seen, learned_read, next_known, failed_read, put_off, Carries, Past, RingsGo, AtFloors, Follows, Leads, AreTimely, same_meant}
 use Rattle.std.proofs.Common.{option_map}
 use Rattle.safety.specs.LazyRuns.Needs.{is_placed}
 use Rattle.safety.proofs.LazyRuns.ChangesGo.{ListGoes, ChangeGoes, no_change_goes, change_then_goes, change_goes, changes_go, bind_goes, move_goes}
@@ -34,12 +34,12 @@ module _ (h : Header) where
   EffectGoes k w n c = (changes h.context_size w.memory n c ≡ changes h.context_size k.memory n c) × ListGoes h c k w (changes h.context_size k.memory n c)
 
   -- what was tested of the command when it was given holds still
-  pub given_then : (past : Past h) (later : List TraceRow) (b : Block) → IsHeader h → (ready : ReadyToFinish h past later b) → CommandKeeps h past.known (next_command h past.known) ready.says.command
+  pub given_then : (past : Past h) (later : List Row) (b : Block) → IsHeader h → (ready : ReadyToFinish h past later b) → CommandKeeps h past.known (next_command h past.known) ready.says.command
   given_then past later b is ready =
       let c : Command = ready.says.command in
       ready.keeps.unfinished (next_command h past.known) c (next_unfinished h is past.known ready.keeps ready.says.started ready.says.below c ready.says.here)
 
-  module _ (past : Past h) (later : List TraceRow) (b : Block) (completion : is_command_completion (kind b) ≡ true) (one : (code b == 1) ≡ true) (ready : ReadyToFinish h past later b) (is : IsHeader h)
+  module _ (past : Past h) (later : List Row) (b : Block) (completion : is_command_completion (kind b) ≡ true) (one : (code b == 1) ≡ true) (ready : ReadyToFinish h past later b) (is : IsHeader h)
       (effect : EffectGoes past.known ready.world (slot b) ready.says.command) where
     abbrev k : Known
     k = past.known
@@ -81,7 +81,7 @@ module _ (h : Header) where
         (success_learns k b c completion one ready.says.here started) (search (rules, list, code, is_placed_by, slot, command_at, next_command, command_id)) ready.run
 
   -- the states of what is known are those of the world, before the first change
-  pub states_then : (past : Past h) (later : List TraceRow) (b : Block) → IsHeader h → (ready : ReadyToFinish h past later b) → StatesMatch h past.known ready.world
+  pub states_then : (past : Past h) (later : List Row) (b : Block) → IsHeader h → (ready : ReadyToFinish h past later b) → StatesMatch h past.known ready.world
   states_then past later b is ready = states_match h is past.known ready.world ready.keeps past.keeps.numbered ready.agrees.matches
 
 -- The success of a Configure Endpoint: the rings of the endpoints that it adds are bound
@@ -162,7 +162,7 @@ module _ (h : Header) where
       let same : learned h k (Read b) ≡ next_known h k (seen_after k c) (k.reads + 1) = learned_read h k b ∙ failed_read h k b c (k.reads + 1) completion here fails in
       subst (λ l. CompletionLearns h k l k) (sym same) (record { started = refl; ring_of = λ s i. refl; rings = λ q other. put_off k.ring (command_id h) _ q other })
 
-  module _ (past : Past h) (later : List TraceRow) (b : Block) (completion : is_command_completion (kind b) ≡ true) (fails : (code b == 1) ≡ false) (ready : ReadyToFinish h past later b) where
+  module _ (past : Past h) (later : List Row) (b : Block) (completion : is_command_completion (kind b) ≡ true) (fails : (code b == 1) ≡ false) (ready : ReadyToFinish h past later b) where
     fails_so : ended_with h h ready.world b ready.taken ≡ Some (let_go (posted h ready.world b))
     unfolding ended_with ended
     fails_so = search (rules, cond-false, code, option_map, ended, finish_succeeded, slot, command_of, let_go, posted, not-true, was_stop_seen, not)
@@ -171,8 +171,8 @@ module _ (h : Header) where
     unfolding is_placed
     rings_stay = search (rules, floors_then, and_left, and_right)
 
-  pub failed_step : (past : Past h) (later : List TraceRow) (b : Block) (w : World) → is_command_completion (kind b) ≡ true → (code b == 1) ≡ false → IsHeader h → IsBlock b → lenient h past.known (Read b) ≡ [] →
-      AreTimely h past.known (Plain (Read b) ∷ later) → Leads h past past.made (Plain (Read b) ∷ later) w → Follows h past.known past.pointers w → Carries h past (Read b) later
+  pub failed_step : (past : Past h) (later : List Row) (b : Block) (w : World) → is_command_completion (kind b) ≡ true → (code b == 1) ≡ false → IsHeader h → IsBlock b → lenient h past.known (Read b) ≡ [] →
+      AreTimely h past.known ((Read b) ∷ later) → Leads h past past.made ((Read b) ∷ later) w → Follows h past.known past.pointers w → Carries h past (Read b) later
   failed_step past later b w completion fails is block clean timely run f =
       let ready : ReadyToFinish h past later b = ready_to_finish h is past later b w completion clean timely f run in
       let v : World = let_go (posted h ready.world b) in
@@ -248,7 +248,7 @@ dequeue_effect h is k w n s i p cycle d m at given =
     let one : ChangeGoes h c k w change = move_goes h is c k w s i p cycle Stopped m at (m.within s i may.ring may.had) may in
     (refl, change_then_goes h c k w change [] one (no_change_goes h c (known_changed_by h c k change) one.world one.keeps.states one.goes.at_floors))
 
-module _ (h : Header) (is : IsHeader h) (past : Past h) (later : List TraceRow) (b : Block) (ready : ReadyToFinish h past later b) where
+module _ (h : Header) (is : IsHeader h) (past : Past h) (later : List Row) (b : Block) (ready : ReadyToFinish h past later b) where
   -- the command by its name
   command_keeps : (c : Command) → ready.says.command ≡ c → CommandKeeps h past.known (next_command h past.known) c
   command_keeps c here = subst (λ x. CommandKeeps h past.known (next_command h past.known) x) here (given_then h past later b is ready)

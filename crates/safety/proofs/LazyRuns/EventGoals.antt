@@ -1,5 +1,5 @@
 -- What an event that is read asks for stays below the floors behind it, or below what is needed later; and it is few looks
-use Rattle.safety.proofs.UpperLaws.{rules, [], ◌≡◌, ◌+◌, ◌<◌, ◌≤◌, ◌==◌, ◌&&◌, ◌||◌, ◌∷◌, ◌∙◌, ℕ, true, false, List, Some, max, nat_lt, arith, refl, sym, ap, subst, inl, inr, eq-eqb, eqb-true, ltb-true, cases_Bool, cond_both, false≢true, and_parts, Block, BlockKind, TransferEvent, CommandCompletion, kind, code, slot, endpoint, is_transfer_event, is_success, is_halting, is_trb_error, is_stopping, Spot, number, after, number-after, floor_number, is_open, Header, TraceRow, Read, IsHeader, shape_of, command_id, Known, RingSpot, next_command, learned, lenient, transferred, IsDriverRing, IsTransferRing, DriverKeeps, command_is_ring, event_facts, found_in, transfer_driver, transfer_not_command, need, number_behind, number_reported, is_report_of_success, is_shape, driver_test, floors_grow, each_passes, header_parts, command_taken, lazy_goals, open_goals, report_goals, stop_goal, stopped_goals, taken_up_to, event_at, bit, bit_set, number_taken, AreFew, no_goal, command_goal, ring_goal, two_goals, TransferFacts, transfer_facts, stop_code}
+use Rattle.safety.proofs.UpperLaws.{rules, [], ◌≡◌, ◌+◌, ◌<◌, ◌≤◌, ◌==◌, ◌&&◌, ◌||◌, ◌∷◌, ◌∙◌, ℕ, true, false, List, Some, max, nat_lt, arith, refl, sym, ap, subst, inl, inr, eq-eqb, eqb-true, ltb-true, cases_Bool, cond_both, false≢true, and_parts, Block, BlockKind, TransferEvent, CommandCompletion, kind, code, slot, endpoint, is_transfer_event, is_success, is_halting, is_trb_error, is_stopping, Spot, number, after, number-after, floor_number, is_open, Header, Row, Read, IsHeader, shape_of, command_id, Known, RingSpot, next_command, learned, lenient, transferred, IsDriverRing, IsTransferRing, DriverKeeps, command_is_ring, event_facts, found_in, transfer_driver, transfer_not_command, need, number_behind, number_reported, is_report_of_success, is_shape, driver_test, floors_grow, each_passes, header_parts, command_taken, lazy_goals, open_goals, report_goals, stop_goal, stopped_goals, taken_up_to, event_at, bit, bit_set, number_taken, AreFew, no_goal, command_goal, ring_goal, two_goals, TransferFacts, transfer_facts, stop_code}
 use Rattle.safety.proofs.LazyRuns.TransferGoals.{read_is, success_floor, error_ring, stop_ring}
 
 -- each goal's number is at most that of its ring
@@ -7,7 +7,7 @@ abbrev pub AreWithin : (ℕ → ℕ) → List RingSpot → Type 0
 AreWithin top [] = Unit {0}
 AreWithin top (goal ∷ rest) = (number goal.spot ≤ top goal.ring) × AreWithin top rest
 
-module _ (h : Header) (k : Known) (b : Block) (clean : lenient h k (Read b) ≡ []) (later : List TraceRow) where
+module _ (h : Header) (k : Known) (b : Block) (clean : lenient h k (Read b) ≡ []) (later : List Row) where
   abbrev l : Known
   l = learned h k (Read b)
 

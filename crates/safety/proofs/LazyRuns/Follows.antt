@@ -1,7 +1,11 @@
 -- What the induction over the rows follows: where rings stand in the world, what is known of them there, and what looks may be made
-use Rattle.safety.proofs.MiddleLaws.{rules, [], ◌≡◌, ◌⊎◌, ◌∷◌, ◌++◌, ℕ, true, false, List, reverse, Some, Block, IsBlock, Spot, Data, is_open, IsSpot, number, spot_address, spot_cycle, Header, Row, Read, Step, NextRow, TraceRow, Plain, IsHeader, shape_of, command_id, World, next_take, Known, learned, lenient, DriverKeeps, Runs, live_reached, live_with, steps_before, pointers_after, AreAtFloors, ◌∙◌, option_and_then, sym, ap, subst, IsDriverRow, live_step, Option, cond-false, row_done, counted, steps_made, while_running, ◌≢◌, ◌+◌, ◌<◌, ◌≤◌, rank, MayReach, RingSpot, next_command, state_of, further, looks_to, flat_map, kind, goals, Bool, inl, inr, cases_Bool, cases_eq, false≢true, Shape, IsShape, data_not_link, IsDriverRing, RingMatches, Unreported, UnderWayMatches, Agrees, transfer_driver, ring_shape, command_is_ring, arith}
+use Rattle.safety.proofs.MiddleLaws.{rules, [], ◌≡◌, ◌⊎◌, ◌∷◌, ◌++◌, ℕ, true, false, List, reverse, Some, Block, IsBlock, Spot, Data, is_open, IsSpot, number, spot_address, spot_cycle, Header, Row, Read, Step, NextRow, IsHeader, shape_of, command_id, World, next_take, Known, learned, lenient, DriverKeeps, Runs, live_reached, live_with, steps_before, pointers_after, AreAtFloors, ◌∙◌, option_and_then, sym, ap, subst, IsDriverRow, live_step, Option, cond-false, row_done, counted, steps_made, while_running, ◌≢◌, ◌+◌, ◌<◌, ◌≤◌, rank, MayReach, RingSpot, next_command, state_of, further, looks_to, flat_map, kind, goals, Bool, inl, inr, cases_Bool, cases_eq, false≢true, Shape, IsShape, data_not_link, IsDriverRing, RingMatches, Unreported, UnderWayMatches, Agrees, transfer_driver, ring_shape, command_is_ring, arith, Sub, Write, Reg, Bell, refl, RingRow, FreeRow}
 use Rattle.std.proofs.Common.{option_map}
 use Rattle.safety.proofs.LazyRuns.NeedsOfHeld.{AreTimely}
+use Rattle.traces.specs.declared.row.Row.TheVariants.{Ring as RingRow}
+use Rattle.traces.specs.declared.row.Row.TheVariants.{Free as FreeRow}
+use Rattle.traces.specs.declared.row.Row.TheVariants.{Nop as NopRow}
+use Rattle.traces.specs.Rows.{is_ring_row}
 
 -- What an induction over the rows has to carry beside the lazy law: all events are read, the schedule knows where the pointers stand,
 -- also that of the command ring, and a ring that is open is active. Without it neither a look nor a post is known to be possible
@@ -34,18 +38,18 @@ module _ (h : Header) where
   -- header; what is known behind it; and where the schedule has the pointers
   pub record Past : Type 0 where
     pub first : Header
-    pub rows : List TraceRow
+    pub rows : List Row
     pub made : List Step
     pub known : Known
     pub keeps : DriverKeeps h known
     pub pointers : ℕ → Spot
 
   -- steps of that run lead to world w, with these rows to come
-  abbrev pub Leads : Past → List Step → List TraceRow → World → Type 0
+  abbrev pub Leads : Past → List Step → List Row → World → Type 0
   Leads past steps later w = live_reached past.first past.rows steps ≡ Some (live_with h later w)
 
   -- a row that a driver makes or reads, with the controller's steps before it; after a stop no clean row comes
-  pub record Carries (past : Past) (row : Row) (later : List TraceRow) : Type 0 where
+  pub record Carries (past : Past) (row : Row) (later : List Row) : Type 0 where
     pub world : World
     pub run : Leads past (NextRow ∷ reverse (steps_before h past.known past.pointers row later) ++ past.made) later world
     pub goes : Follows (learned h past.known row) (pointers_after h past.known past.pointers row later) world
@@ -54,36 +58,46 @@ module _ (h : Header) where
   -- the step of a row that reads an event
   abbrev pub EventLaw : Type 0
   EventLaw =
-      (past : Past) (later : List TraceRow) (b : Block) (w : World) → IsHeader h → IsBlock b → lenient h past.known (Read b) ≡ [] →
-      AreTimely h past.known (Plain (Read b) ∷ later) → Leads past past.made (Plain (Read b) ∷ later) w → Follows past.known past.pointers w →
+      (past : Past) (later : List Row) (b : Block) (w : World) → IsHeader h → IsBlock b → lenient h past.known (Read b) ≡ [] →
+      AreTimely h past.known ((Read b) ∷ later) → Leads past past.made ((Read b) ∷ later) w → Follows past.known past.pointers w →
       Carries past (Read b) later
 
 -- The lazy run makes no step of the controller for a row of the driver: it goes from one row to the next
 
+pub driver_no_ring : (row : Row) → IsDriverRow row → is_ring_row row ≡ false
+driver_no_ring (Sub r blocks) driver_row = refl
+driver_no_ring (Write a w) driver_row = refl
+driver_no_ring (Reg r v) driver_row = refl
+driver_no_ring (Bell s t) driver_row = refl
+driver_no_ring row driver_row = absurd driver_row
+
 module _ (h : Header) where
-  pub no_steps : (k : Known) (pointers : ℕ → Spot) (row : Row) (later : List TraceRow) → IsDriverRow row → steps_before h k pointers row later ≡ []
+  pub no_steps : (k : Known) (pointers : ℕ → Spot) (row : Row) (later : List Row) → IsDriverRow row → steps_before h k pointers row later ≡ []
   unfolding steps_before
   no_steps k pointers o later driver_row = grind arith
 
-  pub pointers_same : (k : Known) (pointers : ℕ → Spot) (row : Row) (later : List TraceRow) (r : ℕ) → IsDriverRow row → pointers_after h k pointers row later r ≡ pointers r
+  pub pointers_same : (k : Known) (pointers : ℕ → Spot) (row : Row) (later : List Row) (r : ℕ) → IsDriverRow row → pointers_after h k pointers row later r ≡ pointers r
   unfolding pointers_after
   pointers_same k pointers o later r driver_row = grind arith
 
   -- the next row is made
-  pub next_reached : (past : Past h) (made : List Step) (w v : World) (row : Row) (later : List TraceRow) → Leads h past made (Plain row ∷ later) w →
+  pub next_reached : (past : Past h) (made : List Step) (w v : World) (row : Row) (later : List Row) → is_ring_row row ≡ false → Leads h past made (row ∷ later) w →
       row_done h w row ≡ Some v → Leads h past (NextRow ∷ made) later (counted h v)
-  next_reached past made w v row later run at = search rules
+  next_reached past made w v (RingRow ring) later driven run at = absurd (false≢true (sym driven))
+  next_reached past made w v (FreeRow id) later driven run at = absurd (false≢true (sym driven))
+  next_reached past made w v (NopRow r p) later driven run at = absurd (false≢true (sym driven))
+  next_reached past made w v row later driven run at = search rules
 
   -- a step of the controller is made
-  pub step_reached : (past : Past h) (to_come : List TraceRow) (made : List Step) (w u : World) (s : Step) (o : Option World) → (s ≡ NextRow → ⊥) → steps_made h h w s ≡ while_running h w o →
+  pub step_reached : (past : Past h) (to_come : List Row) (made : List Step) (w u : World) (s : Step) (o : Option World) → (s ≡ NextRow → ⊥) → steps_made h h w s ≡ while_running h w o →
       Leads h past made to_come w → w.stopped ≡ false → o ≡ Some u → Leads h past (s ∷ made) to_come (counted h u)
   unfolding while_running
   step_reached past to_come made w u s o other same run running at =
       grind (arith, option_and_then, live_step, option_map, live_with, counted, cond-false, w.stopped)
 
-  pub driver_reached : (past : Past h) (w v : World) (row : Row) (later : List TraceRow) → IsDriverRow row → Leads h past past.made (Plain row ∷ later) w →
+  pub driver_reached : (past : Past h) (w v : World) (row : Row) (later : List Row) → IsDriverRow row → Leads h past past.made (row ∷ later) w →
       row_done h w row ≡ Some v → Leads h past (NextRow ∷ reverse (steps_before h past.known past.pointers row later) ++ past.made) later (counted h v)
-  driver_reached past w v row later driver_row run at = search (rules, no_steps, next_reached)
+  driver_reached past w v row later driver_row run at = search (rules, no_steps, next_reached, driver_no_ring)
 
 -- The looks of the lazy schedule at one ring are a run, and bring the ring to its spot
 
@@ -114,7 +128,7 @@ module _ (h : Header) where
 
   -- the looks are a run, and the ring stands at its goal, or where it stood if that is further. Its takes are those of the blocks
   -- that it passed: what stands at a spot has taken the blocks before it, by the agreement of a run
-  pub record Looked (past : Past h) (to_come : List TraceRow) (made : List Step) (w : World) (r : ℕ) (t : Spot) (looks : List Step) : Type 0 where
+  pub record Looked (past : Past h) (to_come : List Row) (made : List Step) (w : World) (r : ℕ) (t : Spot) (looks : List Step) : Type 0 where
     pub world : World
     pub run : Leads h past (reverse looks ++ made) to_come world
     pub runs : Runs h past.known world
@@ -124,7 +138,7 @@ module _ (h : Header) where
   -- nothing is asked of a ring that stands at its goal, or behind it
   abbrev pub LooksLaw : Type 0
   LooksLaw =
-      (past : Past h) (to_come : List TraceRow) (made : List Step) (w : World) (pointers : ℕ → Spot) (goal : RingSpot) → IsHeader h → Leads h past made to_come w → Runs h past.known w →
+      (past : Past h) (to_come : List Row) (made : List Step) (w : World) (pointers : ℕ → Spot) (goal : RingSpot) → IsHeader h → Leads h past made to_come w → Runs h past.known w →
       w.posted ≡ w.reads → StandsAt h w goal.ring (pointers goal.ring) →
       (rank (pointers goal.ring) < rank goal.spot → MayBring past.known w goal.ring goal.spot) →
       Looked past to_come made w goal.ring (further (pointers goal.ring) goal.spot) (looks_to h pointers goal)
@@ -146,7 +160,7 @@ module _ (h : Header) where
   traced_behind k pointers w f = assumption (f, λ (s i r : ℕ) (at : k.ring_of s i ≡ Some r). subst (λ t. StandsAt h w r t) (sym (f.traced s i r at)) (f.floors s i r at))
 
   -- the looks for an event, in their order
-  abbrev pub looks_for : Past h → List TraceRow → Block → List Step
+  abbrev pub looks_for : Past h → List Row → Block → List Step
   looks_for past later b = flat_map (looks_to h past.pointers) (goals h past.known later (kind b) b)
 
 -- What the completion of a command leaves of rings: each that an endpoint has stands at its floor, and is active if it is open

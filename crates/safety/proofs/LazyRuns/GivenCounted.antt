@@ -1,6 +1,6 @@
 -- Each position before a ring's floor was given by a write of its own: floors, summed, and events that are read are no more than rows
-use Rattle.safety.proofs.UpperLaws.{[], ◌≡◌, ◌≢◌, ◌+◌, ◌<◌, ◌≤◌, ◌∷◌, ◌∙◌, ℕ, suc, true, List, All, length, Option, arith, refl, sym, ap, rules, cases_eq, cond_both, All-head, All-tail, is_inside, put, put_at, put_off, Opens, RingChange, RingView, new_ring, floor_number, Header, Row, Sub, Write, Reg, Bell, Read, TraceRow, Comes, Goes, Plain, IsHeader, shape_of, command_id, Register, Known, on_ring, nothing, endpoint_rung, rung, learned, AreKept, FitsFields, header_now, known_now, forgotten, restored, restored_on, ring_restored, with_ring, without_ring, register_leaves, view_after, kind, Block, DriverKeeps, IsDriverRing, ring_shape, Declares, changed, ring_with, is_driver_ring, driver_ring, endpoints_of, rings_of, still_of, not_in_both, transfer_driver, written_view, event_same, still_reads, RingsKeep, RingWithdraws, given_among, all_given, same_given, one_more, no_more, of_driver, on_driver, off_driver, none_of_driver, driver_le, total, total_grows, total_le, total_none, total_one}
-use Rattle.traces.specs.declared.trace_row.TraceRow.TheVariants.{Withdraws}
+use Rattle.safety.proofs.UpperLaws.{[], ◌≡◌, ◌≢◌, ◌+◌, ◌<◌, ◌≤◌, ◌∷◌, ◌∙◌, ℕ, suc, true, List, All, length, Option, arith, refl, sym, ap, rules, cases_eq, cond_both, All-head, All-tail, is_inside, put, put_at, put_off, Opens, RingChange, RingView, new_ring, floor_number, Header, Row, Sub, Write, Reg, Bell, Read, RingRow, FreeRow, IsHeader, shape_of, command_id, Register, Known, on_ring, nothing, endpoint_rung, rung, learned, AreKept, IsRow, header_now, known_now, forgotten, restored, restored_on, ring_restored, with_ring, without_ring, register_leaves, view_after, kind, Block, DriverKeeps, IsDriverRing, ring_shape, Declares, changed, ring_with, is_driver_ring, driver_ring, endpoints_of, rings_of, still_of, not_in_both, transfer_driver, written_view, event_same, still_reads, RingsKeep, RingWithdraws, given_among, all_given, same_given, one_more, no_more, of_driver, on_driver, off_driver, none_of_driver, driver_le, total, total_grows, total_le, total_none, total_one, false, false≢true}
+use Rattle.traces.specs.declared.row.Row.TheVariants.{Nop as NopRow}
 use Rattle.safety.proofs.DriverRows.{nothing_keeps}
 use Rattle.safety.proofs.Histories.{row_keeps}
 use Rattle.safety.proofs.RingChanges.Restored.{row_comes, row_keeps as kept_row}
@@ -8,11 +8,13 @@ use Rattle.safety.proofs.RingChanges.LiveHeadline.{Keeps, kept_on, now_keeps}
 use Rattle.safety.proofs.LazyRuns.Progress.{none_given}
 use Rattle.safety.proofs.LazyRuns.RingRows.{OthersStay, comes_stay, goes_stay}
 use Rattle.safety.proofs.RingChanges.GoneRings as rings_gone
+use Rattle.safety.proofs.RingChanges.KeptRings.{kept_coming, kept_going, kept_withdrawing}
+use Rattle.traces.specs.Rows.{is_ring_row}
 
 -- how many rows read an event
-unfoldable pub events : List TraceRow → ℕ
+unfoldable pub events : List Row → ℕ
 events [] = 0
-events (Plain (Read b) ∷ past) = suc (events past)
+events ((Read b) ∷ past) = suc (events past)
 events (_ ∷ past) = events past
 
 module _ (h : Header) where
@@ -90,7 +92,11 @@ module _ (h : Header) where
 
     -- a row of the driver gives one position at most, and one that reads an event none
     row_most : IsHeader h → (k : Known) (row : Row) → all_rings (learned h k row) ≤ all_rings k + 1
+    unfolding learned
     row_most is k (Write a w) = write_one is k a w
+    row_most is k (RingRow ring) = omega arith
+    row_most is k (FreeRow id) = omega arith
+    row_most is k (NopRow r p) = omega arith
     row_most is k _ = search (rules, arith, none_more, declares_none, register_none, rung_none, event_none)
 
     event_most : (k : Known) (b : Block) → all_rings (learned h k (Read b)) ≤ all_rings k
@@ -138,66 +144,70 @@ floors h k = total (λ r. of_driver h r (floor_number (k.ring r))) 256
 
 module _ (h : Header) where
   -- those of the rings that went
-  unfoldable pub gone : List TraceRow → ℕ
+  unfoldable pub gone : List Row → ℕ
   gone [] = 0
-  gone (Goes id ∷ past) = gone past + of_driver (header_now h past) id (floor_number ((known_now h past).ring id))
+  gone (FreeRow id ∷ past) = gone past + of_driver (header_now h past) id (floor_number ((known_now h past).ring id))
   gone (_ ∷ past) = gone past
 
   module _ (is : IsHeader h) where
-    pub kept_before : (row : TraceRow) (past : List TraceRow) → All FitsFields (row ∷ past) → AreKept h (row ∷ past) → Keeps h is past
-    kept_before row past are kept = now_keeps h is past (All-tail FitsFields row past are) kept.0 (kept_on (header_now h past) (known_now h past) row kept.1)
+    pub kept_before : (row : Row) (past : List Row) → All IsRow (row ∷ past) → AreKept h (row ∷ past) → Keeps h is past
+    kept_before row past are kept = now_keeps h is past (All-tail IsRow row past are) kept.0 (kept_on (header_now h past) (known_now h past) row kept.1)
 
-    driven : (row : Row) (past : List TraceRow) → All FitsFields (Plain row ∷ past) → AreKept h (Plain row ∷ past) → (n : ℕ → ℕ) → all_rings (header_now h past) n (known_now h past) + gone past + events past ≤ length past →
-        all_rings (header_now h past) n (known_now h (Plain row ∷ past)) + gone past + events past ≤ length (Plain row ∷ past)
-    driven row past are kept n before =
+    driven : (row : Row) (past : List Row) → is_ring_row row ≡ false → All IsRow (row ∷ past) → AreKept h (row ∷ past) → (n : ℕ → ℕ) → all_rings (header_now h past) n (known_now h past) + gone past + events past ≤ length past →
+        all_rings (header_now h past) n (known_now h (row ∷ past)) + gone past + events past ≤ length (row ∷ past)
+    driven (RingRow ring) past other are kept n before = absurd (false≢true (sym other))
+    driven (FreeRow id) past other are kept n before = absurd (false≢true (sym other))
+    driven (NopRow r p) past other are kept n before = absurd (false≢true (sym other))
+    driven row past other are kept n before =
         let g : Header = header_now h past in
-        omega (arith, before, restored_most g n (known_now h past) row, row_most g n (kept_before (Plain row) past are kept).headed (restored g (known_now h past) row) row)
+        omega (arith, before, restored_most g n (known_now h past) row, row_most g n (kept_before row past are kept).headed (restored g (known_now h past) row) row)
 
     -- each write gives one position at most; of a ring that goes those before its floor were given
-    given_most : (past : List TraceRow) → All FitsFields past → AreKept h past → (n : ℕ → ℕ) → all_rings (header_now h past) n (known_now h past) + gone past + events past ≤ length past
+    given_most : (past : List Row) → All IsRow past → AreKept h past → (n : ℕ → ℕ) → all_rings (header_now h past) n (known_now h past) + gone past + events past ≤ length past
     unfolding events gone ring_restored restored_on
     given_most [] are kept n = omega (arith, before_any h n)
-    given_most (Plain (Read b) ∷ past) are kept n =
-        omega (arith, given_most past (All-tail FitsFields (Plain (Read b)) past are) kept.0 n, event_most (header_now h past) n (known_now h past) b)
-    given_most (Plain row ∷ past) are kept n = driven row past are kept n (given_most past (All-tail FitsFields (Plain row) past are) kept.0 n)
-    given_most (Withdraws r p ∷ past) are kept n =
-        omega (arith, given_most past (All-tail FitsFields (Withdraws r p) past are) kept.0 n, withdrawn_most (header_now h past) n (known_now h past) r p)
-    given_most (Comes ring ∷ past) are kept n =
-        let p = kept_before (Comes ring) past are kept in
-        let stay = comes_stay (header_now h past) p.headed (known_now h past) p.keeps ring (All-head FitsFields (Comes ring) past are) kept.1.1 in
-        omega (arith, given_most past (All-tail FitsFields (Comes ring) past are) kept.0 n, comes_most (header_now h past) (with_ring (header_now h past) ring) (known_now h past) ring.id stay n)
-    given_most (Goes id ∷ past) are kept n =
-        let p = kept_before (Goes id) past are kept in
+    given_most ((Read b) ∷ past) are kept n =
+        omega (arith, given_most past (All-tail IsRow (Read b) past are) kept.0 n, event_most (header_now h past) n (known_now h past) b)
+    given_most (NopRow r p ∷ past) are kept n =
+        omega (arith, given_most past (All-tail IsRow (NopRow r p) past are) kept.0 n, withdrawn_most (header_now h past) n (known_now h past) r p)
+    given_most (RingRow ring ∷ past) are kept n =
+        let p = kept_before (RingRow ring) past are kept in
+        let stay = comes_stay (header_now h past) p.headed (known_now h past) p.keeps ring (All-head IsRow (RingRow ring) past are) (kept_coming (header_now h past) (known_now h past) ring kept.1).1 in
+        omega (arith, given_most past (All-tail IsRow (RingRow ring) past are) kept.0 n, comes_most (header_now h past) (with_ring (header_now h past) ring) (known_now h past) ring.id stay n)
+    given_most (FreeRow id ∷ past) are kept n =
+        let p = kept_before (FreeRow id) past are kept in
+        let good = (kept_going (header_now h past) (known_now h past) id kept.1).1 in
         let g : Header = header_now h past in
         let k : Known = known_now h past in
         let m : ℕ = floor_number (k.ring id) in
-        let all : given_among (k.ring id) m ≡ m = all_given (k.ring id) m (p.keeps.rings id (transfer_driver g id (rings_gone.gone g p.headed k p.keeps id kept.1.1))).passed in
+        let all : given_among (k.ring id) m ≡ m = all_given (k.ring id) m (p.keeps.rings id (transfer_driver g id (rings_gone.gone g p.headed k p.keeps id good))).passed in
         omega (
           arith,
-          given_most past (All-tail FitsFields (Goes id) past are) kept.0 (put n id m),
-          goes_most g (without_ring g id) k id (goes_stay g p.headed k p.keeps id kept.1.1) n m (All-head FitsFields (Goes id) past are) all,
+          given_most past (All-tail IsRow (FreeRow id) past are) kept.0 (put n id m),
+          goes_most g (without_ring g id) k id (goes_stay g p.headed k p.keeps id good) n m (All-head IsRow (FreeRow id) past are) all,
         )
+    given_most (row ∷ past) are kept n = driven row past refl are kept n (given_most past (All-tail IsRow row past are) kept.0 n)
 
     -- ---- before a floor all is given
 
-    rings_kept : (past : List TraceRow) → All FitsFields past → AreKept h past → RingsKeep (header_now h past) (known_now h past)
+    rings_behind : (row : Row) (past : List Row) → All IsRow (row ∷ past) → AreKept h (row ∷ past) → (known_now h (row ∷ past)).stopped ≡ false → RingsKeep (header_now h (row ∷ past)) (known_now h (row ∷ past))
+    rings_behind row past are kept on = rings_of (header_now h (row ∷ past)) (known_now h (row ∷ past)) (now_keeps h is (row ∷ past) are kept on).keeps
+
+    rings_kept : (past : List Row) → All IsRow past → AreKept h past → RingsKeep (header_now h past) (known_now h past)
     unfolding on_ring forgotten
     rings_kept [] are kept = nothing_keeps h is
-    rings_kept (Plain row ∷ past) are kept =
-        let p = kept_before (Plain row) past are kept in
+    rings_kept (NopRow r q ∷ past) are kept = rings_behind (NopRow r q) past are kept (kept_withdrawing (header_now h past) (known_now h past) r q kept.1).0
+    rings_kept (RingRow ring ∷ past) are kept = rings_behind (RingRow ring) past are kept (kept_coming (header_now h past) (known_now h past) ring kept.1).0
+    rings_kept (FreeRow id ∷ past) are kept = rings_behind (FreeRow id) past are kept (kept_going (header_now h past) (known_now h past) id kept.1).0
+    rings_kept (row ∷ past) are kept =
+        let p = kept_before row past are kept in
         let g : Header = header_now h past in
         let k : Known = restored g (known_now h past) row in
         let d : DriverKeeps g k = kept_row g p.headed (known_now h past) p.keeps row kept.1.1 in
         row_keeps g p.headed k row (rings_of g k d) (endpoints_of g k d.states) d.commands_stay (row_comes g p.headed (known_now h past) p.keeps row kept.1.0 kept.1.2)
         (still_reads g p.headed k row (rings_of g k d) (endpoints_of g k d.states) (still_of g p.headed k row d kept.1.0))
-    rings_kept (Withdraws r q ∷ past) are kept =
-        let p = now_keeps h is (Withdraws r q ∷ past) are kept (kept.1.0) in rings_of (header_now h past) (known_now h (Withdraws r q ∷ past)) p.keeps
-    rings_kept (Comes ring ∷ past) are kept =
-        rings_of (header_now h (Comes ring ∷ past)) (known_now h (Comes ring ∷ past)) (now_keeps h is (Comes ring ∷ past) are kept (kept.1.0)).keeps
-    rings_kept (Goes id ∷ past) are kept =
-        rings_of (header_now h (Goes id ∷ past)) (known_now h (Goes id ∷ past)) (now_keeps h is (Goes id ∷ past) are kept (kept.1.0)).keeps
 
-    pub floors_most : (past : List TraceRow) → All FitsFields past → AreKept h past → floors (header_now h past) (known_now h past) + gone past + events past ≤ length past
+    pub floors_most : (past : List Row) → All IsRow past → AreKept h past → floors (header_now h past) (known_now h past) + gone past + events past ≤ length past
     unfolding floors all_rings of_ring
     floors_most past are kept =
         let g : Header = header_now h past in

@@ -1,16 +1,19 @@
 -- The lazy law by induction over the rows, from the step of a row that reads an event
-use Rattle.safety.proofs.UpperLaws.{[], ◌≡◌, ◌≢◌, ◌⊎◌, ◌∷◌, ◌∙◌, ℕ, true, false, List, None, Option, Some, sym, ap, subst, inl, inr, rules, cases_Bool, false≢true, Spot, Data, Header, Row, TraceRow, Plain, IsHeader, command_id, IsRow, World, next_take, counted, Known, learned, MayCome, DriverKeeps, IsDriverRow, Agrees, Runs, transfer_not_command, more_law, pointers_after, AreAtFloors, ◌++◌, All, reverse, option_and_then, refl, All-cons, All-head, All-nil, All-tail, Read, Comes, Goes, NextRow, opening, with_ring, without_ring, LiveScene, live_reached, live_step, live_with, IsStep, reverse-append, AreKept, FitsFields, IsKept, header_after, header_now, known_now, restored, restored_on, ring_restored, IsTimely, lazy_run, pointers_at, pointers_for, steps_for, LazyLaw, AllAreRead, none-some, is_open, nothing, opens, agrees_now, pointers_same, driver_reached, StandsAt, IsActiveIfOpen, Follows, Carries, Leads, Past, RowLearns, row_learns, row_active, row_starts, all_are_read, EventLaw, AreTimely, PointerStays, RowLeaves, row_leaves, done, row_is_done}
+use Rattle.safety.proofs.UpperLaws.{[], ◌≡◌, ◌≢◌, ◌⊎◌, ◌∷◌, ◌∙◌, ℕ, true, false, List, None, Option, Some, sym, ap, subst, inl, inr, rules, cases_Bool, false≢true, Spot, Data, Header, Row, IsHeader, command_id, IsRow, World, next_take, counted, Known, learned, MayCome, DriverKeeps, IsDriverRow, Agrees, Runs, transfer_not_command, more_law, pointers_after, AreAtFloors, ◌++◌, All, reverse, option_and_then, refl, All-cons, All-head, All-nil, All-tail, Read, RingRow, FreeRow, NextRow, opening, with_ring, without_ring, LiveScene, live_reached, live_step, live_with, IsStep, reverse-append, AreKept, IsKept, header_after, header_now, known_now, restored, restored_on, ring_restored, IsTimely, lazy_run, pointers_at, pointers_for, steps_for, LazyLaw, AllAreRead, none-some, is_open, nothing, opens, agrees_now, pointers_same, driver_reached, StandsAt, IsActiveIfOpen, Follows, Carries, Leads, Past, RowLearns, row_learns, row_active, row_starts, all_are_read, EventLaw, AreTimely, PointerStays, RowLeaves, row_leaves, done, row_is_done, steps_before}
 use Rattle.safety.proofs.DriverHistories.{kept_driver}
 use Rattle.safety.proofs.RowRuns.{row_runs}
 use Rattle.safety.proofs.Squares.{square_law}
 use Rattle.safety.proofs.StillRings.{still_rings}
 use Rattle.safety.proofs.Words.{GoesSoFar, Scene, scene_reached, reverse-reverse}
-use Rattle.traces.specs.declared.trace_row.TraceRow.TheVariants.{Withdraws}
+use Rattle.traces.specs.declared.row.Row.TheVariants.{Nop as NopRow}
 use Rattle.safety.proofs.RingChanges.LiveHeadline.{Keeps, now_keeps}
 use Rattle.safety.proofs.RingChanges.Headline.{Alike, AreAlike, reached_alike}
 use Rattle.safety.proofs.LazyRuns.LazySteps.{run_is}
 use Rattle.safety.proofs.LazyRuns.RingRows.{comes_follows, comes_stay, goes_follows, goes_stay, restored_follows, withdrawn_follows}
 use Rattle.safety.proofs.RingChanges.Restored.{row_comes, row_keeps}
+use Rattle.safety.proofs.RingChanges.KeptRings.{kept_coming, kept_going, kept_withdrawing}
+use Rattle.traces.specs.Rows.{is_ring_row}
+use Rattle.safety.proofs.LazyRuns.Follows.{driver_no_ring}
 pub use Rattle.safety.proofs.RingChanges.LiveHeadline.{kept_on, later_kept, one_more}
 
 -- The induction's step for a row of the driver
@@ -19,7 +22,7 @@ module _ (h : Header) where
   stands_still : (w v : World) (r : ℕ) (t : Spot) → StandsAt h w r t → PointerStays w v r → v.events r ≡ w.events r → StandsAt h v r t
   stands_still w v r t s p events = search rules
 
-  module _ (is : IsHeader h) (row : Row) (past : Past h) (later : List TraceRow) (w : World) (driver_row : IsDriverRow row) (is_row : IsRow row) (may : MayCome h past.known row)
+  module _ (is : IsHeader h) (row : Row) (past : Past h) (later : List Row) (w : World) (driver_row : IsDriverRow row) (is_row : IsRow row) (may : MayCome h past.known row)
       (f : Follows h past.known past.pointers w) where
     l : Known
     l = learned h past.known row
@@ -97,55 +100,57 @@ module _ (h : Header) where
     unfolding l
     goes = elim (cases_Bool l.stopped) [ inl stopped ↦ inr (stopped, stay_at_floors) | inr on ↦ inl (follows_row on) ]
 
-    pub driver_step : Leads h past past.made (Plain row ∷ later) w → Carries h past row later
+    pub driver_step : Leads h past past.made (row ∷ later) w → Carries h past row later
     unfolding v
     driver_step run = record { world = counted h v; run = driver_reached h past w v row later driver_row run (row_is_done h w row driver_row); goes = goes }
 
 -- The lazy run before the first row
 
 -- no endpoint has a ring yet, and none is open
-pub first : (h : Header) → Follows h nothing (λ r. Data 0) (opening [])
+pub first : (h : Header) → Follows h nothing (λ r. Data 0) opening
 unfolding opening nothing is_open
 first h = search (rules, opens, none-some, false≢true)
 
 module _ (h : Header) where
-  later_timely : (xs ys : List TraceRow) → IsTimely h (xs ++ ys) → IsTimely h ys
+  later_timely : (xs ys : List Row) → IsTimely h (xs ++ ys) → IsTimely h ys
   later_timely [] ys timely = timely
   later_timely (x ∷ xs) ys timely = later_timely xs ys timely.0
 
-  pub rows_of : (past later : List TraceRow) → All FitsFields (reverse past ++ later) → All FitsFields past × All FitsFields later
-  rows_of [] later rows = (All-nil FitsFields, rows)
+  pub rows_of : (past later : List Row) → All IsRow (reverse past ++ later) → All IsRow past × All IsRow later
+  rows_of [] later rows = (All-nil IsRow, rows)
   rows_of (row ∷ past) later rows =
-      let r = rows_of past (row ∷ later) (subst (λ l. All FitsFields l) (one_more row past later) rows) in
-      (All-cons FitsFields row past (All-head FitsFields row later r.1) r.0, All-tail FitsFields row later r.1)
+      let r = rows_of past (row ∷ later) (subst (λ l. All IsRow l) (one_more row past later) rows) in
+      (All-cons IsRow row past (All-head IsRow row later r.1) r.0, All-tail IsRow row later r.1)
 
   module _ (is : IsHeader h) where
     -- ---- the rows to come
 
-    command_stays : (past : List TraceRow) (row : TraceRow) → All FitsFields (row ∷ past) → AreKept h (row ∷ past) → command_id (header_after (header_now h past) row) ≡ command_id (header_now h past)
-    command_stays past (Comes ring) are kept =
-        let p : Keeps h is past = now_keeps h is past (All-tail FitsFields (Comes ring) past are) kept.0 kept.1.0 in
-        (comes_stay (header_now h past) p.headed (known_now h past) p.keeps ring (All-head FitsFields (Comes ring) past are) kept.1.1).command
-    command_stays past (Goes id) are kept =
-        let p : Keeps h is past = now_keeps h is past (All-tail FitsFields (Goes id) past are) kept.0 kept.1.0 in
-        (goes_stay (header_now h past) p.headed (known_now h past) p.keeps id kept.1.1).command
+    command_stays : (past : List Row) (row : Row) → All IsRow (row ∷ past) → AreKept h (row ∷ past) → command_id (header_after (header_now h past) row) ≡ command_id (header_now h past)
+    command_stays past (RingRow ring) are kept =
+        let good = kept_coming (header_now h past) (known_now h past) ring kept.1 in
+        let p : Keeps h is past = now_keeps h is past (All-tail IsRow (RingRow ring) past are) kept.0 good.0 in
+        (comes_stay (header_now h past) p.headed (known_now h past) p.keeps ring (All-head IsRow (RingRow ring) past are) good.1).command
+    command_stays past (FreeRow id) are kept =
+        let good = kept_going (header_now h past) (known_now h past) id kept.1 in
+        let p : Keeps h is past = now_keeps h is past (All-tail IsRow (FreeRow id) past are) kept.0 good.0 in
+        (goes_stay (header_now h past) p.headed (known_now h past) p.keeps id good.1).command
     command_stays past _ are kept = refl
 
-    timely_from : (later past : List TraceRow) → All FitsFields past → All FitsFields later → AreKept h (reverse later ++ past) → IsTimely h (reverse later ++ past) → AreTimely (header_now h past) (known_now h past) later
+    timely_from : (later past : List Row) → All IsRow past → All IsRow later → AreKept h (reverse later ++ past) → IsTimely h (reverse later ++ past) → AreTimely (header_now h past) (known_now h past) later
     timely_from [] past made left kept timely = tt
     timely_from (row ∷ later) past made left kept timely =
         let more = one_more row later past in
         let then_kept : AreKept h (reverse later ++ (row ∷ past)) = subst (AreKept h) more kept in
         let then_timely : IsTimely h (reverse later ++ (row ∷ past)) = subst (IsTimely h) more timely in
-        let then_made : All FitsFields (row ∷ past) = All-cons FitsFields row past (All-head FitsFields row later left) made in (
+        let then_made : All IsRow (row ∷ past) = All-cons IsRow row past (All-head IsRow row later left) made in (
           (command_stays past row then_made (later_kept h (reverse later) (row ∷ past) then_kept), (later_timely (reverse later) (row ∷ past) then_timely).1),
-          timely_from later (row ∷ past) then_made (All-tail FitsFields row later left) then_kept then_timely,
+          timely_from later (row ∷ past) then_made (All-tail IsRow row later left) then_kept then_timely,
         )
 
     -- ---- the lazy run behind the rows so far
 
     -- after a stop no clean row comes
-    pub record Carried (past later : List TraceRow) : Type 0 where
+    pub record Carried (past later : List Row) : Type 0 where
       pub world : World
       pub run : live_reached h (reverse past ++ later) (lazy_run h past later) ≡ Some (live_with (header_now h past) later world)
       pub goes : Follows (header_now h past) (known_now h past) (pointers_at h past later) world
@@ -153,90 +158,87 @@ module _ (h : Header) where
 
     module _ (events : (g : Header) → EventLaw g) where
       -- what the step of a row rests on
-      abbrev past_of : (past later : List TraceRow) (row : Row) → DriverKeeps (header_now h past) (restored (header_now h past) (known_now h past) row) → Past (header_now h past)
+      abbrev past_of : (past later : List Row) (row : Row) → DriverKeeps (header_now h past) (restored (header_now h past) (known_now h past) row) → Past (header_now h past)
       past_of past later row keeps = record {
         first = h;
-        rows = reverse past ++ (Plain row ∷ later);
-        made = lazy_run h past (Plain row ∷ later);
+        rows = reverse past ++ (row ∷ later);
+        made = lazy_run h past (row ∷ later);
         known = restored (header_now h past) (known_now h past) row;
         keeps = keeps;
-        pointers = pointers_at h past (Plain row ∷ later);
+        pointers = pointers_at h past (row ∷ later);
       }
 
-      module _ (past later : List TraceRow) (w : World) (p : Keeps h is past) where
+      module _ (past later : List Row) (w : World) (p : Keeps h is past) where
         abbrev g : Header
         g = header_now h past
 
         abbrev k : Known
         k = known_now h past
 
+        carried : (row : Row) → is_ring_row row ≡ false → (keeps : DriverKeeps g (restored g k row)) → Carries g (past_of past later row keeps) row later → Carried (row ∷ past) later
+        unfolding lazy_run pointers_at steps_for pointers_for
+        carried (RingRow ring) driven keeps c = absurd (false≢true (sym driven))
+        carried (FreeRow id) driven keeps c = absurd (false≢true (sym driven))
+        carried (NopRow r q) driven keeps c = absurd (false≢true (sym driven))
+        carried row driven keeps c = search (rules, live_reached, lazy_run, one_more, goes)
+
         -- ---- a row of the driver, or one that reads an event
 
-        module _ (row : Row) (is_row : IsRow row) (kept : IsKept g k (Plain row)) (timely : AreTimely g k (Plain row ∷ later))
-            (run : live_reached h (reverse past ++ (Plain row ∷ later)) (lazy_run h past (Plain row ∷ later)) ≡ Some (live_with g (Plain row ∷ later) w))
-            (f : Follows g k (pointers_at h past (Plain row ∷ later)) w) where
+        module _ (row : Row) (is_row : IsRow row) (kept : IsKept g k row) (timely : AreTimely g k (row ∷ later))
+            (run : live_reached h (reverse past ++ (row ∷ later)) (lazy_run h past (row ∷ later)) ≡ Some (live_with g (row ∷ later) w))
+            (f : Follows g k (pointers_at h past (row ∷ later)) w) where
           keeps : DriverKeeps g (restored g k row)
           keeps = row_keeps g p.headed k p.keeps row kept.1
 
           may : MayCome g (restored g k row) row
           may = row_comes g p.headed k p.keeps row kept.0 kept.2
 
-          follows : Follows g (restored g k row) (pointers_at h past (Plain row ∷ later)) w
-          follows = restored_follows g p.headed k (pointers_at h past (Plain row ∷ later)) w row p.keeps kept.1 f
+          follows : Follows g (restored g k row) (pointers_at h past (row ∷ later)) w
+          follows = restored_follows g p.headed k (pointers_at h past (row ∷ later)) w row p.keeps kept.1 f
 
-          carried : Carries g (past_of past later row keeps) row later → Carried (Plain row ∷ past) later
-          unfolding lazy_run pointers_at steps_for pointers_for
-          carried c = search (rules, live_reached, lazy_run, one_more, goes)
-
-        drives : (row : Row) → IsDriverRow row → IsRow row → IsKept g k (Plain row) → AreTimely g k (Plain row ∷ later) →
-            live_reached h (reverse past ++ (Plain row ∷ later)) (lazy_run h past (Plain row ∷ later)) ≡ Some (live_with g (Plain row ∷ later) w) →
-            Follows g k (pointers_at h past (Plain row ∷ later)) w → Carried (Plain row ∷ past) later
+        drives : (row : Row) → IsDriverRow row → IsRow row → IsKept g k row → AreTimely g k (row ∷ later) →
+            live_reached h (reverse past ++ (row ∷ later)) (lazy_run h past (row ∷ later)) ≡ Some (live_with g (row ∷ later) w) →
+            Follows g k (pointers_at h past (row ∷ later)) w → Carried (row ∷ past) later
         drives row driver_row is_row kept timely run f =
-            carried row is_row kept timely run f
+            carried row (driver_no_ring row driver_row) (keeps row is_row kept timely run f)
             (driver_step g p.headed row (past_of past later row (keeps row is_row kept timely run f)) later w driver_row is_row (may row is_row kept timely run f) (follows row is_row kept timely run f) run)
-
-        plain : (row : Row) → IsRow row → IsKept g k (Plain row) → AreTimely g k (Plain row ∷ later) →
-            live_reached h (reverse past ++ (Plain row ∷ later)) (lazy_run h past (Plain row ∷ later)) ≡ Some (live_with g (Plain row ∷ later) w) →
-            Follows g k (pointers_at h past (Plain row ∷ later)) w → Carried (Plain row ∷ past) later
-        unfolding ring_restored restored_on
-        plain (Read b) is_row kept timely run f =
-            carried (Read b) is_row kept timely run f
-            (events g (past_of past later (Read b) (keeps (Read b) is_row kept timely run f)) later b w p.headed is_row kept.0 timely run (follows (Read b) is_row kept timely run f))
-        plain row is_row kept timely run f = drives row tt is_row kept timely run f
 
         -- ---- a row of another kind
 
         -- no step of the controller is made before it
-        made : (row : TraceRow) (v : World) (x : Header) → live_reached h (reverse past ++ (row ∷ later)) (lazy_run h past (row ∷ later)) ≡ Some (live_with g (row ∷ later) w) →
+        made : (row : Row) (v : World) (x : Header) → live_reached h (reverse past ++ (row ∷ later)) (lazy_run h past (row ∷ later)) ≡ Some (live_with g (row ∷ later) w) →
             live_step (live_with g (row ∷ later) w) NextRow ≡ Some (live_with x later v) →
             live_reached h (reverse (row ∷ past) ++ later) (NextRow ∷ lazy_run h past (row ∷ later)) ≡ Some (live_with x later v)
         made row v x run at = search (rules, live_reached, lazy_run, one_more, option_and_then, live_step)
 
-        step : (row : TraceRow) → FitsFields row → IsKept g k row → AreTimely g k (row ∷ later) →
+        step : (row : Row) → IsRow row → IsKept g k row → AreTimely g k (row ∷ later) →
             live_reached h (reverse past ++ (row ∷ later)) (lazy_run h past (row ∷ later)) ≡ Some (live_with g (row ∷ later) w) →
             Follows g k (pointers_at h past (row ∷ later)) w → Carried (row ∷ past) later
-        unfolding lazy_run pointers_at steps_for pointers_for
-        step (Plain row) is_row kept timely run f = plain row is_row kept timely run f
-        step (Comes ring) coming kept timely run f =
-            record { world = _; run = made (Comes ring) _ (with_ring g ring) run refl; goes = inl (comes_follows g p.headed k p.keeps ring coming kept.1 (pointers_at h past (Comes ring ∷ later)) w f) }
-        step (Goes id) is_row kept timely run f =
-            record { world = _; run = made (Goes id) _ (without_ring g id) run refl; goes = inl (goes_follows g p.headed k p.keeps id kept.1 (pointers_at h past (Goes id ∷ later)) w f) }
-        step (Withdraws r q) is_row kept timely run f =
-            record { world = _; run = made (Withdraws r q) _ g run refl; goes = inl (withdrawn_follows g p.headed k (pointers_at h past (Withdraws r q ∷ later)) w r q p.keeps kept.1 f) }
+        unfolding lazy_run pointers_at steps_for pointers_for steps_before pointers_after ring_restored restored_on
+        step (RingRow ring) coming kept timely run f =
+            record { world = _; run = made (RingRow ring) _ (with_ring g ring) run refl; goes = inl (comes_follows g p.headed k p.keeps ring coming (kept_coming g k ring kept).1 (pointers_at h past (RingRow ring ∷ later)) w f) }
+        step (FreeRow id) is_row kept timely run f =
+            record { world = _; run = made (FreeRow id) _ (without_ring g id) run refl; goes = inl (goes_follows g p.headed k p.keeps id (kept_going g k id kept).1 (pointers_at h past (FreeRow id ∷ later)) w f) }
+        step (NopRow r q) is_row kept timely run f =
+            record { world = _; run = made (NopRow r q) _ g run refl; goes = inl (withdrawn_follows g p.headed k (pointers_at h past (NopRow r q ∷ later)) w r q p.keeps (kept_withdrawing g k r q kept).1 f) }
+        step (Read b) is_row kept timely run f =
+            carried (Read b) refl (keeps (Read b) is_row kept timely run f)
+            (events g (past_of past later (Read b) (keeps (Read b) is_row kept timely run f)) later b w p.headed is_row kept.0 timely run (follows (Read b) is_row kept timely run f))
+        step row is_row kept timely run f = drives row tt is_row kept timely run f
 
-      carries : (past later : List TraceRow) → All FitsFields (reverse past ++ later) → AreKept h (reverse later ++ past) → IsTimely h (reverse later ++ past) → Carried past later
+      carries : (past later : List Row) → All IsRow (reverse past ++ later) → AreKept h (reverse later ++ past) → IsTimely h (reverse later ++ past) → Carried past later
       unfolding lazy_run pointers_at
-      carries [] later rows kept timely = record { world = opening []; run = refl; goes = inl (first h) }
+      carries [] later rows kept timely = record { world = opening; run = refl; goes = inl (first h) }
       carries (row ∷ past) later rows kept timely =
           let more = one_more row later past in
           let before : Carried past (row ∷ later) =
-          carries past (row ∷ later) (subst (λ l. All FitsFields l) (one_more row past later) rows) (subst (AreKept h) (sym more) kept) (subst (IsTimely h) (sym more) timely) in
+          carries past (row ∷ later) (subst (λ l. All IsRow l) (one_more row past later) rows) (subst (AreKept h) (sym more) kept) (subst (IsTimely h) (sym more) timely) in
           let r = rows_of (row ∷ past) later rows in
-          let made : All FitsFields past = All-tail FitsFields row past r.0 in
-          let is_row : FitsFields row = All-head FitsFields row past r.0 in
+          let made : All IsRow past = All-tail IsRow row past r.0 in
+          let is_row : IsRow row = All-head IsRow row past r.0 in
           let own : AreKept h (row ∷ past) = later_kept h (reverse later) (row ∷ past) kept in
           let on = kept_on (header_now h past) (known_now h past) row own.1 in
-          let to_come = timely_from (row ∷ later) past made (All-cons FitsFields row later is_row r.1) (subst (AreKept h) (sym more) kept) (subst (IsTimely h) (sym more) timely) in
+          let to_come = timely_from (row ∷ later) past made (All-cons IsRow row later is_row r.1) (subst (AreKept h) (sym more) kept) (subst (IsTimely h) (sym more) timely) in
           elim before.goes [
             | inl f ↦ step past later before.world (now_keeps h is past made own.0 on) row is_row own.1 to_come before.run f
             | inr over ↦ absurd (false≢true (sym on ∙ over.0))
@@ -244,7 +246,7 @@ module _ (h : Header) where
 
     -- ---- the lazy law is part of it, by the run of the model beside this one
 
-    at_floors : (past later : List TraceRow) (c : Carried past later) → AreAtFloors (header_now h past) (known_now h past) c.world
+    at_floors : (past later : List Row) (c : Carried past later) → AreAtFloors (header_now h past) (known_now h past) c.world
     at_floors past later c = elim c.goes [ inl f ↦ λ s i r at. assumption (f.floors s i r at) | inr over ↦ over.1 ]
 
     -- a run that the rings that live see has one of the model beside it
@@ -252,7 +254,7 @@ module _ (h : Header) where
     beside x o None at alike = absurd (subst (λ p. AreAlike p None) at alike)
     beside x o (Some y) at alike = (y, refl, subst (λ p. AreAlike p (Some y)) at alike)
 
-    goes_so_far : (past later : List TraceRow) → All FitsFields (reverse past ++ later) → AreKept h (reverse later ++ past) → Carried past later → GoesSoFar h past later
+    goes_so_far : (past later : List Row) → All IsRow (reverse past ++ later) → AreKept h (reverse later ++ past) → Carried past later → GoesSoFar h past later
     goes_so_far past later rows kept c =
         let turned : reverse (reverse past ++ later) ≡ reverse later ++ past = reverse-append (reverse past) later ∙ ap (λ l. reverse later ++ l) (reverse-reverse past) in
         let made : All IsStep (lazy_run h past later) = run_is h is past later (rows_of past later rows).0 (later_kept h (reverse later) past kept) in

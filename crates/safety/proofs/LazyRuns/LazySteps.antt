@@ -1,5 +1,5 @@
 -- The lazy schedule of a clean trace names rings and blocks that there are
-use Rattle.safety.proofs.UpperLaws.{rules, ◌≡◌, ℕ, ◌+◌, ◌<◌, List, [], ◌∷◌, Option, Some, arith, ◌==◌, reverse, nat_lt, All, and_parts, cond_both, eqb-true, ltb-true, none-some, same_Some, length-reverse, All-cons, All-head, All-nil, All-tail, Block, BlockKind, CommandCompletion, TransferEvent, IsBlock, Spot, number, Header, Row, Read, Step, Look, IsHeader, command_id, shape_of, IsRow, IsStep, TraceRow, Plain, Known, RingSpot, event_at, lenient, DriverKeeps, IsDriverRing, event_facts, header_parts, transfer_driver, command_is_ring, AreKept, FitsFields, IsKept, header_now, known_now, command_taken, goals, lazy_run, lazy_steps, looks_to, open_goals, pointers_at, post_of, report_goals, spots_before, steps_before, steps_for, stop_goal, stopped_goals, taken_up_to, flat_map}
+use Rattle.safety.proofs.UpperLaws.{rules, ◌≡◌, ℕ, ◌+◌, ◌<◌, List, [], ◌∷◌, Option, Some, arith, ◌==◌, reverse, nat_lt, All, and_parts, cond_both, eqb-true, ltb-true, none-some, same_Some, length-reverse, All-cons, All-head, All-nil, All-tail, Block, BlockKind, CommandCompletion, TransferEvent, IsBlock, Spot, number, Header, Row, Read, Step, Look, IsHeader, command_id, shape_of, IsRow, IsStep, Known, RingSpot, event_at, lenient, DriverKeeps, IsDriverRing, event_facts, header_parts, transfer_driver, command_is_ring, AreKept, IsKept, header_now, known_now, command_taken, goals, lazy_run, lazy_steps, looks_to, open_goals, pointers_at, post_of, report_goals, spots_before, steps_before, steps_for, stop_goal, stopped_goals, taken_up_to, flat_map}
 use Rattle.safety.proofs.Words.{option_map, All-append, spot_on}
 use Rattle.safety.proofs.RingChanges.LiveHeadline.{Keeps, now_keeps, kept_on}
 use Rattle.safety.proofs.RingChanges.Restored.{row_keeps}
@@ -37,7 +37,7 @@ module _ (h : Header) (headed : IsHeader h) where
   unfolding stop_goal taken_up_to
   stop_low at n is_low = cond_both (n == number at.spot + 1) (taken_up_to h at.ring n) at IsLow (λ _. is_low) (λ _. is_low)
 
-  module _ (k : Known) (d : DriverKeeps h k) (later : List TraceRow) (b : Block) (command_low : command_id h < 256) where
+  module _ (k : Known) (d : DriverKeeps h k) (later : List Row) (b : Block) (command_low : command_id h < 256) where
     command_goal_low : IsLow (command_taken h k)
     unfolding command_taken taken_up_to
     command_goal_low = command_low
@@ -55,7 +55,7 @@ module _ (h : Header) (headed : IsHeader h) where
     goals_low CommandCompletion = search (rules, All-cons, command_goal_low, cond_both, open_low, bound_low, All-nil)
     goals_low _ = All-nil IsLow
 
-  row_steps_are : (k : Known) (p : ℕ → Spot) (row : Row) (later : List TraceRow) → DriverKeeps h k → IsRow row → lenient h k row ≡ [] → AreSteps (steps_before h k p row later)
+  row_steps_are : (k : Known) (p : ℕ → Spot) (row : Row) (later : List Row) → DriverKeeps h k → IsRow row → lenient h k row ≡ [] → AreSteps (steps_before h k p row later)
   unfolding steps_before
   row_steps_are k p (Read b) later d is clean =
       let command_low : command_id h < 256 = low (command_id h) (command_is_ring h k d (event_facts h k b clean).started) in
@@ -63,24 +63,23 @@ module _ (h : Header) (headed : IsHeader h) where
   row_steps_are k p _ later d is clean = All-nil IsStep
 
 module _ (h : Header) (headed : IsHeader h) where
-  for_row : (past later : List TraceRow) (row : TraceRow) (p : ℕ → Spot) → Keeps h headed past → FitsFields row → IsKept (header_now h past) (known_now h past) row →
+  for_row : (past later : List Row) (row : Row) (p : ℕ → Spot) → Keeps h headed past → IsRow row → IsKept (header_now h past) (known_now h past) row →
       AreSteps (steps_for (header_now h past) (known_now h past) p row later)
   unfolding steps_for
-  for_row past later (Plain row) p keeps is kept = search (rules, row_steps_are, row_keeps)
-  for_row past later _ p keeps is kept = All-nil IsStep
+  for_row past later row p keeps is kept = search (rules, row_steps_are, row_keeps)
 
-  pub run_is : (past later : List TraceRow) → All FitsFields past → AreKept h past → AreSteps (lazy_run h past later)
+  pub run_is : (past later : List Row) → All IsRow past → AreKept h past → AreSteps (lazy_run h past later)
   unfolding lazy_run
   run_is [] later are kept = All-nil IsStep
   run_is (row ∷ past) later are kept =
       let g : Header = header_now h past in
       let k : Known = known_now h past in
-      let made : All FitsFields past = All-tail FitsFields row past are in
+      let made : All IsRow past = All-tail IsRow row past are in
       let keeps : Keeps h headed past = now_keeps h headed past made kept.0 (kept_on g k row kept.1) in
       let p : ℕ → Spot = pointers_at h past (row ∷ later) in
       let before : List Step = steps_for g k p row later in
       search (rules, All-cons, All-append, all_reverse, for_row, All-head, run_is past (row ∷ later) made kept.0)
 
-  pub lazy_steps_are : (rows : List TraceRow) → All FitsFields rows → AreKept h (reverse rows) → AreSteps (lazy_steps h rows)
+  pub lazy_steps_are : (rows : List Row) → All IsRow rows → AreKept h (reverse rows) → AreSteps (lazy_steps h rows)
   unfolding lazy_steps
-  lazy_steps_are rows are kept = all_reverse IsStep (lazy_run h (reverse rows) []) (run_is (reverse rows) [] (all_reverse FitsFields rows are) kept)
+  lazy_steps_are rows are kept = all_reverse IsStep (lazy_run h (reverse rows) []) (run_is (reverse rows) [] (all_reverse IsRow rows are) kept)

@@ -1,5 +1,5 @@
 -- The looks for an event, at one ring after the other, are a run: each ring comes to its goal
-use Rattle.safety.proofs.UpperLaws.{[], ◌≡◌, ◌+◌, ◌-◌, ◌*◌, ◌<◌, ◌≤◌, ◌∷◌, ◌++◌, ◌∙◌, ℕ, suc, zero, List, filter, map, nat_lt, reverse, arith, refl, sym, ap, subst, inl, inr, lt-ltb, le-ltb, append_assoc, rules, cases_lt, cond-true, cond-false, reverse-append, Spot, Shape, IsSpot, number, rank, next, spots_from, rank_least, rank_most, same_rank, next_later, next_least, Header, TraceRow, Step, Look, IsHeader, shape_of, World, counted, Known, DriverKeeps, Agrees, Runs, look_runs, false, Some, ◌≢◌, ◌==◌, ◌&&◌, if◌then◌else◌, Bool, true, is_some, ne_eqb, cases_Bool, cases_eq, and_left, and_right, Block, cycle, kind, is_link, Data, Link, after, command_id, RingState, RingMatches, state_of, Takeable, Crossable, takeable, crossable, ring_shape, seen, only_crossed, only_taken, only_begun, behind_link, behind_block, TakeDone, CrossDone, take_done, cross_done, block_no_link, link_is, OnlyRing, stands_at, block_found, not, eq-eqb, IsDriverRing, Stands, further, looks_to, spots_before, crossed, looked, looked_at, seen_by_look, looks_taken, taken_on, steps_made, flat_map, put, RingSpot, put_at, put_off, lazy_brought, lazy_further, step_reached, agrees_now, StandsAt, Leads, Past, MayBring, Looked, LooksLeave, LooksLaw, RingStands, ring_stands, commands_stand, Traced}
+use Rattle.safety.proofs.UpperLaws.{[], ◌≡◌, ◌+◌, ◌-◌, ◌*◌, ◌<◌, ◌≤◌, ◌∷◌, ◌++◌, ◌∙◌, ℕ, suc, zero, List, filter, map, nat_lt, reverse, arith, refl, sym, ap, subst, inl, inr, lt-ltb, le-ltb, append_assoc, rules, cases_lt, cond-true, cond-false, reverse-append, Spot, Shape, IsSpot, number, rank, next, spots_from, rank_least, rank_most, same_rank, next_later, next_least, Header, Row, Step, Look, IsHeader, shape_of, World, counted, Known, DriverKeeps, Agrees, Runs, look_runs, false, Some, ◌≢◌, ◌==◌, ◌&&◌, if◌then◌else◌, Bool, true, is_some, ne_eqb, cases_Bool, cases_eq, and_left, and_right, Block, cycle, kind, is_link, Data, Link, after, command_id, RingState, RingMatches, state_of, Takeable, Crossable, takeable, crossable, ring_shape, seen, only_crossed, only_taken, only_begun, behind_link, behind_block, TakeDone, CrossDone, take_done, cross_done, block_no_link, link_is, OnlyRing, stands_at, block_found, not, eq-eqb, IsDriverRing, Stands, further, looks_to, spots_before, crossed, looked, looked_at, seen_by_look, looks_taken, taken_on, steps_made, flat_map, put, RingSpot, put_at, put_off, lazy_brought, lazy_further, step_reached, agrees_now, StandsAt, Leads, Past, MayBring, Looked, LooksLeave, LooksLaw, RingStands, ring_stands, commands_stand, Traced}
 use Rattle.safety.proofs.DriverHistories.{run_keeps}
 
 -- The looks of the lazy schedule at one ring are a run: by induction over the spots on the way
@@ -141,7 +141,7 @@ module _ (h : Header) where
   unfolding looks_on
   more_looks r t s n lt = ap (λ l. map (λ u. Look r) l) (one_before (shape_of h r) t s n lt)
 
-  module _ (is : IsHeader h) (past : Past h) (to_come : List TraceRow) (r : ℕ) where
+  module _ (is : IsHeader h) (past : Past h) (to_come : List Row) (r : ℕ) where
     -- no look is made
     stays : (made : List Step) (w : World) (t : Spot) (steps : List Step) → steps ≡ [] → Leads h past made to_come w → Runs h past.known w → StandsAt h w r t → Looked h past to_come made w r t steps
     stays made w t steps none run runs at = search (rules, reverse)
@@ -220,7 +220,7 @@ module _ (h : Header) where
   AreApart [] = Unit {0}
   AreApart (goal ∷ rest) = AreElsewhere goal.ring rest × AreApart rest
 
-  pub record AllBrought (past : Past h) (to_come : List TraceRow) (made : List Step) (w : World) (now : ℕ → Spot) (goals : List RingSpot) (looks : List Step) : Type 0 where
+  pub record AllBrought (past : Past h) (to_come : List Row) (made : List Step) (w : World) (now : ℕ → Spot) (goals : List RingSpot) (looks : List Step) : Type 0 where
     pub world : World
     pub run : Leads h past (reverse looks ++ made) to_come world
     pub traced : Traced h past.known (lazy_brought h now goals) world
@@ -263,7 +263,7 @@ module _ (h : Header) where
   two_lists : (a b made : List Step) → reverse (a ++ b) ++ made ≡ reverse b ++ (reverse a ++ made)
   two_lists a b made = ap (λ l. l ++ made) (reverse-append a b) ∙ append_assoc (reverse b) (reverse a) made
 
-  module _ (is : IsHeader h) (past : Past h) (to_come : List TraceRow) (pointers : ℕ → Spot) where
+  module _ (is : IsHeader h) (past : Past h) (to_come : List Row) (pointers : ℕ → Spot) where
     all_brought : (goals : List RingSpot) (made : List Step) (w : World) (now : ℕ → Spot) → AreSame pointers now goals → AreApart goals → AllFit past.known w now goals →
         Leads h past made to_come w → Traced h past.known now w → AllBrought past to_come made w now goals (flat_map (looks_to h pointers) goals)
     unfolding lazy_brought
@@ -287,6 +287,6 @@ module _ (h : Header) where
         }
 
   -- goals on rings apart are reached one after the other
-  pub goals_reached : IsHeader h → (past : Past h) (to_come : List TraceRow) (made : List Step) (w : World) (pointers : ℕ → Spot) (goals : List RingSpot) → AreApart goals → AllFit past.known w pointers goals →
+  pub goals_reached : IsHeader h → (past : Past h) (to_come : List Row) (made : List Step) (w : World) (pointers : ℕ → Spot) (goals : List RingSpot) → AreApart goals → AllFit past.known w pointers goals →
       Leads h past made to_come w → Traced h past.known pointers w → AllBrought past to_come made w pointers goals (flat_map (looks_to h pointers) goals)
   goals_reached is past to_come made w pointers goals apart fits run trace = all_brought is past to_come pointers goals made w pointers (all_same pointers goals) apart fits run trace

@@ -1,5 +1,5 @@
 -- The need of a ring that is held is 0, where no event is late: until its doorbell no success of its blocks is read
-use Rattle.safety.proofs.MiddleLaws.{rules, [], ◌≡◌, ◌≢◌, ◌∷◌, ◌∙◌, ℕ, max, Bool, false, List, Option, refl, ap, subst, ne_eqb, eq-eqb, cond_both, cond-false, false≢true, not_from_false, Block, BlockKind, TransferEvent, CommandCompletion, kind, code, pointer, slot, endpoint, is_success, is_halting, is_trb_error, is_stopping, Spot, number, after, RingView, RingChange, changed, new_ring, Shape, put, put_at, put_off, cases_eq, Opens, Holds, Reaches, is_open, ceiling, named, stopped_number, target, Command, is_off, Change, changes, Header, Row, Read, TraceRow, Plain, IsDriverRow, shape_of, command_id, is_ring, ring_having, Known, on_ring, spot_on, command_at, next_command, endpoint_rung, rung, event_read, learned, declaration_leaves, write_leaves, register_leaves, view_after, is_report_of_success, is_held_ring, is_late, is_late_row, number_behind, begins_anew, number_reported, ends_need, number_needed, need, header_after, known_after, forgotten, restored_on, ring_restored, broken_off, transfers_passed, stopped_at, transfer_read, transferred, transferred_at, bound_to, known_changed_by, known_changed_by_all, completed, known_disabled, known_finished, held_at_ceiling, known_in_state, moved, moved_to, pointed, set_to, stop_ended, known_succeeded, arith, event_at}
+use Rattle.safety.proofs.MiddleLaws.{rules, [], ◌≡◌, ◌≢◌, ◌∷◌, ◌∙◌, ℕ, max, Bool, false, List, Option, refl, ap, subst, ne_eqb, eq-eqb, cond_both, cond-false, false≢true, not_from_false, Block, BlockKind, TransferEvent, CommandCompletion, kind, code, pointer, slot, endpoint, is_success, is_halting, is_trb_error, is_stopping, Spot, number, after, RingView, RingChange, changed, new_ring, Shape, put, put_at, put_off, cases_eq, Opens, Holds, Reaches, is_open, ceiling, named, stopped_number, target, Command, is_off, Change, changes, Header, Row, Read, IsDriverRow, shape_of, command_id, is_ring, ring_having, Known, on_ring, spot_on, command_at, next_command, endpoint_rung, rung, event_read, learned, declaration_leaves, write_leaves, register_leaves, view_after, is_report_of_success, is_held_ring, is_late, number_behind, begins_anew, number_reported, ends_need, need, header_after, known_after, forgotten, restored_on, ring_restored, broken_off, transfers_passed, stopped_at, transfer_read, transferred, transferred_at, bound_to, known_changed_by, known_changed_by_all, completed, known_disabled, known_finished, held_at_ceiling, known_in_state, moved, moved_to, pointed, set_to, stop_ended, known_succeeded, arith, event_at}
 
 abbrev pub IsHeld : Known → ℕ → Type 0
 IsHeld k r = is_open (k.ring r) ≡ false
@@ -64,11 +64,11 @@ module _ (h : Header) where
       grind (arith, is_report_of_success, number_behind, event_at, cond-false, number, named, shape_of, ne_eqb, false≢true, not_from_false, is_open, false, pointer, slot, endpoint, is_held_ring)
 
 -- none of the rows to come is late, and the command ring stays the same one
-abbrev pub AreTimely : Header → Known → List TraceRow → Type 0
+abbrev pub AreTimely : Header → Known → List Row → Type 0
 AreTimely h k [] = Unit {0}
-AreTimely h k (row ∷ later) = ((command_id (header_after h row) ≡ command_id h) × (is_late_row k row ≡ false)) × AreTimely (header_after h row) (known_after h k row) later
+AreTimely h k (row ∷ later) = ((command_id (header_after h row) ≡ command_id h) × (is_late k row ≡ false)) × AreTimely (header_after h row) (known_after h k row) later
 
-pub timely_then : (h : Header) (k : Known) (b : Block) (later : List TraceRow) → AreTimely h k (Plain (Read b) ∷ later) → AreTimely h (learned h k (Read b)) later
+pub timely_then : (h : Header) (k : Known) (b : Block) (later : List Row) → AreTimely h k ((Read b) ∷ later) → AreTimely h (learned h k (Read b)) later
 unfolding ring_restored restored_on
 timely_then h k b later timely = timely.1
 
@@ -84,21 +84,21 @@ module _ (h : Header) where
   anew_same k o r row driver_row quiet = grind arith
 
   -- ring r is held behind a row of any kind, if it was before: but for its doorbell
-  any_held : (k : Known) (row : TraceRow) (r : ℕ) → r ≢ command_id h → ends_need h k r row ≡ false → StaysHeld k (known_after h k row) r
+  any_held : (k : Known) (row : Row) (r : ℕ) → r ≢ command_id h → ends_need h k r row ≡ false → StaysHeld k (known_after h k row) r
   unfolding ends_need forgotten is_open ring_restored restored_on
   any_held k o r other quiet held = grind (arith, row_held, ring_restored, restored_on, anew_same, cases_eq, is_open, put, new_ring, put_at, put_off, quiet_held)
 
-  none_needed : (k : Known) (r : ℕ) (row : TraceRow) → IsHeld k r → is_late_row k row ≡ false → number_needed h k r row ≡ 0
-  unfolding number_needed
+  none_needed : (k : Known) (r : ℕ) (row : Row) → IsHeld k r → is_late k row ≡ false → number_reported h k r row ≡ 0
+  unfolding number_reported
   none_needed k r o held timely = grind (arith, none_reported)
 
-pub need_of_held : (later : List TraceRow) (h : Header) (k : Known) (r : ℕ) → r ≢ command_id h → IsHeld k r → AreTimely h k later → need h k r later ≡ 0
+pub need_of_held : (later : List Row) (h : Header) (k : Known) (r : ℕ) → r ≢ command_id h → IsHeld k r → AreTimely h k later → need h k r later ≡ 0
 unfolding need
 need_of_held [] h k r no_command held timely = refl
 need_of_held (row ∷ later) h k r no_command held timely =
     let g : Header = header_after h row in
     let l : Known = known_after h k row in
-    cond_both (ends_need h k r row) 0 (max (number_needed h k r row) (need g l r later)) (λ n. n ≡ 0) (λ _. refl)
+    cond_both (ends_need h k r row) 0 (max (number_reported h k r row) (need g l r later)) (λ n. n ≡ 0) (λ _. refl)
     (λ quiet.
     ap (λ n. max n (need g l r later)) (none_needed h k r row held timely.0.1)
     ∙ ap (λ n. max 0 n) (need_of_held later g l r (λ same. no_command (same ∙ timely.0.0)) (any_held h k row r no_command quiet held) timely.1))

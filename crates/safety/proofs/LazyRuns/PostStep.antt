@@ -1,5 +1,5 @@
 -- The step of a row that reads an event: the lazy run posts it directly before, whichever step it is that posts it
-use Rattle.safety.proofs.UpperLaws.{[], ◌≡◌, ◌+◌, ◌∷◌, ◌++◌, ◌∙◌, true, false, List, reverse, Some, arith, refl, sym, ap, subst, inl, reverse-append, Block, IsBlock, block_at, kind, same_words, address_of, Header, Read, Step, NextRow, TraceRow, Plain, IsHeader, event_shape, World, read_made, learned, Runs, words_itself, post_keeps, read_runs, Option, stored, stored_block, driver_event_read, row_done, can_post, posts_posted, counted, steps_made, while_running, pointers_after, post_of, steps_before, ◌≢◌, ◌&&◌, ℕ, inr, cond-false, false≢true, code, slot, is_transfer_event, is_command_completion, Spot, is_open, Report, command_id, Known, command_at, next_command, lenient, event_facts, report_runs, report_is, transfer_kind, reported, made, brought, goals, is_placed_by, ◌||◌, Bool, or_cases, BlockKind, is_other_event, None, rules, and_from, cond-true, Other, learned_read, says_nothing, other_runs, with_reads, other_posted, lazy_goals, step_reached, agrees_now, next_reached, Follows, Carries, Leads, Past, looks_for, StandsAt, IsActiveIfOpen, Traced, AreTimely, EventLaw, is_event_read, may_post}
+use Rattle.safety.proofs.UpperLaws.{[], ◌≡◌, ◌+◌, ◌∷◌, ◌++◌, ◌∙◌, true, false, List, reverse, Some, arith, refl, sym, ap, subst, inl, reverse-append, Block, IsBlock, block_at, kind, same_words, address_of, Header, Read, Step, NextRow, Row, IsHeader, event_shape, World, read_made, learned, Runs, words_itself, post_keeps, read_runs, Option, stored, stored_block, driver_event_read, row_done, can_post, posts_posted, counted, steps_made, while_running, pointers_after, post_of, steps_before, ◌≢◌, ◌&&◌, ℕ, inr, cond-false, false≢true, code, slot, is_transfer_event, is_command_completion, Spot, is_open, Report, command_id, Known, command_at, next_command, lenient, event_facts, report_runs, report_is, transfer_kind, reported, made, brought, goals, is_placed_by, ◌||◌, Bool, or_cases, BlockKind, is_other_event, None, rules, and_from, cond-true, Other, learned_read, says_nothing, other_runs, with_reads, other_posted, lazy_goals, step_reached, agrees_now, next_reached, Follows, Carries, Leads, Past, looks_for, StandsAt, IsActiveIfOpen, Traced, AreTimely, EventLaw, is_event_read, may_post}
 use Rattle.world_state.specs.World.{event_at}
 use Rattle.safety.proofs.DriverHistories.{run_keeps}
 use Rattle.safety.specs.LazyRuns.Needs.{is_placed}
@@ -17,12 +17,12 @@ module _ (h : Header) where
   abbrev pub behind_read : World → World
   behind_read u = counted h (record (counted h u) { reads = (counted h u).reads + 1 })
 
-  pub posts_last : (b : Block) (past : Past h) (later : List TraceRow) (s : Step) → post_of h (kind b) b ≡ s →
+  pub posts_last : (b : Block) (past : Past h) (later : List Row) (s : Step) → post_of h (kind b) b ≡ s →
       NextRow ∷ reverse (steps_before h past.known past.pointers (Read b) later) ++ past.made ≡ NextRow ∷ s ∷ (reverse (looks_for h past later b) ++ past.made)
   unfolding steps_before
   posts_last b past later s same = search (rules, reverse, looks_for, reverse-append)
 
-  module _ (is : IsHeader h) (past : Past h) (later : List TraceRow) (b : Block) (block : IsBlock b) (w : World) (run : Runs h past.known w) (all_read : w.posted ≡ w.reads) where
+  module _ (is : IsHeader h) (past : Past h) (later : List Row) (b : Block) (block : IsBlock b) (w : World) (run : Runs h past.known w) (all_read : w.posted ≡ w.reads) where
     pub running_now : w.stopped ≡ false
     running_now = (agrees_now h past.known w run all_read).stands.stopped ∙ run.on
 
@@ -49,12 +49,12 @@ module _ (h : Header) where
       pub event_step : (s : Step) (mid : List Step) (o : Option World) → (s ≡ NextRow → ⊥) → steps_made h h w s ≡ while_running h w o → o ≡ Some u →
           NextRow ∷ reverse (steps_before h past.known past.pointers (Read b) later) ++ past.made ≡ NextRow ∷ s ∷ mid →
           Follows h (learned h past.known (Read b)) (pointers_after h past.known past.pointers (Read b) later) (behind_read u) →
-          Leads h past mid (Plain (Read b) ∷ later) w → Carries h past (Read b) later
+          Leads h past mid ((Read b) ∷ later) w → Carries h past (Read b) later
       unfolding row_done
       event_step s mid o other made at same follows leads = record {
         world = behind_read u;
         run = subst (λ made. Leads h past made later (behind_read u)) (sym same)
-            (next_reached h past (s ∷ mid) (counted h u) (record (counted h u) { reads = (counted h u).reads + 1 }) (Read b) later (step_reached h past (Plain (Read b) ∷ later) mid w u s o other made leads running_now at) reads_it);
+            (next_reached h past (s ∷ mid) (counted h u) (record (counted h u) { reads = (counted h u).reads + 1 }) (Read b) later refl (step_reached h past ((Read b) ∷ later) mid w u s o other made leads running_now at) reads_it);
         goes = inl follows;
       }
 
@@ -80,14 +80,14 @@ module _ (h : Header) where
 
   -- ---- the schedule's steps
 
-  pub pointers_transfer : (b : Block) (past : Past h) (later : List TraceRow) (r : ℕ) → is_transfer_event (kind b) ≡ true →
+  pub pointers_transfer : (b : Block) (past : Past h) (later : List Row) (r : ℕ) → is_transfer_event (kind b) ≡ true →
       pointers_after h past.known past.pointers (Read b) later r ≡ brought h past.pointers (goals h past.known later (kind b) b) r
   unfolding pointers_after is_placed
   pointers_transfer b past later r transfer = search (rules, is_placed, is_command_completion, code, is_placed_by, slot, command_at, next_command, transfer_kind, kind, cond-false, learned)
 
   -- ---- the world behind the report and the row
 
-  module _ (is : IsHeader h) (past : Past h) (later : List TraceRow) (b : Block) (pointers : ℕ → Spot) (w u : World) (r : ℕ) (t : Spot) (block : IsBlock b) (clean : lenient h past.known (Read b) ≡ [])
+  module _ (is : IsHeader h) (past : Past h) (later : List Row) (b : Block) (pointers : ℕ → Spot) (w u : World) (r : ℕ) (t : Spot) (block : IsBlock b) (clean : lenient h past.known (Read b) ≡ [])
       (transfer : is_transfer_event (kind b) ≡ true) (trace : Traced h past.known pointers w) (at : reported h w b ≡ Some u) (leaves : ReportLeaves w u b r)
       (learns : EventLearns past.known (learned h past.known (Read b)) r t) where
     abbrev l : Known
@@ -132,7 +132,7 @@ module _ (h : Header) where
         command_active = active (command_id h) trace.command_active;
       }
 
-      pub report_step : Leads h past (reverse (looks_for h past later b) ++ past.made) (Plain (Read b) ∷ later) w → Carries h past (Read b) later
+      pub report_step : Leads h past (reverse (looks_for h past later b) ++ past.made) ((Read b) ∷ later) w → Carries h past (Read b) later
       unfolding post_of made
       report_step run =
           event_step h is past later b block w trace.runs trace.all_read u posted (Report b) (reverse (looks_for h past later b) ++ past.made) (reported h w b) (λ e. cc) refl at
@@ -141,21 +141,21 @@ module _ (h : Header) where
 -- An event of the controller itself: the lazy run posts it directly before it is read, and needs no look for it
 module _ (h : Header) where
   -- what the schedule does for such an event
-  record NeedsNothing (k : Known) (later : List TraceRow) (b : Block) (t : BlockKind) : Type 0 where
+  record NeedsNothing (k : Known) (later : List Row) (b : Block) (t : BlockKind) : Type 0 where
     goals : lazy_goals h k later t b ≡ []
     post : post_of h t b ≡ Other b
     no_completion : is_command_completion t ≡ false
 
-  needs_nothing : (k : Known) (later : List TraceRow) (b : Block) (t : BlockKind) → is_other_event t ≡ true → NeedsNothing k later b t
+  needs_nothing : (k : Known) (later : List Row) (b : Block) (t : BlockKind) → is_other_event t ≡ true → NeedsNothing k later b t
   unfolding lazy_goals post_of
   needs_nothing k later b o other = grind (arith, goals, false≢true)
 
-  lazy_event : (b : Block) (past : Past h) (later : List TraceRow) → is_other_event (kind b) ≡ true →
+  lazy_event : (b : Block) (past : Past h) (later : List Row) → is_other_event (kind b) ≡ true →
       NextRow ∷ reverse (steps_before h past.known past.pointers (Read b) later) ++ past.made ≡ NextRow ∷ Other b ∷ past.made
   unfolding steps_before
   lazy_event b past later other = search (rules, reverse, needs_nothing)
 
-  pointers_same : (b : Block) (past : Past h) (later : List TraceRow) (r : ℕ) → is_other_event (kind b) ≡ true →
+  pointers_same : (b : Block) (past : Past h) (later : List Row) (r : ℕ) → is_other_event (kind b) ≡ true →
       pointers_after h past.known past.pointers (Read b) later r ≡ past.pointers r
   unfolding pointers_after brought is_placed
   pointers_same b past later r other = search (rules, needs_nothing, cond-false)
@@ -164,7 +164,7 @@ module _ (h : Header) where
   unfolding other_posted
   post_made w b can other = cond-true (can_post h w b && is_other_event (kind b)) (Some (posts_posted h w b)) None (and_from (can_post h w b) (is_other_event (kind b)) can other)
 
-  module _ (is : IsHeader h) (past : Past h) (later : List TraceRow) (b : Block) (w : World) (block : IsBlock b) (clean : lenient h past.known (Read b) ≡ []) (other : is_other_event (kind b) ≡ true)
+  module _ (is : IsHeader h) (past : Past h) (later : List Row) (b : Block) (w : World) (block : IsBlock b) (clean : lenient h past.known (Read b) ≡ []) (other : is_other_event (kind b) ≡ true)
       (f : Follows h past.known past.pointers w) where
     abbrev read_known : Known
     read_known = learned h past.known (Read b)
@@ -214,7 +214,7 @@ module _ (h : Header) where
       command_active = λ opened. f.command_active (ap (λ (m : Known). is_open (m.ring (command_id h))) (sym same) ∙ opened);
     }
 
-    pub other_step : Leads h past past.made (Plain (Read b) ∷ later) w → Carries h past (Read b) later
+    pub other_step : Leads h past past.made ((Read b) ∷ later) w → Carries h past (Read b) later
     unfolding made
     other_step =
         event_step h is past later b block w f.runs f.all_read (posts_posted h w b) post (Other b) past.made (other_posted h w b) (λ e. cc) refl (post_made w b can other)
@@ -224,8 +224,8 @@ module _ (h : Header) where
   -- the step of a row that reads an event of some kinds
   abbrev pub EventLawOf : (BlockKind → Bool) → Type 0
   EventLawOf is_kind =
-      (past : Past h) (later : List TraceRow) (b : Block) (w : World) → is_kind (kind b) ≡ true → IsHeader h → IsBlock b → lenient h past.known (Read b) ≡ [] →
-      AreTimely h past.known (Plain (Read b) ∷ later) → Leads h past past.made (Plain (Read b) ∷ later) w →
+      (past : Past h) (later : List Row) (b : Block) (w : World) → is_kind (kind b) ≡ true → IsHeader h → IsBlock b → lenient h past.known (Read b) ≡ [] →
+      AreTimely h past.known ((Read b) ∷ later) → Leads h past past.made ((Read b) ∷ later) w →
       Follows h past.known past.pointers w → Carries h past (Read b) later
 
   pub event_law : EventLawOf is_transfer_event → EventLawOf is_command_completion → EventLaw h

@@ -1,5 +1,5 @@
 -- What a row of the driver leaves as it was, in the world and in what is known: floors, and which ring an endpoint has. A ring that it opens is active then
-use Rattle.safety.proofs.MiddleLaws.{◌≡◌, ◌≢◌, ◌==◌, ◌&&◌, ◌||◌, ◌⊎◌, if◌then◌else◌, ◌∙◌, ℕ, not, Bool, true, false, List, Option, Some, None, refl, sym, ap, inl, inr, cases_eq, cond_both, false≢true, put, put_pair, Block, is_running, is_stopped, position_from, erdp_address, is_event_place, Header, Row, Sub, Write, Reg, Bell, Read, Register, Usbcmd, Erdp, command_id, event_shape, register_or_zero, run_bit, reset_bit, base_address, ring_cycle_state, World, stored, IsDriverRow, put_at, put_off, activated, bell_row, driver_declared, driver_endpoint_bell, register_row, row_done, driver_run_or_stop, started_with, driver_valued, with_dequeue, [], nat_lt, is_none, subst, rules, cases_Bool, cond-true, cond-false, or_parts, not-false, RingView, Opens, is_open, Known, on_ring, run_or_stop, valued, register_written, endpoint_rung, rung, learned, is_bad_bell, lenient, BellFacts, bell_facts, declaration_leaves, write_leaves, register_leaves, bell_leaves, view_after, arith}
+use Rattle.safety.proofs.MiddleLaws.{◌≡◌, ◌≢◌, ◌==◌, ◌&&◌, ◌||◌, ◌⊎◌, if◌then◌else◌, ◌∙◌, ℕ, not, Bool, true, false, List, Option, Some, None, refl, sym, ap, inl, inr, cases_eq, cond_both, false≢true, put, put_pair, Block, is_running, is_stopped, position_from, erdp_address, is_event_place, Header, Row, Sub, Write, Reg, Bell, Register, Usbcmd, Erdp, command_id, event_shape, register_or_zero, run_bit, reset_bit, base_address, ring_cycle_state, World, stored, IsDriverRow, put_at, put_off, activated, bell_row, driver_declared, driver_endpoint_bell, register_row, row_done, driver_run_or_stop, started_with, driver_valued, with_dequeue, [], nat_lt, is_none, subst, rules, cases_Bool, cond-true, cond-false, or_parts, not-false, RingView, Opens, is_open, Known, on_ring, run_or_stop, valued, register_written, endpoint_rung, rung, learned, is_bad_bell, lenient, BellFacts, bell_facts, declaration_leaves, write_leaves, register_leaves, bell_leaves, view_after, arith}
 
 -- What a row of the driver leaves as it is in the world: only the start moves a pointer, and that of the command ring alone
 
@@ -64,7 +64,7 @@ module _ (h : Header) where
   done w (Write a x) = stored w a x
   done w (Reg r x) = register_row h w r x
   done w (Bell s t) = bell_row h w s t
-  done w (Read e) = w
+  done w _ = w
 
   pub row_is_done : (w : World) (row : Row) → IsDriverRow row → row_done h w row ≡ Some (done w row)
   unfolding row_done done

@@ -1,6 +1,6 @@
 -- A clean trace has at most three steps for each row, and three more: rows, events posted, and looks, each of which moves a pointer on
-use Rattle.safety.proofs.UpperLaws.{[], ◌≡◌, ◌≢◌, ◌+◌, ◌*◌, ◌≤◌, ◌==◌, ◌∷◌, if◌then◌else◌, ℕ, true, false, List, All, length, reverse, Option, Some, None, arith, refl, sym, subst, ne_eqb, length-append, rules, FewSteps, driver_ring, length-reverse, flat_map, cases_Bool, cond_both, false≢true, and_parts, put_off, Block, kind, completion_kind, Spot, number, rank_most, floor_number, Command, Change, Places, changes, is_off, Header, Read, IsHeader, command_id, is_ring, ring_having, Known, RingSpot, learned, IsDriverRow, DriverKeeps, transfer_not_command, need, further, brought, goals, looks_to, EndpointsKeep, endpoints_of, transfer_ring, floors_grow, having_transfer, ring_with, is_driver_ring, Row, TraceRow, Comes, Goes, Plain, Data, rank, put, lenient, All-head, All-tail, AreKept, FitsFields, header_now, known_now, restored, restored_on, ring_restored, with_ring, without_ring, pointers_at, pointers_after, pointers_for, steps_before, steps_for, lazy_run, max, eq-eqb, cases_eq, cond-true, put_at, Ring, IsKept, header_after, known_after, forgotten, begins_anew, ends_need, number_needed, number_reported, known_changed_by, command_taken, lazy_steps, post_of, stopped_goals, taken_up_to, is_placed_by, is_placed_by_all, ring_placed, change_keeps, bit, bit_clear, bit_most, no_steps, pointers_same, whole, come_to, driver_le, of_driver, on_driver, off_driver, place_value, command_value, transfer_value, progress, total, total_le, total_most, total_twice, further_most, row_learns}
-use Rattle.traces.specs.declared.trace_row.TraceRow.TheVariants.{Withdraws}
+use Rattle.safety.proofs.UpperLaws.{[], ◌≡◌, ◌≢◌, ◌+◌, ◌*◌, ◌≤◌, ◌==◌, ◌∷◌, if◌then◌else◌, ℕ, true, false, List, All, length, reverse, Option, Some, None, arith, refl, sym, subst, ne_eqb, length-append, rules, FewSteps, driver_ring, length-reverse, flat_map, cases_Bool, cond_both, false≢true, and_parts, put_off, Block, kind, completion_kind, Spot, number, rank_most, floor_number, Command, Change, Places, changes, is_off, Header, Read, IsHeader, command_id, is_ring, ring_having, Known, RingSpot, learned, IsDriverRow, DriverKeeps, transfer_not_command, need, further, brought, goals, looks_to, EndpointsKeep, endpoints_of, transfer_ring, floors_grow, having_transfer, ring_with, is_driver_ring, Row, RingRow, FreeRow, Data, rank, put, lenient, All-head, All-tail, AreKept, IsRow, header_now, known_now, restored, restored_on, ring_restored, with_ring, without_ring, pointers_at, pointers_after, pointers_for, steps_before, steps_for, lazy_run, max, eq-eqb, cases_eq, cond-true, put_at, Ring, IsKept, header_after, known_after, forgotten, begins_anew, ends_need, number_reported, known_changed_by, command_taken, lazy_steps, post_of, stopped_goals, taken_up_to, is_placed_by, is_placed_by_all, ring_placed, change_keeps, bit, bit_clear, bit_most, no_steps, pointers_same, whole, come_to, driver_le, of_driver, on_driver, off_driver, place_value, command_value, transfer_value, progress, total, total_le, total_most, total_twice, further_most, row_learns}
+use Rattle.traces.specs.declared.row.Row.TheVariants.{Nop as NopRow}
 use Rattle.safety.specs.LazyRuns.Needs.{is_placed}
 use Rattle.safety.proofs.RingChanges.RingRuns.{no_ring}
 use Rattle.safety.proofs.LazyRuns.RingRows.{OthersStay, comes_stay, goes_stay, restored_learns, withdrawn_learns}
@@ -8,6 +8,7 @@ use Rattle.safety.proofs.RingChanges.LiveHeadline.{Keeps, kept_on, now_keeps}
 use Rattle.safety.proofs.LazyRuns.EventGoals.{goals_few, AreWithin, top, reported_most, goals_within}
 use Rattle.safety.proofs.LazyRuns.GivenCounted.{events, floors, floors_most, gone, kept_before}
 use Rattle.safety.proofs.LazyRuns.Induction.{rows_of}
+use Rattle.safety.proofs.RingChanges.KeptRings.{kept_coming, kept_going}
 
 -- Behind each row of a clean trace no pointer is past its floor, or past what is needed later; the command ring's by one place
 module _ (h : Header) where
@@ -20,47 +21,47 @@ module _ (h : Header) where
 
   -- ---- what is needed before a row
 
-  need_by : (k : Known) (r : ℕ) (row : TraceRow) (later : List TraceRow) → need h k r (row ∷ later) ≤ max (number_needed h k r row) (need (header_after h row) (known_after h k row) r later)
+  need_by : (k : Known) (r : ℕ) (row : Row) (later : List Row) → need h k r (row ∷ later) ≤ max (number_reported h k r row) (need (header_after h row) (known_after h k row) r later)
   unfolding need
-  need_by k r row later = search (rules, arith, max, number_needed, need, header_after, known_after, cond_both, ends_need)
+  need_by k r row later = search (rules, arith, max, number_reported, need, header_after, known_after, cond_both, ends_need)
 
-  comes_none : (k : Known) (r : ℕ) (ring : Ring) → number_needed h k r (Comes ring) ≡ 0
-  unfolding number_needed
+  comes_none : (k : Known) (r : ℕ) (ring : Ring) → number_reported h k r (RingRow ring) ≡ 0
+  unfolding number_reported
   comes_none k r ring = refl
 
-  goes_none : (k : Known) (r id : ℕ) → number_needed h k r (Goes id) ≡ 0
-  unfolding number_needed
+  goes_none : (k : Known) (r id : ℕ) → number_reported h k r (FreeRow id) ≡ 0
+  unfolding number_reported
   goes_none k r id = refl
 
-  pub need_placed : (k : Known) (r : ℕ) (b : Block) (later : List TraceRow) → is_placed h k r b ≡ true → need h k r (Plain (Read b) ∷ later) ≡ 0
+  pub need_placed : (k : Known) (r : ℕ) (b : Block) (later : List Row) → is_placed h k r b ≡ true → need h k r ((Read b) ∷ later) ≡ 0
   unfolding need ends_need begins_anew
   need_placed k r b later placed = cond-true (is_placed h k r b) 0 _ placed
 
   -- of a ring that goes nothing is needed
-  pub need_gone : (k : Known) (id : ℕ) (later : List TraceRow) → need h k id (Goes id ∷ later) ≡ 0
+  pub need_gone : (k : Known) (id : ℕ) (later : List Row) → need h k id (FreeRow id ∷ later) ≡ 0
   unfolding need ends_need
   need_gone k id later = cond-true (id == id) 0 _ (eq-eqb id id refl)
 
   -- ---- pointers
 
-  abbrev pub IsNear : Known → (ℕ → Spot) → List TraceRow → ℕ → Type 0
+  abbrev pub IsNear : Known → (ℕ → Spot) → List Row → ℕ → Type 0
   IsNear k pointers later r = number (pointers r) ≤ max (floor_number (k.ring r)) (need h k r later) + bit (r == command_id h)
 
-  pub event_pointer : (k : Known) (pointers : ℕ → Spot) (later : List TraceRow) (b : Block) (r : ℕ) →
+  pub event_pointer : (k : Known) (pointers : ℕ → Spot) (later : List Row) (b : Block) (r : ℕ) →
       pointers_after h k pointers (Read b) later r ≡ (if is_placed h k r b then ((learned h k (Read b)).ring r).floor else brought h pointers (goals h k later (kind b) b) r)
   unfolding pointers_after
   event_pointer k pointers later b r = refl
 
-  row_near : (k : Known) (pointers : ℕ → Spot) (later : List TraceRow) (row : Row) → IsDriverRow row → (r : ℕ) → IsNear k pointers (Plain row ∷ later) r →
+  row_near : (k : Known) (pointers : ℕ → Spot) (later : List Row) (row : Row) → IsDriverRow row → (r : ℕ) → IsNear k pointers (row ∷ later) r →
       IsNear (learned h (restored h k row) row) (pointers_after h (restored h k row) pointers row later) later r
-  unfolding number_needed number_reported
+  unfolding number_reported
   row_near k pointers later row is r near = search (rules, pointers_same, row_learns, restored_learns, need_by)
 
-  module _ (is : IsHeader h) (k : Known) (pointers : ℕ → Spot) (later : List TraceRow) (b : Block) (d : DriverKeeps h k) (clean : lenient h k (Read b) ≡ [])
-      (near : (r : ℕ) → IsNear k pointers (Plain (Read b) ∷ later) r) where
+  module _ (is : IsHeader h) (k : Known) (pointers : ℕ → Spot) (later : List Row) (b : Block) (d : DriverKeeps h k) (clean : lenient h k (Read b) ≡ [])
+      (near : (r : ℕ) → IsNear k pointers ((Read b) ∷ later) r) where
     before_goals : (r : ℕ) → number (pointers r) ≤ top h k b clean later r
-    unfolding top number_needed ring_restored restored_on
-    before_goals r = omega (arith, near r, need_by k r (Plain (Read b)) later, reported_most h k b clean later r, floors_grow h is k d b clean r)
+    unfolding top number_reported ring_restored restored_on
+    before_goals r = omega (arith, near r, need_by k r (Read b) later, reported_most h k b clean later r, floors_grow h is k d b clean r)
 
     -- where the goals bring the pointers
     pub goals_near : (r : ℕ) → number (brought h pointers (goals h k later (kind b) b) r) ≤ top h k b clean later r
@@ -71,41 +72,41 @@ module _ (h : Header) where
     event_near r = search (rules, top, max, bit, event_pointer, goals_near)
 
   -- a descriptor that is withdrawn moves no floor
-  withdrawn_near : (k : Known) (pointers : ℕ → Spot) (later : List TraceRow) (q p r : ℕ) → IsNear k pointers (Withdraws q p ∷ later) r → IsNear (known_after h k (Withdraws q p)) pointers later r
-  unfolding number_needed
+  withdrawn_near : (k : Known) (pointers : ℕ → Spot) (later : List Row) (q p r : ℕ) → IsNear k pointers (NopRow q p ∷ later) r → IsNear (known_after h k (NopRow q p)) pointers later r
+  unfolding number_reported
   withdrawn_near k pointers later q p r near = search (rules, arith, need_by, number, withdrawn_learns, floors)
 
 -- a ring comes or goes
-module _ (h g : Header) (k : Known) (pointers : ℕ → Spot) (later : List TraceRow) (id : ℕ) (command : command_id g ≡ command_id h) where
+module _ (h g : Header) (k : Known) (pointers : ℕ → Spot) (later : List Row) (id : ℕ) (command : command_id g ≡ command_id h) where
   forgotten_near : (r n : ℕ) → (n ≤ need g (forgotten k id) r later) → number (pointers r) ≤ max (floor_number (k.ring r)) n + bit (r == command_id h) → IsNear g (forgotten k id) (put pointers id (Data 0)) later r
   unfolding forgotten
   forgotten_near r n most near = search (rules, max, bit, put_at, put_off)
 
 module _ (h : Header) (is : IsHeader h) where
   -- behind each row
-  pub pointers_near : (past later : List TraceRow) → All FitsFields past → AreKept h past → (r : ℕ) → IsNear (header_now h past) (known_now h past) (pointers_at h past later) later r
-  unfolding pointers_at pointers_for ring_restored restored_on
+  pub pointers_near : (past later : List Row) → All IsRow past → AreKept h past → (r : ℕ) → IsNear (header_now h past) (known_now h past) (pointers_at h past later) later r
+  unfolding pointers_at pointers_for pointers_after ring_restored restored_on
   pointers_near [] later are kept r = omega arith
   pointers_near (row ∷ past) later are kept r =
-      let made : All FitsFields past = All-tail FitsFields row past are in
+      let made : All IsRow past = All-tail IsRow row past are in
       let p : Keeps h is past = now_keeps h is past made kept.0 (kept_on (header_now h past) (known_now h past) row kept.1) in
-      one row (All-head FitsFields row past are) kept.1 p (pointers_near past (row ∷ later) made kept.0) r
+      one row (All-head IsRow row past are) kept.1 p (pointers_near past (row ∷ later) made kept.0) r
     where
-      one : (row : TraceRow) → FitsFields row → IsKept (header_now h past) (known_now h past) row → Keeps h is past → ((r : ℕ) → IsNear (header_now h past) (known_now h past) (pointers_at h past (row ∷ later)) (row ∷ later) r) →
+      one : (row : Row) → IsRow row → IsKept (header_now h past) (known_now h past) row → Keeps h is past → ((r : ℕ) → IsNear (header_now h past) (known_now h past) (pointers_at h past (row ∷ later)) (row ∷ later) r) →
           (r : ℕ) → IsNear (header_after (header_now h past) row) (known_after (header_now h past) (known_now h past) row) (pointers_for (header_now h past) (known_now h past) (pointers_at h past (row ∷ later)) row later) later r
-      one (Plain (Read b)) is_row kept p near r = event_near (header_now h past) p.headed (known_now h past) (pointers_at h past (Plain (Read b) ∷ later)) later b p.keeps kept.0 near r
-      one (Plain row) is_row kept p near r = row_near (header_now h past) (known_now h past) (pointers_at h past (Plain row ∷ later)) later row tt r (near r)
-      one (Withdraws q n) is_row kept p near r = withdrawn_near (header_now h past) (known_now h past) (pointers_at h past (Withdraws q n ∷ later)) later q n r (near r)
-      one (Comes ring) coming kept p near r =
+      one (Read b) is_row kept p near r = event_near (header_now h past) p.headed (known_now h past) (pointers_at h past ((Read b) ∷ later)) later b p.keeps kept.0 near r
+      one (NopRow q n) is_row kept p near r = withdrawn_near (header_now h past) (known_now h past) (pointers_at h past (NopRow q n ∷ later)) later q n r (near r)
+      one (RingRow ring) coming kept p near r =
           let g : Header = header_now h past in
           let k : Known = known_now h past in
-          forgotten_near g (with_ring g ring) k (pointers_at h past (Comes ring ∷ later)) later ring.id (comes_stay g p.headed k p.keeps ring coming kept.1).command r (need g k r (Comes ring ∷ later))
-          (omega (arith, need_by g k r (Comes ring) later, comes_none g k r ring)) (near r)
-      one (Goes id) is_row kept p near r =
+          forgotten_near g (with_ring g ring) k (pointers_at h past (RingRow ring ∷ later)) later ring.id (comes_stay g p.headed k p.keeps ring coming (kept_coming g k ring kept).1).command r (need g k r (RingRow ring ∷ later))
+          (omega (arith, need_by g k r (RingRow ring) later, comes_none g k r ring)) (near r)
+      one (FreeRow id) is_row kept p near r =
           let g : Header = header_now h past in
           let k : Known = known_now h past in
-          forgotten_near g (without_ring g id) k (pointers_at h past (Goes id ∷ later)) later id (goes_stay g p.headed k p.keeps id kept.1).command r (need g k r (Goes id ∷ later))
-          (omega (arith, need_by g k r (Goes id) later, goes_none g k r id)) (near r)
+          forgotten_near g (without_ring g id) k (pointers_at h past (FreeRow id ∷ later)) later id (goes_stay g p.headed k p.keeps id (kept_going g k id kept).1).command r (need g k r (FreeRow id ∷ later))
+          (omega (arith, need_by g k r (FreeRow id) later, goes_none g k r id)) (near r)
+      one row is_row kept p near r = row_near (header_now h past) (known_now h past) (pointers_at h past (row ∷ later)) later row tt r (near r)
 
 module _ (h : Header) where
   -- ---- the command ring is never bound or moved
@@ -129,11 +130,11 @@ module _ (h : Header) where
 
   -- ---- an event that binds or moves a ring asks for no look at it
 
-  record IsPlacedSo (k : Known) (later : List TraceRow) (b : Block) (r : ℕ) : Type 0 where
+  record IsPlacedSo (k : Known) (later : List Row) (b : Block) (r : ℕ) : Type 0 where
     other : r ≢ command_id h
     goals_are : goals h k later (kind b) b ≡ command_taken h k ∷ []
 
-  placed_so : IsHeader h → (k : Known) (later : List TraceRow) (b : Block) (r : ℕ) → EndpointsKeep h k → is_placed h k r b ≡ true → IsPlacedSo k later b r
+  placed_so : IsHeader h → (k : Known) (later : List Row) (b : Block) (r : ℕ) → EndpointsKeep h k → is_placed h k r b ≡ true → IsPlacedSo k later b r
   unfolding is_placed goals is_placed_by is_placed_by_all ring_placed changes stopped_goals
   placed_so is k later b r endpoints placed = search (rules, and_parts, false≢true, all_other, changes, h.context_size, completion_kind)
 
@@ -147,8 +148,8 @@ module _ (h : Header) where
   unfolding come_to
   come_le r s t other low = driver_le h r (place_value h r s) (place_value h r t) (λ _. omega (arith, low, transfer_value h r s other, transfer_value h r t other))
 
-  module _ (is : IsHeader h) (k : Known) (before : ℕ → Spot) (later : List TraceRow) (b : Block) (keeps : DriverKeeps h k) (clean : lenient h k (Read b) ≡ [])
-      (near : (r : ℕ) → IsNear h k before (Plain (Read b) ∷ later) r) where
+  module _ (is : IsHeader h) (k : Known) (before : ℕ → Spot) (later : List Row) (b : Block) (keeps : DriverKeeps h k) (clean : lenient h k (Read b) ≡ [])
+      (near : (r : ℕ) → IsNear h k before ((Read b) ∷ later) r) where
     abbrev now : ℕ → Spot
     now = brought h before (goals h k later (kind b) b)
 
@@ -159,7 +160,7 @@ module _ (h : Header) where
     unfolding steps_before progress
     event_few = search (rules, arith, length-append, flat_map, looks_to, goals, kind, post_of, total_le, come_to, now, pointers_after, event_pointer, cond_both, is_placed, learned, placed_on, goals_few)
 
-  row_few : (k : Known) (before : ℕ → Spot) (later : List TraceRow) (row : Row) → IsDriverRow row → length (steps_before h k before row later) + progress h before ≤ progress h (pointers_after h k before row later)
+  row_few : (k : Known) (before : ℕ → Spot) (later : List Row) (row : Row) → IsDriverRow row → length (steps_before h k before row later) + progress h before ≤ progress h (pointers_after h k before row later)
   unfolding progress
   row_few k before later row is = search (rules, arith, progress, pointers_after, total_le, come_to, pointers_same, length, no_steps)
 
@@ -197,97 +198,102 @@ none_absent h r none = grind (arith, cases_Bool (is_driver_ring (ring_with h r))
 
 module _ (h : Header) where
   -- how far the pointers of the rings had come that went
-  unfoldable spent : List TraceRow → List TraceRow → ℕ
+  unfoldable spent : List Row → List Row → ℕ
   spent [] later = 0
-  spent (Goes id ∷ past) later = spent past (Goes id ∷ later) + come_to (header_now h past) id (pointers_at h past (Goes id ∷ later) id)
+  spent (FreeRow id ∷ past) later = spent past (FreeRow id ∷ later) + come_to (header_now h past) id (pointers_at h past (FreeRow id ∷ later) id)
   spent (row ∷ past) later = spent past (row ∷ later)
 
-  abbrev IsCounted : List TraceRow → List TraceRow → Type 0
+  abbrev IsCounted : List Row → List Row → Type 0
   IsCounted past later = length (lazy_run h past later) ≤ length past + 2 * events past + progress (header_now h past) (pointers_at h past later) + spent past later
 
-  run_length : (row : TraceRow) (past later : List TraceRow) →
+  run_length : (row : Row) (past later : List Row) →
       length (lazy_run h (row ∷ past) later) ≡ length (steps_for (header_now h past) (known_now h past) (pointers_at h past (row ∷ later)) row later) + length (lazy_run h past (row ∷ later)) + 1
   unfolding lazy_run
   run_length row past later = search (rules, arith, steps_for, header_now, known_now, pointers_at, length-append, reverse, lazy_run, length-reverse)
 
-  driven : (row : Row) → IsDriverRow row → (past later : List TraceRow) → events (Plain row ∷ past) ≡ events past → IsCounted past (Plain row ∷ later) → IsCounted (Plain row ∷ past) later
+  driven : (row : Row) → IsDriverRow row → (past later : List Row) → events (row ∷ past) ≡ events past → IsCounted past (row ∷ later) → IsCounted (row ∷ past) later
   unfolding spent pointers_at pointers_for steps_for
+  driven (RingRow ring) driver_row past later none before = absurd driver_row
+  driven (FreeRow id) driver_row past later none before = absurd driver_row
+  driven (NopRow r p) driver_row past later none before = absurd driver_row
   driven row driver_row past later none before = search (rules, arith, header_now, run_length, row_few, restored, known_now, pointers_at)
 
   module _ (is : IsHeader h) where
-    counted : (past later : List TraceRow) → All FitsFields past → AreKept h past → IsCounted past later
-    unfolding events spent pointers_at pointers_for steps_for ring_restored restored_on lazy_run
+    counted : (past later : List Row) → All IsRow past → AreKept h past → IsCounted past later
+    unfolding events spent pointers_at pointers_for steps_for steps_before pointers_after ring_restored restored_on lazy_run
     counted [] later are kept = omega arith
-    counted (Plain (Read b) ∷ past) later are kept =
-        let p = kept_before h is (Plain (Read b)) past are kept in
-        let made : All FitsFields past = All-tail FitsFields (Plain (Read b)) past are in
+    counted ((Read b) ∷ past) later are kept =
+        let p = kept_before h is (Read b) past are kept in
+        let made : All IsRow past = All-tail IsRow (Read b) past are in
         omega (
           arith,
-          counted past (Plain (Read b) ∷ later) made kept.0,
-          run_length (Plain (Read b)) past later,
-          event_few (header_now h past) p.headed (known_now h past) (pointers_at h past (Plain (Read b) ∷ later)) later b p.keeps kept.1.0 (pointers_near h is past (Plain (Read b) ∷ later) made kept.0),
+          counted past ((Read b) ∷ later) made kept.0,
+          run_length (Read b) past later,
+          event_few (header_now h past) p.headed (known_now h past) (pointers_at h past ((Read b) ∷ later)) later b p.keeps kept.1.0 (pointers_near h is past ((Read b) ∷ later) made kept.0),
         )
-    counted (Plain row ∷ past) later are kept = driven row tt past later refl (counted past (Plain row ∷ later) (All-tail FitsFields (Plain row) past are) kept.0)
-    counted (Withdraws r p ∷ past) later are kept =
-        omega (arith, counted past (Withdraws r p ∷ later) (All-tail FitsFields (Withdraws r p) past are) kept.0, run_length (Withdraws r p) past later)
-    counted (Comes ring ∷ past) later are kept =
-        let p = kept_before h is (Comes ring) past are kept in
+    counted (NopRow r p ∷ past) later are kept =
+        omega (arith, counted past (NopRow r p ∷ later) (All-tail IsRow (NopRow r p) past are) kept.0, run_length (NopRow r p) past later)
+    counted (RingRow ring ∷ past) later are kept =
+        let p = kept_before h is (RingRow ring) past are kept in
         let g : Header = header_now h past in
         let k : Known = known_now h past in
-        let before : ℕ → Spot = pointers_at h past (Comes ring ∷ later) in
-        let coming = All-head FitsFields (Comes ring) past are in
+        let before : ℕ → Spot = pointers_at h past (RingRow ring ∷ later) in
+        let good = (kept_coming g k ring kept.1).1 in
+        let coming = All-head IsRow (RingRow ring) past are in
         omega (
           arith,
-          counted past (Comes ring ∷ later) (All-tail FitsFields (Comes ring) past are) kept.0,
-          run_length (Comes ring) past later,
-          one_less g (with_ring g ring) k ring.id (comes_stay g p.headed k p.keeps ring coming kept.1.1) before,
-          come_absent g ring.id (before ring.id) (none_absent g ring.id (no_ring g p.headed ring coming k kept.1.1)),
+          counted past (RingRow ring ∷ later) (All-tail IsRow (RingRow ring) past are) kept.0,
+          run_length (RingRow ring) past later,
+          one_less g (with_ring g ring) k ring.id (comes_stay g p.headed k p.keeps ring coming good) before,
+          come_absent g ring.id (before ring.id) (none_absent g ring.id (no_ring g p.headed ring coming k good)),
         )
-    counted (Goes id ∷ past) later are kept =
-        let p = kept_before h is (Goes id) past are kept in
+    counted (FreeRow id ∷ past) later are kept =
+        let p = kept_before h is (FreeRow id) past are kept in
         let g : Header = header_now h past in
         let k : Known = known_now h past in
         omega (
           arith,
-          counted past (Goes id ∷ later) (All-tail FitsFields (Goes id) past are) kept.0,
-          run_length (Goes id) past later,
-          one_less g (without_ring g id) k id (goes_stay g p.headed k p.keeps id kept.1.1) (pointers_at h past (Goes id ∷ later)),
+          counted past (FreeRow id ∷ later) (All-tail IsRow (FreeRow id) past are) kept.0,
+          run_length (FreeRow id) past later,
+          one_less g (without_ring g id) k id (goes_stay g p.headed k p.keeps id (kept_going g k id kept.1).1) (pointers_at h past (FreeRow id ∷ later)),
         )
+    counted (row ∷ past) later are kept = driven row tt past later refl (counted past (row ∷ later) (All-tail IsRow row past are) kept.0)
 
     -- ---- the rings that went
 
-    spent_most : (past later : List TraceRow) → All FitsFields past → AreKept h past → spent past later ≤ 2 * gone h past
+    spent_most : (past later : List Row) → All IsRow past → AreKept h past → spent past later ≤ 2 * gone h past
     unfolding spent gone come_to
     spent_most [] later are kept = omega arith
-    spent_most (Goes id ∷ past) later are kept =
-        let made : All FitsFields past = All-tail FitsFields (Goes id) past are in
-        let p = kept_before h is (Goes id) past are kept in
+    spent_most (FreeRow id ∷ past) later are kept =
+        let made : All IsRow past = All-tail IsRow (FreeRow id) past are in
+        let p = kept_before h is (FreeRow id) past are kept in
         let g : Header = header_now h past in
         let k : Known = known_now h past in
-        let t : Spot = pointers_at h past (Goes id ∷ later) id in
-        let other : id ≢ command_id g = λ same. (goes_stay g p.headed k p.keeps id kept.1.1).no_command (sym same) in
+        let good = (kept_going g k id kept.1).1 in
+        let t : Spot = pointers_at h past (FreeRow id ∷ later) id in
+        let other : id ≢ command_id g = λ same. (goes_stay g p.headed k p.keeps id good).no_command (sym same) in
         omega (
           arith,
-          spent_most past (Goes id ∷ later) made kept.0,
+          spent_most past (FreeRow id ∷ later) made kept.0,
           twice g id (place_value g id t) (floor_number (k.ring id)) 0
               (omega (
                 arith,
                 transfer_value g id t other,
-                pointers_near h is past (Goes id ∷ later) made kept.0 id,
+                pointers_near h is past (FreeRow id ∷ later) made kept.0 id,
                 need_gone g k id later,
                 bit_clear (id == command_id g) (ne_eqb id (command_id g) other),
               )),
         )
-    spent_most (row ∷ past) later are kept = spent_most past (row ∷ later) (All-tail FitsFields row past are) kept.0
+    spent_most (row ∷ past) later are kept = spent_most past (row ∷ later) (All-tail IsRow row past are) kept.0
 
     -- ---- behind all rows
 
-    near_floor : (past : List TraceRow) → All FitsFields past → AreKept h past → (r : ℕ) →
+    near_floor : (past : List Row) → All IsRow past → AreKept h past → (r : ℕ) →
         number (pointers_at h past [] r) ≤ floor_number ((known_now h past).ring r) + bit (r == command_id (header_now h past))
     unfolding need
     near_floor past are kept r = omega (arith, pointers_near h is past [] are kept r)
 
-    ends_near : (past : List TraceRow) → All FitsFields past → AreKept h past → progress (header_now h past) (pointers_at h past []) ≤ 2 * floors (header_now h past) (known_now h past) + 3
+    ends_near : (past : List Row) → All IsRow past → AreKept h past → progress (header_now h past) (pointers_at h past []) ≤ 2 * floors (header_now h past) (known_now h past) + 3
     unfolding progress floors come_to
     ends_near past are kept =
         let g : Header = header_now h past in
@@ -304,13 +310,13 @@ module _ (h : Header) where
         (twice g c (place_value g c (at c)) (floor_number (k.ring c)) 3 (omega (arith, near_floor past are kept c, command_value g (at c), rank_most (at c), bit_most (c == c)))) in
         omega (arith, most, total_twice floor_of 256)
 
-  steps_same : (rows : List TraceRow) → length (lazy_steps h rows) ≡ length (lazy_run h (reverse rows) [])
+  steps_same : (rows : List Row) → length (lazy_steps h rows) ≡ length (lazy_run h (reverse rows) [])
   unfolding lazy_steps
   steps_same rows = length-reverse (lazy_run h (reverse rows) [])
 
   pub few_steps : FewSteps h
   few_steps rows is are kept =
-      let made : All FitsFields (reverse rows) = (rows_of h (reverse rows) [] (subst (All FitsFields) (sym (whole h rows)) are)).0 in
+      let made : All IsRow (reverse rows) = (rows_of h (reverse rows) [] (subst (All IsRow) (sym (whole h rows)) are)).0 in
       omega (
         arith,
         steps_same rows,

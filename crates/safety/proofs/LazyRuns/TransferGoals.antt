@@ -1,5 +1,5 @@
 -- What a Transfer Event asks for and teaches, and that the controller can report it
-use Rattle.safety.proofs.UpperLaws.{[], ◌≡◌, ◌≢◌, ◌+◌, ◌≤◌, ◌==◌, ◌||◌, ◌∷◌, ◌∙◌, ℕ, suc, nat_lt, true, false, List, Some, arith, refl, sym, ap, subst, inl, inr, lt-ltb, le-ltb, eqb-true, rules, cases_lt, cond-true, cond-false, or_cases, false≢true, Block, kind, code, slot, endpoint, is_transfer_event, is_success, is_halting, is_trb_error, is_stopping, Spot, Shape, number, rank, after, Reaches, Holds, is_open, same_rank, Header, TraceRow, Read, shape_of, Known, RingSpot, on_ring, event_read, learned, passed, broken_off, stopped_at, transferred, transferred_at, transfer_read, ring_here, learned_read, put_at, put_off, transfer_kind, TransferLeaves, transferred_leaves, with_reads, behind_taken, further, taken_up_to, report_goals, goals, brought, ◌-◌, ◌<◌, ◌&&◌, zero, Bool, length, map, Option, None, position, get_or, eq-eqb, range_with_len, cases_Bool, and_from, not_from_false, length-map-range_with_len, get_or-map-range_with_len, put, put_pair, IsBlock, pointer, address_of, spot_address, declared, floor_number, named, RingKeeps, named_ahead, position-None, IsNamed, named_spot-Some, EndpointState, Halted, Error, is_running, IsHeader, command_id, World, unreported, lenient, IsDriverRing, DriverKeeps, state_of, BoundRing, Agrees, transfer_driver, transfer_not_command, number_after, PostKeeps, post_keeps, open_takes, stored, stored_block, can_post, is_last, posts_posted, report_code, report_error, report_success, reported, reported_on, with_reported, TransferFacts, NamesBlock, StandsAt, may_post}
+use Rattle.safety.proofs.UpperLaws.{[], ◌≡◌, ◌≢◌, ◌+◌, ◌≤◌, ◌==◌, ◌||◌, ◌∷◌, ◌∙◌, ℕ, suc, nat_lt, true, false, List, Some, arith, refl, sym, ap, subst, inl, inr, lt-ltb, le-ltb, eqb-true, rules, cases_lt, cond-true, cond-false, or_cases, false≢true, Block, kind, code, slot, endpoint, is_transfer_event, is_success, is_halting, is_trb_error, is_stopping, Spot, Shape, number, rank, after, Reaches, Holds, is_open, same_rank, Header, Row, Read, shape_of, Known, RingSpot, on_ring, event_read, learned, passed, broken_off, stopped_at, transferred, transferred_at, transfer_read, ring_here, learned_read, put_at, put_off, transfer_kind, TransferLeaves, transferred_leaves, with_reads, behind_taken, further, taken_up_to, report_goals, goals, brought, ◌-◌, ◌<◌, ◌&&◌, zero, Bool, length, map, Option, None, position, get_or, eq-eqb, range_with_len, cases_Bool, and_from, not_from_false, length-map-range_with_len, get_or-map-range_with_len, put, put_pair, IsBlock, pointer, address_of, spot_address, declared, floor_number, named, RingKeeps, named_ahead, position-None, IsNamed, named_spot-Some, EndpointState, Halted, Error, is_running, IsHeader, command_id, World, unreported, lenient, IsDriverRing, DriverKeeps, state_of, BoundRing, Agrees, transfer_driver, transfer_not_command, number_after, PostKeeps, post_keeps, open_takes, stored, stored_block, can_post, is_last, posts_posted, report_code, report_error, report_success, reported, reported_on, with_reported, TransferFacts, NamesBlock, StandsAt, may_post}
 use Rattle.std.proofs.Common.{option_map}
 use Rattle.safety.proofs.LazyRuns.PostStep.{EventLearns, ReportLeaves}
 
@@ -40,11 +40,11 @@ module _ (h : Header) where
   brought_off pointers r q t other = put_off pointers r (further (pointers r) t) q other
 
   module _ (k : Known) (b : Block) (transfer : is_transfer_event (kind b) ≡ true) (f : TransferFacts h k b) where
-    pub goals_are : (later : List TraceRow) → goals h k later (kind b) b ≡ report_goals h k later b (Some (record { ring = f.ring; spot = f.spot }))
+    pub goals_are : (later : List Row) → goals h k later (kind b) b ≡ report_goals h k later b (Some (record { ring = f.ring; spot = f.spot }))
     unfolding goals
     goals_are later = ap (λ t. goals h k later t b) (transfer_kind (kind b) transfer) ∙ ap (λ o. report_goals h k later b o) f.at
 
-    pub block_goal : (later : List TraceRow) (n : NamesBlock h k f.ring f.spot) → is_stopping (code b) ≡ false →
+    pub block_goal : (later : List Row) (n : NamesBlock h k f.ring f.spot) → is_stopping (code b) ≡ false →
         goals h k later (kind b) b ≡ record { ring = f.ring; spot = after (shape_of h f.ring) n.position } ∷ []
     unfolding report_goals
     block_goal later n goes_on =

@@ -1,5 +1,5 @@
 -- A Transfer Event, whatever its code: the lazy run brings its ring to where the event says, reports it, and reads it; and with that the lazy law
-use Rattle.safety.proofs.UpperLaws.{Header, LazyLaw, AllAreRead, [], ◌||◌, inl, inr, cases_Bool, code, is_success, is_halting, is_trb_error, is_transfer_event, ◌≡◌, ◌≢◌, ◌≤◌, ◌&&◌, ◌∷◌, ◌∙◌, ℕ, true, false, List, Option, Some, arith, sym, ap, subst, false≢true, not-false, and_from, Block, IsBlock, kind, slot, endpoint, is_stopping, Spot, Data, is_open, floor_number, MayReach, rank, number, after, ceiling_within, after_reached, next_later, Read, TraceRow, Plain, IsHeader, shape_of, command_id, World, Known, learned, lenient, RingSpot, transferred, IsDriverRing, DriverKeeps, Agrees, transfer_driver, ring_shape, is_held_ring, is_late, brought, ◌+◌, ◌-◌, ◌<◌, ◌==◌, not, length, None, refl, ltb-true, eq-eqb, rules, and_parts, cond-true, cond-false, not_from_true, pointer, ceiling, cycle_of_bit, command_of, is_stop_of, is_running, UnderWay, unreported, command_at, next_command, is_stopping_now, may_be_taken, UnderWayMatches, CommandMatches, event_facts, put_off, at_floor, command_is_ring, command_at_is, command_of-with_cycle, StopCode, stored, stored_block, is_last, is_stop_under_way, posts_posted, report_code, report_stop, stopped_with, with_reported, ne_eqb, cases_lt, put, number-after, stop_spot_reached, rank_least, rank_most, transfer_not_command, put_at, next_is, goals, further, report_goals, command_taken, taken_up_to, stop_goal, need, ◌++◌, reverse, flat_map, looks_to, EventLaw, StandsAt, IsActiveIfOpen, Follows, Carries, Leads, Past, Traced, traced_behind, TransferFacts, NamesBlock, success_names, error_names, commands_open, CommandsOpen, AreTimely, IsHeld, need_of_held, timely_then, StopsThere, stop_names, stop_code, agrees_now, transfer_facts}
+use Rattle.safety.proofs.UpperLaws.{Header, LazyLaw, AllAreRead, [], ◌||◌, inl, inr, cases_Bool, code, is_success, is_halting, is_trb_error, is_transfer_event, ◌≡◌, ◌≢◌, ◌≤◌, ◌&&◌, ◌∷◌, ◌∙◌, ℕ, true, false, List, Option, Some, arith, sym, ap, subst, false≢true, not-false, and_from, Block, IsBlock, kind, slot, endpoint, is_stopping, Spot, Data, is_open, floor_number, MayReach, rank, number, after, ceiling_within, after_reached, next_later, Read, Row, IsHeader, shape_of, command_id, World, Known, learned, lenient, RingSpot, transferred, IsDriverRing, DriverKeeps, Agrees, transfer_driver, ring_shape, is_held_ring, is_late, brought, ◌+◌, ◌-◌, ◌<◌, ◌==◌, not, length, None, refl, ltb-true, eq-eqb, rules, and_parts, cond-true, cond-false, not_from_true, pointer, ceiling, cycle_of_bit, command_of, is_stop_of, is_running, UnderWay, unreported, command_at, next_command, is_stopping_now, may_be_taken, UnderWayMatches, CommandMatches, event_facts, put_off, at_floor, command_is_ring, command_at_is, command_of-with_cycle, StopCode, stored, stored_block, is_last, is_stop_under_way, posts_posted, report_code, report_stop, stopped_with, with_reported, ne_eqb, cases_lt, put, number-after, stop_spot_reached, rank_least, rank_most, transfer_not_command, put_at, next_is, goals, further, report_goals, command_taken, taken_up_to, stop_goal, need, ◌++◌, reverse, flat_map, looks_to, EventLaw, StandsAt, IsActiveIfOpen, Follows, Carries, Leads, Past, Traced, traced_behind, TransferFacts, NamesBlock, success_names, error_names, commands_open, CommandsOpen, AreTimely, IsHeld, need_of_held, timely_then, StopsThere, stop_names, stop_code, agrees_now, transfer_facts}
 use Rattle.safety.proofs.LazyRuns.Completions.{completion_law}
 use Rattle.safety.proofs.LazyRuns.PostStep.{event_law, EventLawOf, EventLearns, pointers_transfer, report_step}
 use Rattle.safety.proofs.LazyRuns.Induction.{lazy_from_events, all_read_from_events}
@@ -90,7 +90,7 @@ module _ (h : Header) where
   unfolding stop_goal
   stops_there at n none = cond-false (n == number at.spot + 1) (taken_up_to h at.ring n) at (ne_eqb n (number at.spot + 1) (λ same. omega (arith, same, none)))
 
-  module _ (is : IsHeader h) (past : Past h) (later : List TraceRow) (b : Block) (block : IsBlock b) (clean : lenient h past.known (Read b) ≡ []) (transfer : is_transfer_event (kind b) ≡ true) (w : World)
+  module _ (is : IsHeader h) (past : Past h) (later : List Row) (b : Block) (block : IsBlock b) (clean : lenient h past.known (Read b) ≡ []) (transfer : is_transfer_event (kind b) ≡ true) (w : World)
       (f : Follows h past.known past.pointers w) where
     e : TransferFacts h past.known b
     e = transfer_facts h past.known b clean transfer
@@ -116,8 +116,8 @@ module _ (h : Header) where
         (t : Spot) (learns : EventLearns h past.known (learned h past.known (Read b)) e.ring t) (here : brought h at_first list e.ring ≡ t)
         (others : (s i q : ℕ) → past.known.ring_of s i ≡ Some q → q ≢ e.ring → brought h at_first list q ≡ at_first q)
         (reports : (u : World) → Traced h past.known (brought h at_first list) u → (x : Reports h u b e.ring) × IsActiveIfOpen (learned h past.known (Read b)) x.world e.ring)
-        (run : Leads h past past.made (Plain (Read b) ∷ later) w) where
-      looked : AllBrought h past (Plain (Read b) ∷ later) past.made w at_first list (flat_map (looks_to h at_first) list)
+        (run : Leads h past past.made ((Read b) ∷ later) w) where
+      looked : AllBrought h past ((Read b) ∷ later) past.made w at_first list (flat_map (looks_to h at_first) list)
       looked = search (rules, goals_reached, apart, fits, trace)
 
       row_carries : Carries h past (Read b) later
@@ -126,7 +126,7 @@ module _ (h : Header) where
           report_step h is past later b (brought h at_first list) looked.world one.0.world e.ring t block clean transfer looked.traced one.0.at one.0.leaves learns no_command here
           (λ s i q at other. others s i q at other ∙ f.traced s i q at)
           (λ q. pointers_transfer h b past later q transfer ∙ ap (λ l. brought h at_first l q) are)
-          one.1 (subst (λ l. Leads h past (reverse l ++ past.made) (Plain (Read b) ∷ later) looked.world) (ap (λ l. flat_map (looks_to h at_first) l) (sym are)) looked.run)
+          one.1 (subst (λ l. Leads h past (reverse l ++ past.made) ((Read b) ∷ later) looked.world) (ap (λ l. flat_map (looks_to h at_first) l) (sym are)) looked.run)
 
     -- ---- a success or an error: the ring is brought behind the block that the event names
 
@@ -165,7 +165,7 @@ module _ (h : Header) where
       module _ (floor : ((transferred h past.known (code b) (slot b) (endpoint b) e.ring e.spot).ring e.ring).floor ≡ after (shape_of h e.ring) (number e.spot))
           (reports : (u : World) → Agrees h past.known [] u → u.is_active e.ring ≡ true → StandsAt h u e.ring (after (shape_of h e.ring) n.position) →
           (x : Reports h u b e.ring) × IsActiveIfOpen (learned h past.known (Read b)) x.world e.ring)
-          (run : Leads h past past.made (Plain (Read b) ∷ later) w) where
+          (run : Leads h past past.made ((Read b) ∷ later) w) where
         behind : EventLearns h past.known (learned h past.known (Read b)) e.ring (after (shape_of h e.ring) n.position)
         behind = learns h past.known b transfer e (after (shape_of h e.ring) n.position) (floor ∙ ap (λ t. after (shape_of h e.ring) (number t)) n.is)
 
@@ -182,7 +182,7 @@ module _ (h : Header) where
             (after (shape_of h e.ring) n.position) behind (brought_here h at_first e.ring (after (shape_of h e.ring) n.position) near)
             (λ s i q at other. brought_off h at_first e.ring q (after (shape_of h e.ring) n.position) other) reports_there run
 
-    module _ (run : Leads h past past.made (Plain (Read b) ∷ later) w) where
+    module _ (run : Leads h past past.made ((Read b) ∷ later) w) where
       pub success_carries : is_success (code b) ≡ true → is_late past.known (Read b) ≡ false → Carries h past (Read b) later
       success_carries success timely =
           let n : NamesBlock h past.known e.ring e.spot = success_names h past.known b e success in
@@ -205,7 +205,7 @@ module _ (h : Header) where
 
     -- ---- a stop: its Stop Endpoint is taken, and the ring is brought to the spot that it names
 
-    module _ (fails : is_success (code b) ≡ false) (quiet : (is_halting (code b) || is_trb_error (code b)) ≡ false) (timely : AreTimely h past.known (Plain (Read b) ∷ later)) where
+    module _ (fails : is_success (code b) ≡ false) (quiet : (is_halting (code b) || is_trb_error (code b)) ≡ false) (timely : AreTimely h past.known ((Read b) ∷ later)) where
       stops : StopsThere h past.known b e
       stops = stop_names h past.known b e fails quiet
 
@@ -317,7 +317,7 @@ module _ (h : Header) where
       others : (s i q : ℕ) → past.known.ring_of s i ≡ Some q → q ≢ e.ring → brought h at_first (command ∷ place ∷ []) q ≡ at_first q
       others s i q at other = brought_both q (λ same. transfer_not_command h is q (past.keeps.states.transfer s i q at) same) other
 
-      pub stop_carries : Leads h past past.made (Plain (Read b) ∷ later) w → Carries h past (Read b) later
+      pub stop_carries : Leads h past past.made ((Read b) ∷ later) w → Carries h past (Read b) later
       stop_carries run =
           row_carries (command ∷ place ∷ []) both_goals apart (command_fits, (place_fits, tt)) e.spot stop_learns ring_brought others reports run
 

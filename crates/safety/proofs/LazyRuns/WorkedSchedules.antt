@@ -1,5 +1,5 @@
 -- Lazy schedules of two traces, and how they end, by evaluation; tests/schedules has more for the program
-use Rattle.safety.proofs.Words.{[], ◌≡◌, ◌∷◌, ◌++◌, ℕ, suc, zero, List, map, refl, Cmd, Evt, Xfer, Block, Bytes32, Header, Row, Sub, Write, Reg, Bell, Read, TraceRow, Usbcmd, Crcr, Dcbaap, Config, Erstsz, Erstba, Erdp, Step, NextRow, Look, Report, Finish, Plain, lazy_steps, One, scene_ending, NoHarm, world_on_literals, lazy_on_literals}
+use Rattle.safety.proofs.Words.{[], ◌≡◌, ◌∷◌, ◌++◌, ℕ, suc, zero, List, refl, Cmd, Evt, Xfer, Block, Bytes32, Header, Row, Sub, Write, Reg, Bell, Read, Usbcmd, Crcr, Dcbaap, Config, Erstsz, Erstba, Erdp, Step, NextRow, Look, Report, Finish, lazy_steps, One, scene_ending, NoHarm, world_on_literals, lazy_on_literals}
 
 abbrev block : ℕ → ℕ → ℕ → Block
 block at status control = record { w = at ∷ 0 ∷ status ∷ control ∷ [] }
@@ -30,8 +30,8 @@ writes_context = Write 327688 458752 ∷ Write 393220 3 ∷ Write 393284 32 ∷ 
 abbrev addresses_device : List Row
 addresses_device = Sub 0 (block 393216 0 16788480 ∷ []) ∷ Write 65552 393216 ∷ Write 65564 16788481 ∷ Bell 0 0 ∷ Read device_addressed ∷ Sub 2 (block 0 0 8224 ∷ []) ∷ Write 196620 8225 ∷ []
 
-abbrev trace_of : List Row → List TraceRow
-trace_of rows = map Plain (registers ++ enables_slot ++ writes_context ++ addresses_device ++ rows)
+abbrev trace_of : List Row → List Row
+trace_of rows = registers ++ enables_slot ++ writes_context ++ addresses_device ++ rows
 
 abbrev rows : ℕ → List Step → List Step
 rows zero steps = steps
@@ -43,7 +43,7 @@ first_steps steps = rows 12 (Look 0 ∷ Finish slot_enabled ∷ rows 9 (Look 0 �
 abbrev pub schedule_header : Header
 schedule_header = record { version = One; context_size = Bytes32; rings = record { id = 0; shape = record { kind = Cmd; segments = record { base = 65536; count = 16 } ∷ [] } } ∷ record { id = 1; shape = record { kind = Evt; segments = record { base = 131072; count = 16 } ∷ [] } } ∷ record { id = 2; shape = record { kind = Xfer; segments = record { base = 196608; count = 4 } ∷ [] } } ∷ [] }
 
-abbrev pub schedule_of_a_late_event_rows : List TraceRow
+abbrev pub schedule_of_a_late_event_rows : List Row
 schedule_of_a_late_event_rows = trace_of (Bell 1 1 ∷ Sub 0 (block 0 0 16858112 ∷ []) ∷ Write 65580 16858113 ∷ Bell 0 0 ∷ Read endpoint_stopped ∷ Read transferred ∷ [])
 
 pub schedule_of_a_late_event_steps : lazy_steps schedule_header schedule_of_a_late_event_rows ≡ first_steps (NextRow ∷ Look 0 ∷ Look 2 ∷ Finish endpoint_stopped ∷ NextRow ∷ Report transferred ∷ NextRow ∷ [])
@@ -54,7 +54,7 @@ pub schedule_of_a_late_event_ending : scene_ending schedule_header schedule_of_a
 unfolding lazy_on_literals world_on_literals
 schedule_of_a_late_event_ending = refl
 
-abbrev pub schedule_with_an_event_rows : List TraceRow
+abbrev pub schedule_with_an_event_rows : List Row
 schedule_with_an_event_rows = trace_of (Sub 2 (block 0 0 8224 ∷ []) ∷ Write 196636 8225 ∷ Bell 1 1 ∷ Read transferred ∷ Sub 2 (block 0 0 8224 ∷ []) ∷ Write 196652 8225 ∷ [])
 
 pub schedule_with_an_event_steps : lazy_steps schedule_header schedule_with_an_event_rows ≡ first_steps (Look 2 ∷ Report transferred ∷ NextRow ∷ NextRow ∷ NextRow ∷ [])

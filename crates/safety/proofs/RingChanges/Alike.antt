@@ -1,14 +1,14 @@
 -- A run of the model and the run that the rings that live see go alike, step by step, beside rows that break no rule
-use Rattle.safety.proofs.UpperLaws.{All-head, AreKept, is_bad_free, is_bad_withdraw, has_stopped, reverse, ring_restored, restored_on, Register, state_of, arith, rules, [], ◌≡◌, ◌≢◌, ◌⊎◌, ◌∷◌, ◌++◌, ◌&&◌, ◌==◌, ◌∙◌, ℕ, not, Bool, true, false, List, Option, Some, None, refl, sym, ap, subst, inl, inr, eq-eqb, ne_eqb, cases_Bool, cases_eq, cond-true, cond-false, false≢true, none-some, same_Some, put, Block, Header, Ring, Row, Sub, Write, Reg, Bell, Read, Step, NextRow, Look, Report, Finish, Other, Scribble, TraceRow, Plain, Comes, Goes, World, IsHeader, IsStep, ring_with, ring_having, shape_of, command_id, counted, emptied, with_ring, without_ring, without_descriptor, row_done, lenient, Known, DriverKeeps, Runs, all_read, LiveScene, live_next, live_row, live_step, live_with, FitsFields, IsKept, header_after, header_now, known_now}
+use Rattle.safety.proofs.UpperLaws.{All-head, AreKept, is_bad_free, is_bad_withdraw, has_stopped, reverse, ring_restored, restored_on, Register, state_of, arith, [], ◌≡◌, ◌≢◌, ◌∷◌, ◌&&◌, ◌==◌, ◌∙◌, ℕ, not, Bool, true, false, List, Option, Some, None, refl, sym, ap, subst, inl, inr, cases_Bool, cases_eq, cond-true, false≢true, none-some, same_Some, put, Block, Header, Ring, Row, Sub, Write, Reg, Bell, Read, Step, NextRow, RingRow, FreeRow, World, IsHeader, IsStep, ring_with, ring_having, shape_of, command_id, counted, emptied, without_ring, without_descriptor, row_done, Known, DriverKeeps, Runs, all_read, LiveScene, live_next, live_step, live_with, IsRow, IsKept, header_now, known_now}
 use Rattle.std.proofs.Common.{option_map, if◌then◌else◌}
 use Rattle.safety.proofs.Words.{and_parts, cond_both, not-false, or_parts}
 use Rattle.safety.specs.Matches.{Rests}
 use Rattle.world_state.specs.World as of_world
 use Rattle.segments.specs.Descriptors.{length_from, no_ops, split_at}
-use Rattle.traces.specs.declared.trace_row.TraceRow.TheVariants.{Withdraws}
+use Rattle.traces.specs.declared.row.Row.TheVariants.{Nop as NopRow}
 use Rattle.world_state.specs.DriverRows as driver
 use Rattle.world_state.specs.RingRows.{listed, may_come}
-use Rattle.world_state.specs.Scenes.{Scene, row_made, row_next, step_made, with_coming, with_left, with_world}
+use Rattle.world_state.specs.Scenes.{Scene, row_next, step_made, with_coming, with_left, with_world}
 use Rattle.world_state.specs.Steps as steps
 use Rattle.safety.proofs.Declaring.{may_declare}
 use Rattle.safety.proofs.DriverHistories.{run_keeps}
@@ -20,9 +20,9 @@ use Rattle.safety.proofs.DriverRings.{transfer_ring}
 use Rattle.safety.proofs.SafeContext.{command_is_ring}
 use Rattle.safety.proofs.RingChanges.GoneAside.{Left, aside, laid, laid_here, laid_put, made_so, row_so}
 use Rattle.safety.proofs.RingChanges.GoneRings as going
-use Rattle.safety.proofs.RingChanges.LiveHeadline.{CameTo, Keeps, here, kept_on, later_kept, now_keeps, one_more, step}
+use Rattle.safety.proofs.RingChanges.KeptRings.{kept_coming, kept_going, kept_withdrawing}
+use Rattle.safety.proofs.RingChanges.LiveHeadline.{CameTo, Keeps, here, kept_on, later_kept, one_more}
 use Rattle.safety.proofs.RingChanges.LivingRings.{Lists, TakesAreRight, came_aside, come_again, comes_lists, goes_lists, left_behind, listed_there, may_come_there, shape_same, was_live, went_aside}
-use Rattle.safety.proofs.RingChanges.NewRings as coming
 use Rattle.safety.proofs.RingChanges.RingRuns as runs
 use Rattle.safety.proofs.RingChanges.Withdrawn.{stopped_with}
 
@@ -150,12 +150,13 @@ module _ (g : Header) (headed : IsHeader g) (k : Known) (keeps : DriverKeeps g k
   row_idle (Reg r x) v at = subst (IsIdle l) (same_Some _ v at) (unfolding_idle l w (driver.register_row g w r x) (sym (register_active w r x)) rest)
   row_idle (Bell s t) v at = subst (IsIdle l) (same_Some _ v at) (bell_idle s t)
   row_idle (Read e) v at = subst (IsIdle l) (given _ _ v at) rest
+  row_idle _ v at = subst (IsIdle l) (same_Some _ v at) rest
 
   -- what is declared is declared on a ring that lives
-  declares : (row : Row) → IsKept g k (Plain row) → (r : ℕ) (blocks : List Block) → row ≡ Sub r blocks → l.gone r ≡ false
+  declares : (row : Row) → IsKept g k row → (r : ℕ) (blocks : List Block) → row ≡ Sub r blocks → l.gone r ≡ false
   unfolding ring_restored restored_on
   declares row kept r blocks at =
-      let own : IsKept g k (Plain (Sub r blocks)) = subst (λ o. IsKept g k (Plain o)) at kept in
+      let own : IsKept g k (Sub r blocks) = subst (λ o. IsKept g k o) at kept in
       let ring = driver_is (ring_with g r) (may_declare g k r blocks own.0).0 in
       (lives r ring.0 ring.1).0
 
@@ -193,7 +194,7 @@ module _ (g : Header) (headed : IsHeader g) (k : Known) (keeps : DriverKeeps g k
 
 -- ---- what comes of a step on both sides
 
-module _ (l : Left) (d g : Header) (lists : Lists l g d) (rows : List TraceRow) where
+module _ (l : Left) (d g : Header) (lists : Lists l g d) (rows : List Row) where
   -- the same rows are still to come
   alike_step : (w : World) (o u : Option World) → option_map (aside l) o ≡ u → ((v : World) → o ≡ Some v → IsIdle l v) →
       AreAlike (option_map (λ v. let z : LiveScene = record { header = g; rows = rows; world = counted g v } in z) o) (option_map (λ v. with_world (whole l d (live_with g rows w)) (counted d v)) u)
@@ -204,7 +205,7 @@ module _ (l : Left) (d g : Header) (lists : Lists l g d) (rows : List TraceRow) 
       (record { left = l; declared = d; same = refl; lists = lists; idle = idle v refl })
 
   -- a row of the driver was made
-  alike_row : (before : List TraceRow) (w : World) (o u : Option World) → option_map (aside l) o ≡ u → ((v : World) → o ≡ Some v → IsIdle l v) →
+  alike_row : (before : List Row) (w : World) (o u : Option World) → option_map (aside l) o ≡ u → ((v : World) → o ≡ Some v → IsIdle l v) →
       AreAlike (option_map (λ v. let z : LiveScene = record { header = g; rows = rows; world = counted g v } in z) o) (option_map (with_left rows) (option_map (with_world (whole l d (live_with g before w))) u))
   unfolding counted
   alike_row before w None u same idle = subst (λ (v : Option World). AreAlike None (option_map (with_left rows) (option_map (with_world (whole l d (live_with g before w))) v))) same tt
@@ -214,7 +215,7 @@ module _ (l : Left) (d g : Header) (lists : Lists l g d) (rows : List TraceRow) 
 
 -- ---- one step, where a run has come to
 
-module _ (h : Header) (is : IsHeader h) (past : List TraceRow) where
+module _ (h : Header) (is : IsHeader h) (past : List Row) where
   abbrev g : Header
   g = header_now h past
 
@@ -223,7 +224,7 @@ module _ (h : Header) (is : IsHeader h) (past : List TraceRow) where
 
   module _ (w : World) (l : Left) (d : Header) (lists : Lists l g d) where
     -- a step of the controller
-    control : (rows : List TraceRow) (s : Step) → IsStep s → (s ≡ NextRow → ⊥) → CameTo h is past (live_with g rows w) →
+    control : (rows : List Row) (s : Step) → IsStep s → (s ≡ NextRow → ⊥) → CameTo h is past (live_with g rows w) →
         AreAlike (option_map (λ v. let z : LiveScene = record { header = g; rows = rows; world = counted g v } in z) (steps.made g g w s))
         (option_map (λ v. with_world (whole l d (live_with g rows w)) (counted d v)) (steps.made d g (aside l w) s))
     control rows s is_step other c =
@@ -242,16 +243,14 @@ module _ (h : Header) (is : IsHeader h) (past : List TraceRow) where
         ]
 
     -- a row that was kept
-    made_row : (row : TraceRow) (rest_of : List TraceRow) → FitsFields row → IsKept g k row → (p : Keeps h is past) → Runs g k w →
+    made_row : (row : Row) (rest_of : List Row) → IsRow row → IsKept g k row → (p : Keeps h is past) → Runs g k w →
         AreAlike (live_next (live_with g (row ∷ rest_of) w) (row ∷ rest_of)) (row_next (whole l d (live_with g (row ∷ rest_of) w)) (row ∷ rest_of))
     unfolding counted emptied without_descriptor
-    made_row (Plain row) rest_of fits kept p run =
-        alike_row l d g lists rest_of (Plain row ∷ rest_of) w (row_done g w row) (row_done d (aside l w) row)
-        (row_so l g d lists.command lists.events w row (declares g p.headed k p.keeps w run l d lists row kept)) (λ v at. row_idle g p.headed k p.keeps w run l d lists row v at)
-    made_row (Comes ring) rest_of fits kept p run =
-        let absent = runs.no_ring g p.headed ring fits k kept.1 in
-        let may = may_come_there g ring (runs.comes_header g p.headed ring fits k p.keeps kept.1) in
-        let y = whole l d (live_with g (Comes ring ∷ rest_of) w) in
+    made_row (RingRow ring) rest_of fits kept p run =
+        let good = kept_coming g k ring kept in
+        let absent = runs.no_ring g p.headed ring fits k good.1 in
+        let may = may_come_there g ring (runs.comes_header g p.headed ring fits k p.keeps good.1) in
+        let y = whole l d (live_with g (RingRow ring ∷ rest_of) w) in
         record {
           left = come_again l ring.id;
           declared = listed d ring;
@@ -260,33 +259,38 @@ module _ (h : Header) (is : IsHeader h) (past : List TraceRow) where
           lists = comes_lists l g d lists ring fits.kind absent;
           idle = comes_idle g p.headed k p.keeps w run l d lists ring.id;
         }
-    made_row (Goes id) rest_of fits kept p run =
+    made_row (FreeRow id) rest_of fits kept p run =
+        let good = kept_going g k id kept in
         record {
           left = left_behind l id w;
           declared = d;
-          same = λ j. record { header = d; live = without_ring g id; rows = rest_of; world = counted d (went_aside l id w (was_live l g d lists p.headed k p.keeps id kept.1 w (right g p.headed k p.keeps w run l d lists id kept.1)) j) };
-          lists = goes_lists l g d lists p.headed k p.keeps id kept.1 w (right g p.headed k p.keeps w run l d lists id kept.1);
-          idle = goes_idle g p.headed k p.keeps w run l d lists id kept.1;
+          same = λ j. record { header = d; live = without_ring g id; rows = rest_of; world = counted d (went_aside l id w (was_live l g d lists p.headed k p.keeps id good.1 w (right g p.headed k p.keeps w run l d lists id good.1)) j) };
+          lists = goes_lists l g d lists p.headed k p.keeps id good.1 w (right g p.headed k p.keeps w run l d lists id good.1);
+          idle = goes_idle g p.headed k p.keeps w run l d lists id good.1;
         }
-    made_row (Withdraws r q) rest_of fits kept p run =
+    made_row (NopRow r q) rest_of fits kept p run =
+        let good = kept_withdrawing g k r q kept in
         record {
           left = l;
           declared = d;
-          same = λ j. record { header = d; live = g; rows = rest_of; world = counted d (withdraw_so l w r q (withdraws g p.headed k p.keeps w run l d lists r q kept.1) j) };
+          same = λ j. record { header = d; live = g; rows = rest_of; world = counted d (withdraw_so l w r q (withdraws g p.headed k p.keeps w run l d lists r q good.1) j) };
           lists = lists;
           idle = rest g p.headed k p.keeps w run l d lists;
         }
+    made_row row rest_of fits kept p run =
+        alike_row l d g lists rest_of (row ∷ rest_of) w (row_done g w row) (row_done d (aside l w) row)
+        (row_so l g d lists.command lists.events w row (declares g p.headed k p.keeps w run l d lists row kept)) (λ v at. row_idle g p.headed k p.keeps w run l d lists row v at)
 
-    next_row : (rows : List TraceRow) → CameTo h is past (live_with g rows w) → AreAlike (live_next (live_with g rows w) rows) (row_next (whole l d (live_with g rows w)) rows)
+    next_row : (rows : List Row) → CameTo h is past (live_with g rows w) → AreAlike (live_next (live_with g rows w) rows) (row_next (whole l d (live_with g rows w)) rows)
     next_row [] c = tt
     next_row (row ∷ rest_of) c =
         let own : AreKept h (row ∷ past) = later_kept h (reverse rest_of) (row ∷ past) (subst (AreKept h) (one_more row rest_of past) c.kept) in
         elim c.holds [
-          | inl run ↦ made_row row rest_of (All-head FitsFields row rest_of c.left) own.1 (here h is past (live_with g (row ∷ rest_of) w) c run) run
+          | inl run ↦ made_row row rest_of (All-head IsRow row rest_of c.left) own.1 (here h is past (live_with g (row ∷ rest_of) w) c run) run
           | inr over ↦ absurd (false≢true (sym (kept_on g k row own.1) ∙ over.stopped))
         ]
 
-    step_there : (rows : List TraceRow) (s : Step) → IsStep s → CameTo h is past (live_with g rows w) → AreAlike (live_step (live_with g rows w) s) (step_made (whole l d (live_with g rows w)) s)
+    step_there : (rows : List Row) (s : Step) → IsStep s → CameTo h is past (live_with g rows w) → AreAlike (live_step (live_with g rows w) s) (step_made (whole l d (live_with g rows w)) s)
     step_there rows NextRow is_step c = next_row rows c
     step_there rows s is_step c = control rows s is_step (λ e. cc) c
 

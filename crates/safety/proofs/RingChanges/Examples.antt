@@ -1,6 +1,6 @@
 -- Worked examples of rings that come and go, and of descriptors that are withdrawn
-use Rattle.safety.proofs.Words.{[], ◌≡◌, ℕ, true, false, List, ◌∷◌, refl, Some, nat_lt, Xfer, Bytes32, Header, Ring, Write, Bell, forgotten, is_bad_free, is_bad_ring, is_bad_segment, is_had, shows_first_lap, with_ring, without_ring, restored_on, ring_moved, ring_restored, has_stopped, is_bad_withdraw, is_left, rests_with, TraceRow, header_now, known_now, known_after, put, put_pair, Block, Data, RingView, EndpointState, Running, Stopped, Known, nothing, Three, rules_on_literals, Comes, Goes, Plain}
-use Rattle.traces.specs.declared.trace_row.TraceRow.TheVariants.{Withdraws}
+use Rattle.safety.proofs.Words.{[], ◌≡◌, ℕ, true, false, List, ◌∷◌, refl, Some, nat_lt, Xfer, Bytes32, Header, Ring, Write, Bell, forgotten, is_bad_free, is_bad_ring, is_bad_segment, is_had, shows_first_lap, with_ring, without_ring, restored_on, ring_moved, ring_restored, has_stopped, is_bad_withdraw, is_left, rests_with, Row, header_now, known_now, known_after, put, put_pair, Block, Data, RingView, EndpointState, Running, Stopped, Known, nothing, Three, rules_on_literals, RingRow, FreeRow}
+use Rattle.traces.specs.declared.row.Row.TheVariants.{Nop as NopRow}
 
 -- Worked examples of rings that come and go
 
@@ -15,8 +15,8 @@ may_come : is_bad_ring (header_now no_rings []) (known_now no_rings []) (ring_at
 unfolding rules_on_literals is_bad_ring is_bad_segment shows_first_lap
 may_come = refl
 
-abbrev one : List TraceRow
-one = Comes (ring_at 2 0x30000) ∷ []
+abbrev one : List Row
+one = RingRow (ring_at 2 0x30000) ∷ []
 
 -- over a ring that is there none may come
 over_another : is_bad_ring (header_now no_rings one) (known_now no_rings one) (ring_at 3 0x30020) ≡ true
@@ -27,8 +27,8 @@ may_go : is_bad_free (header_now no_rings one) (known_now no_rings one) 2 ≡ fa
 unfolding rules_on_literals is_bad_free is_had with_ring forgotten
 may_go = refl
 
-abbrev gone : List TraceRow
-gone = Goes 2 ∷ one
+abbrev gone : List Row
+gone = FreeRow 2 ∷ one
 
 -- where one was another may come
 in_its_place : is_bad_ring (header_now no_rings gone) (known_now no_rings gone) (ring_at 3 0x30020) ≡ false
@@ -36,8 +36,8 @@ unfolding rules_on_literals is_bad_ring is_bad_segment shows_first_lap with_ring
 in_its_place = refl
 
 -- but not where a control word shows the Cycle bit of the first lap
-abbrev written : List TraceRow
-written = Plain (Write 0x3002c 1) ∷ gone
+abbrev written : List Row
+written = (Write 0x3002c 1) ∷ gone
 
 shows_its_cycle : is_bad_ring (header_now no_rings written) (known_now no_rings written) (ring_at 3 0x30020) ≡ true
 unfolding rules_on_literals is_bad_ring is_bad_segment shows_first_lap with_ring without_ring forgotten restored_on ring_restored ring_moved
@@ -77,7 +77,7 @@ in_state state = record nothing {
 }
 
 abbrev behind : Known
-behind = known_after one_ring (in_state Stopped) (Withdraws 2 0)
+behind = known_after one_ring (in_state Stopped) (NopRow 2 0)
 
 may_withdraw : is_bad_withdraw one_ring (in_state Stopped) 2 0 ≡ false
 unfolding rules_on_literals is_bad_withdraw has_stopped rests_with

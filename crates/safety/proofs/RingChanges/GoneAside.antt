@@ -1,5 +1,5 @@
 -- A step leaves aside what is left of the rings that went: it does beside them what it does without them
-use Rattle.std.proofs.Common.{rules, arith, ◌≡◌, ◌≢◌, ◌+◌, ◌-◌, ◌%◌, ◌^◌, ◌==◌, ◌&&◌, ◌∙◌, ◌∷◌, ◌++◌, if◌then◌else◌, ℕ, Bool, true, false, not, List, [], Option, Some, None, is_some, length, drop, ap, refl, sym, inl, inr, eq-eqb, ne_eqb, nat_lt}
+use Rattle.std.proofs.Common.{arith, ◌≡◌, ◌≢◌, ◌+◌, ◌-◌, ◌%◌, ◌^◌, ◌==◌, ◌&&◌, ◌∙◌, ◌∷◌, ◌++◌, if◌then◌else◌, ℕ, Bool, true, false, not, List, [], Option, Some, None, is_some, length, drop, ap, refl, sym, inl, inr, eq-eqb, ne_eqb, nat_lt}
 use Rattle.std.proofs.lemmas.Bool.{cases_Bool, cases_eq, cond-true, cond-false}
 use Rattle.std.proofs.Math.Path.{fun_ext}
 use Rattle.std.specs.Prelude.{option_map, option_and_then, position}
@@ -391,3 +391,4 @@ module _ (l : Left) where
     row_so w (Reg r v) lives = grind (arith, run_so, dequeue_so)
     row_so w (Bell s t) lives = some _ _ (bell_so w s t)
     row_so w (Read e) lives = read_so w e
+    row_so w _ lives = refl

@@ -1,17 +1,17 @@
 -- The headline: behind each step of each run beside rows that break no rule the world is safe, also for rings that went.
 -- The run is that which the rings that live see, with what is left of the others put back
-use Rattle.safety.proofs.UpperLaws.{arith, rules, [], ◌≡◌, ◌∷◌, ◌&&◌, ◌∙◌, ℕ, Bool, true, false, List, Option, Some, None, refl, sym, ap, subst, inl, inr, cases_Bool, cond-true, false≢true, false_from_ne_true, none-some, same_Some, All, All-head, All-tail, reverse, IsIn, Header, Ring, Step, TraceRow, World, IsHeader, IsStep, IsSafe, ring_with, shape_of, harm_of, harms, waits, has_changed_context, is_changed_since, is_context_changed, option_and_then, AreKept, FitsFields, Headline, LiveScene, live_reached, live_step, live_with, opening, and_left}
+use Rattle.safety.proofs.UpperLaws.{[], ◌≡◌, ◌∷◌, ◌&&◌, ◌∙◌, ℕ, Bool, true, false, List, Option, Some, None, refl, sym, ap, subst, inl, inr, cond-true, false≢true, false_from_ne_true, none-some, same_Some, All, All-head, All-tail, reverse, IsIn, Header, Ring, Step, Row, World, IsHeader, IsStep, IsSafe, shape_of, harm_of, harms, waits, has_changed_context, is_changed_since, is_context_changed, option_and_then, AreKept, IsRow, Headline, LiveScene, live_reached, live_step, and_left}
 use Rattle.std.proofs.Common.{◌-◌, ◌==◌, find, nat_le, nat_lt, option_map}
 use Rattle.safety.proofs.Words.{list_any, some_of}
 use Rattle.safety.proofs.Headers.{found_in}
 use Rattle.safety.proofs.Safe.{safe_from}
-use Rattle.safety.proofs.RingChanges.GoneAside.{Left, aside, laid, laid_here}
+use Rattle.safety.proofs.RingChanges.GoneAside.{Left, aside, laid_here}
 use Rattle.safety.proofs.RingChanges.LivingRings.{Lists, all_live, fails_there, none_gone, shape_same}
-use Rattle.safety.proofs.RingChanges.LiveHeadline.{CameTo, came, safe_there}
+use Rattle.safety.proofs.RingChanges.LiveHeadline.{came, safe_there}
 use Rattle.segments.specs.Places.{place_count}
 use Rattle.segments.specs.ShapeValue.{Shape}
 use Rattle.traces.specs.Header.{event_size, some_ring}
-use Rattle.world_state.specs.Scenes.{Scene, scene_before, scene_reached, step_made}
+use Rattle.world_state.specs.Scenes.{Scene, scene_reached, step_made}
 use Rattle.world_state.specs.declared.harm.Harm.{Harm}
 use Rattle.world_state.specs.declared.harm.Harm.TheVariants.{TakenOutOfOrder, TakenOtherWords, WaitsInsideDescriptor, LooksOutside, PostsOverUnread, InputContextChanged}
 use Rattle.world_state.specs.World.{RingEvent}
@@ -93,7 +93,7 @@ module _ (h : Header) (is : IsHeader h) where
   from_both (Some x) (Some y) f f' alike each = each x y refl alike
 
   -- beside rows that break no rule the rings that live see the run of the model
-  pub reached_alike : (rows : List TraceRow) → All FitsFields rows → AreKept h (reverse rows) → (made : List Step) → All IsStep made → AreAlike (live_reached h rows made) (scene_reached h rows made)
+  pub reached_alike : (rows : List Row) → All IsRow rows → AreKept h (reverse rows) → (made : List Step) → All IsStep made → AreAlike (live_reached h rows made) (scene_reached h rows made)
   reached_alike rows are kept [] all = record { left = none_gone; declared = h; same = refl; lists = all_live h is; idle = λ r went. absurd (false≢true went) }
   reached_alike rows are kept (s ∷ older) all =
       from_both (live_reached h rows older) (scene_reached h rows older) (λ x. live_step x s) (λ y. step_made y s)
@@ -101,7 +101,7 @@ module _ (h : Header) (is : IsHeader h) where
       let there = came h is rows are kept older x (All-tail IsStep s older all) at in
       step_alike h is there.0 x y s (All-head IsStep s older all) there.1 alike)
 
-  seen_safe : (rows : List TraceRow) → All FitsFields rows → AreKept h (reverse rows) → (made : List Step) → All IsStep made → (o : Option LiveScene) (u : Option Scene) → live_reached h rows made ≡ o →
+  seen_safe : (rows : List Row) → All IsRow rows → AreKept h (reverse rows) → (made : List Step) → All IsStep made → (o : Option LiveScene) (u : Option Scene) → live_reached h rows made ≡ o →
       AreAlike o u → (y : Scene) → u ≡ Some y → IsSafe y.header y.world
   seen_safe rows are kept made all None None seen alike y at = absurd (none-some y at)
   seen_safe rows are kept made all None (Some z) seen alike y at = absurd alike
@@ -111,7 +111,7 @@ module _ (h : Header) (is : IsHeader h) where
       subst (λ (s : Scene). IsSafe s.header s.world) (sym alike.same ∙ same_Some z y at)
       (safe_aside alike.left x.header alike.declared alike.lists x.world alike.idle (safe_there h is there.0 x there.1))
 
-  pub rings_safe : (rows : List TraceRow) → All FitsFields rows → AreKept h (reverse rows) → (made : List Step) (y : Scene) → All IsStep made → scene_reached h rows made ≡ Some y → IsSafe y.header y.world
+  pub rings_safe : (rows : List Row) → All IsRow rows → AreKept h (reverse rows) → (made : List Step) (y : Scene) → All IsStep made → scene_reached h rows made ≡ Some y → IsSafe y.header y.world
   rings_safe rows are kept made y all at = seen_safe rows are kept made all (live_reached h rows made) (scene_reached h rows made) refl (reached_alike rows are kept made all) y at
 
 pub headline : (h : Header) → Headline h

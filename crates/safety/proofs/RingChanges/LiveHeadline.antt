@@ -1,11 +1,12 @@
 -- Behind each step of each run, as the rings that live see it, beside rows that break no rule the world is safe for them
-use Rattle.safety.proofs.UpperLaws.{[], ◌≡◌, ◌∷◌, ◌++◌, ◌∙◌, false, List, Some, All, reverse, refl, sym, ap, subst, inl, inr, append_assoc, append-nil, rules, opening, TraceRow, AreKept, IsKept, FitsFields, LiveScene, header_after, header_now, known_after, known_now, live_row, live_next, live_reached, live_step, restored, ring_restored, false≢true, reverse-append, All-cons, All-head, All-tail, none-some, same_Some, Header, Step, NextRow, IsHeader, IsStep, World, IsSafe, Known, DriverKeeps, Runs, nothing_kept, gone_ring_header, gone_ring_kept, mapped, some_then, opens, safe, clean_tests, Comes, Goes, Plain}
+use Rattle.safety.proofs.UpperLaws.{[], ◌≡◌, ◌∷◌, ◌++◌, ◌∙◌, false, List, Some, All, reverse, refl, sym, ap, subst, inl, inr, append_assoc, append-nil, rules, opening, Row, AreKept, IsKept, IsRow, LiveScene, header_after, header_now, known_after, known_now, live_row, live_next, live_reached, live_step, restored, ring_restored, false≢true, reverse-append, All-cons, All-head, All-tail, none-some, same_Some, Header, Step, NextRow, IsHeader, IsStep, World, IsSafe, Known, DriverKeeps, Runs, nothing_kept, gone_ring_header, gone_ring_kept, mapped, some_then, opens, safe, clean_tests, RingRow, FreeRow}
 use Rattle.std.proofs.Common.{option_map}
 use Rattle.safety.specs.Invariant.{Holds}
 use Rattle.safety.proofs.DriverHistories.{kept_driver, run_keeps}
 use Rattle.safety.proofs.StepRuns.{row_holds, step_goes, runs_on}
-use Rattle.traces.specs.declared.trace_row.TraceRow.TheVariants.{Withdraws}
+use Rattle.traces.specs.declared.row.Row.TheVariants.{Nop as NopRow}
 use Rattle.safety.proofs.RingChanges.Restored.{row_comes, row_keeps, row_runs as restored_row_runs, stopped_still}
+use Rattle.safety.proofs.RingChanges.KeptRings.{kept_coming, kept_going, kept_withdrawing}
 use Rattle.safety.proofs.RingChanges.Withdrawn.{withdraw_keeps, withdraw_runs}
 use Rattle.safety.proofs.RingChanges.RingRuns.{comes_header, comes_keeps, comes_runs, goes_runs}
 use Rattle.world_state.specs.Steps as steps
@@ -13,85 +14,89 @@ use Rattle.world_state.specs.Steps as steps
 -- ---- one row, one step, where the header is that of the rings that are there
 
 module _ (h : Header) (is : IsHeader h) (k : Known) (keeps : DriverKeeps h k) where
-  row_goes : (row : TraceRow) (w v : World) → FitsFields row → Runs h k w → IsKept h k row → live_row h w row ≡ Some v → Holds (header_after h row) (known_after h k row) (steps.counted h v)
-  row_goes (Plain row) w v is_row run kept at = search (rules, row_holds, row_keeps, restored_row_runs, row_comes, same_Some)
-  row_goes _ w v is_row run kept at = search (rules, row_holds, row_keeps, restored_row_runs, row_comes, same_Some, withdraw_runs, comes_runs, goes_runs)
+  row_goes : (row : Row) (w v : World) → IsRow row → Runs h k w → IsKept h k row → live_row h w row ≡ Some v → Holds (header_after h row) (known_after h k row) (steps.counted h v)
+  row_goes (NopRow r p) w v is_row run kept at = search (rules, kept_withdrawing, same_Some, withdraw_runs)
+  row_goes (RingRow ring) w v is_row run kept at = search (rules, kept_coming, same_Some, comes_runs)
+  row_goes (FreeRow id) w v is_row run kept at = search (rules, kept_going, same_Some, goes_runs)
+  row_goes row w v is_row run kept at = search (rules, row_holds, row_keeps, restored_row_runs, row_comes, same_Some)
 
 -- a row that is kept isn't behind a stop
-pub kept_on : (h : Header) (k : Known) (row : TraceRow) → IsKept h k row → k.stopped ≡ false
-kept_on h k (Plain row) kept = sym (stopped_still h k (ring_restored h k row)) ∙ (clean_tests h (restored h k row) row kept.0).0
-kept_on h k _ kept = kept.0
+pub kept_on : (h : Header) (k : Known) (row : Row) → IsKept h k row → k.stopped ≡ false
+kept_on h k row kept = sym (stopped_still h k (ring_restored h k row)) ∙ (clean_tests h (restored h k row) row kept.0).0
 
 -- ---- whole runs
 
 -- rows told from their history
-pub one_more : (row : TraceRow) (rest past : List TraceRow) → reverse (row ∷ rest) ++ past ≡ reverse rest ++ (row ∷ past)
+pub one_more : (row : Row) (rest past : List Row) → reverse (row ∷ rest) ++ past ≡ reverse rest ++ (row ∷ past)
 one_more row rest past = ap (λ l. l ++ past) (reverse-append (row ∷ []) rest) ∙ append_assoc (reverse rest) (row ∷ []) past
 
-pub later_kept : (h : Header) (xs ys : List TraceRow) → AreKept h (xs ++ ys) → AreKept h ys
+pub later_kept : (h : Header) (xs ys : List Row) → AreKept h (xs ++ ys) → AreKept h ys
 later_kept h [] ys kept = kept
 later_kept h (x ∷ xs) ys kept = later_kept h xs ys kept.0
 
 module _ (h : Header) (is : IsHeader h) where
   -- what holds behind rows that break no rule
-  pub record Keeps (past : List TraceRow) : Type 0 where
+  pub record Keeps (past : List Row) : Type 0 where
     pub headed : IsHeader (header_now h past)
     pub keeps : DriverKeeps (header_now h past) (known_now h past)
 
-  pub now_keeps : (past : List TraceRow) → All FitsFields past → AreKept h past → (known_now h past).stopped ≡ false → Keeps past
+  pub now_keeps : (past : List Row) → All IsRow past → AreKept h past → (known_now h past).stopped ≡ false → Keeps past
   now_keeps [] are kept on = record { headed = is; keeps = nothing_kept h is }
-  now_keeps (Plain row ∷ past) are kept on =
+  now_keeps (NopRow r q ∷ past) are kept on =
+      let good = kept_withdrawing (header_now h past) (known_now h past) r q kept.1 in
+      let p = now_keeps past (All-tail IsRow (NopRow r q) past are) kept.0 good.0 in
+      record { headed = p.headed; keeps = withdraw_keeps (header_now h past) r q p.headed (known_now h past) p.keeps good.1 }
+  now_keeps (RingRow b ∷ past) are kept on =
+      let good = kept_coming (header_now h past) (known_now h past) b kept.1 in
+      let p = now_keeps past (All-tail IsRow (RingRow b) past are) kept.0 good.0 in
+      let coming = All-head IsRow (RingRow b) past are in
+      record {
+        headed = comes_header (header_now h past) p.headed b coming (known_now h past) p.keeps good.1;
+        keeps = comes_keeps (header_now h past) p.headed b coming (known_now h past) p.keeps good.1;
+      }
+  now_keeps (FreeRow id ∷ past) are kept on =
+      let good = kept_going (header_now h past) (known_now h past) id kept.1 in
+      let p = now_keeps past (All-tail IsRow (FreeRow id) past are) kept.0 good.0 in
+      record {
+        headed = gone_ring_header (header_now h past) p.headed (known_now h past) p.keeps id good.1;
+        keeps = gone_ring_kept (header_now h past) p.headed (known_now h past) p.keeps id good.1;
+      }
+  now_keeps (row ∷ past) are kept on =
       let g : Header = header_now h past in
       let k : Known = known_now h past in
-      let p = now_keeps past (All-tail FitsFields (Plain row) past are) kept.0 (kept_on (header_now h past) (known_now h past) (Plain row) kept.1) in
+      let p = now_keeps past (All-tail IsRow row past are) kept.0 (kept_on (header_now h past) (known_now h past) row kept.1) in
       record {
         headed = p.headed;
         keeps = kept_driver g p.headed (restored g k row) row (row_keeps g p.headed k p.keeps row kept.1.1) (row_comes g p.headed k p.keeps row kept.1.0 kept.1.2) on;
       }
-  now_keeps (Withdraws r q ∷ past) are kept on =
-      let p = now_keeps past (All-tail FitsFields (Withdraws r q) past are) kept.0 kept.1.0 in
-      record { headed = p.headed; keeps = withdraw_keeps (header_now h past) r q p.headed (known_now h past) p.keeps kept.1.1 }
-  now_keeps (Comes b ∷ past) are kept on =
-      let p = now_keeps past (All-tail FitsFields (Comes b) past are) kept.0 kept.1.0 in
-      let coming = All-head FitsFields (Comes b) past are in
-      record {
-        headed = comes_header (header_now h past) p.headed b coming (known_now h past) p.keeps kept.1.1;
-        keeps = comes_keeps (header_now h past) p.headed b coming (known_now h past) p.keeps kept.1.1;
-      }
-  now_keeps (Goes id ∷ past) are kept on =
-      let p = now_keeps past (All-tail FitsFields (Goes id) past are) kept.0 kept.1.0 in
-      record {
-        headed = gone_ring_header (header_now h past) p.headed (known_now h past) p.keeps id kept.1.1;
-        keeps = gone_ring_kept (header_now h past) p.headed (known_now h past) p.keeps id kept.1.1;
-      }
 
   -- a run has come to a scene, with `past` the rows that were made, the newest first
-  pub record CameTo (past : List TraceRow) (x : LiveScene) : Type 0 where
-    pub made : All FitsFields past
-    pub left : All FitsFields x.rows
+  pub record CameTo (past : List Row) (x : LiveScene) : Type 0 where
+    pub made : All IsRow past
+    pub left : All IsRow x.rows
     pub kept : AreKept h (reverse x.rows ++ past)
     pub header : x.header ≡ header_now h past
     pub holds : Holds (header_now h past) (known_now h past) x.world
 
-  pub here : (past : List TraceRow) (x : LiveScene) → CameTo past x → Runs (header_now h past) (known_now h past) x.world → Keeps past
+  pub here : (past : List Row) (x : LiveScene) → CameTo past x → Runs (header_now h past) (known_now h past) x.world → Keeps past
   here past x c run = now_keeps past c.made (later_kept h (reverse x.rows) past c.kept) run.on
 
   -- ---- a row
 
-  next : (past : List TraceRow) (x y : LiveScene) (rows : List TraceRow) → x.rows ≡ rows → CameTo past x → live_next (record { header = header_now h past; rows = x.rows; world = x.world }) rows ≡ Some y →
-      (row : TraceRow) × CameTo (row ∷ past) y
+  next : (past : List Row) (x y : LiveScene) (rows : List Row) → x.rows ≡ rows → CameTo past x → live_next (record { header = header_now h past; rows = x.rows; world = x.world }) rows ≡ Some y →
+      (row : Row) × CameTo (row ∷ past) y
   next past x y [] same c at = absurd (none-some y at)
   next past x y (row ∷ rest) same c at =
       let there = mapped (λ w. let z : LiveScene = record { header = header_after (header_now h past) row; rows = rest; world = steps.counted (header_now h past) w } in z) (live_row (header_now h past) x.world row) y at in
       let kept : AreKept h (reverse rest ++ (row ∷ past)) = subst (AreKept h) (one_more row rest past) (subst (λ l. AreKept h (reverse l ++ past)) same c.kept) in
       let own : AreKept h (row ∷ past) = later_kept h (reverse rest) (row ∷ past) kept in
-      let left : All FitsFields (row ∷ rest) = subst (All FitsFields) same c.left in
-      let is_row : FitsFields row = All-head FitsFields row rest left in (
+      let left : All IsRow (row ∷ rest) = subst (All IsRow) same c.left in
+      let is_row : IsRow row = All-head IsRow row rest left in (
         row,
         subst (CameTo (row ∷ past)) there.2
             (record {
-              made = All-cons FitsFields row past is_row c.made;
-              left = All-tail FitsFields row rest left;
+              made = All-cons IsRow row past is_row c.made;
+              left = All-tail IsRow row rest left;
               kept = kept;
               header = refl;
               holds = elim c.holds [
@@ -103,29 +108,29 @@ module _ (h : Header) (is : IsHeader h) where
 
   -- ---- a controller's step: the same rows stay
 
-  stays : (past : List TraceRow) (x y : LiveScene) (s : Step) → IsStep s → (s ≡ NextRow → ⊥) → CameTo past x →
+  stays : (past : List Row) (x y : LiveScene) (s : Step) → IsStep s → (s ≡ NextRow → ⊥) → CameTo past x →
       option_map (λ w. let z : LiveScene = record { header = header_now h past; rows = x.rows; world = steps.counted (header_now h past) w } in z) (steps.made (header_now h past) (header_now h past) x.world s) ≡ Some y → CameTo past y
   stays past x y s is_step other c at = search (rules, mapped, header_now, x.world, here, step_goes, known_now, false≢true, runs_on)
 
-  pub step : (past : List TraceRow) (x y : LiveScene) (s : Step) → IsStep s → CameTo past x → live_step x s ≡ Some y → (now : List TraceRow) × CameTo now y
+  pub step : (past : List Row) (x y : LiveScene) (s : Step) → IsStep s → CameTo past x → live_step x s ≡ Some y → (now : List Row) × CameTo now y
   step past x y s is_step c at = by s is_step (ap (λ z. live_step z s) (sym same) ∙ at)
     where
       same : ◌≡◌ {A = LiveScene} x (record { header = header_now h past; rows = x.rows; world = x.world })
       same = λ j. record { header = c.header j; rows = x.rows; world = x.world }
 
-      by : (s : Step) → IsStep s → live_step (record { header = header_now h past; rows = x.rows; world = x.world }) s ≡ Some y → (now : List TraceRow) × CameTo now y
+      by : (s : Step) → IsStep s → live_step (record { header = header_now h past; rows = x.rows; world = x.world }) s ≡ Some y → (now : List Row) × CameTo now y
       by NextRow is_step at = let n = next past x y x.rows refl c at in (n.0 ∷ past, n.1)
       by s is_step at = (past, stays past x y s is_step (λ e. cc) c at)
 
-  pub came : (rows : List TraceRow) → All FitsFields rows → AreKept h (reverse rows) → (made : List Step) (x : LiveScene) → All IsStep made → live_reached h rows made ≡ Some x →
-      (past : List TraceRow) × CameTo past x
-  came rows are kept [] x all at = ([], subst (CameTo []) (same_Some (record { header = h; rows = rows; world = opening [] }) x at) (search (rules, reverse, append-nil, opens)))
+  pub came : (rows : List Row) → All IsRow rows → AreKept h (reverse rows) → (made : List Step) (x : LiveScene) → All IsStep made → live_reached h rows made ≡ Some x →
+      (past : List Row) × CameTo past x
+  came rows are kept [] x all at = ([], subst (CameTo []) (same_Some (record { header = h; rows = rows; world = opening }) x at) (search (rules, reverse, append-nil, opens)))
   came rows are kept (s ∷ older) x all at =
       let before = some_then (λ z. live_step z s) (live_reached h rows older) x at in
       let came_before = came rows are kept older before.0 (All-tail IsStep s older all) before.1 in
       step came_before.0 before.0 x s (All-head IsStep s older all) came_before.1 before.2
 
-  pub safe_there : (past : List TraceRow) (x : LiveScene) → CameTo past x → IsSafe x.header x.world
+  pub safe_there : (past : List Row) (x : LiveScene) → CameTo past x → IsSafe x.header x.world
   safe_there past x c =
       subst (λ g. IsSafe g x.world) (sym c.header)
       (elim c.holds [

@@ -2,15 +2,15 @@
 use Rattle.safety.proofs.UpperLaws.{arith, [], ◌≡◌, ◌≢◌, ◌⊎◌, ◌∷◌, ◌++◌, ◌||◌, ◌==◌, ◌∙◌, ℕ, not, Bool, true, false, List, Some, None, find, filter, refl, sym, ap, subst, inl, inr, eq-eqb, eqb-true, ne_eqb, cases_Bool, cases_eq, cond-true, cond-false, false≢true, none-some, same_Some, put, IsIn, Header, Ring, World, IsHeader, ring_with, shape_of, command_id, event_shape, emptied, with_ring, without_ring, is_bad_free, Known, DriverKeeps}
 use Rattle.std.proofs.Common.{◌&&◌, if◌then◌else◌}
 use Rattle.std.proofs.Math.Path.{fun_ext}
-use Rattle.safety.proofs.Words.{and_parts, clash, from_filter, is_command_kind, is_event_kind, is_transfer_kind, list_any, list_any-append, may_stand_together, not-true, not_from_false, or_from, or_parts, rings_overlap, shape_or, Evt, Xfer}
+use Rattle.safety.proofs.Words.{and_parts, clash, from_filter, is_command_kind, is_event_kind, is_transfer_kind, list_any, list_any-append, may_stand_together, not-true, not_from_false, or_from, or_parts, shape_or, Evt, Xfer}
 use Rattle.safety.proofs.LookKinds.{put_at, put_off}
 use Rattle.safety.proofs.LeasesBehind.{from_both}
-use Rattle.safety.proofs.Headers.{found_in, header_parts}
+use Rattle.safety.proofs.Headers.{header_parts}
 use Rattle.safety.proofs.RingIds.{other_ids}
 use Rattle.safety.proofs.RingChanges.GoneAside.{Left, aside, laid}
 use Rattle.safety.proofs.RingChanges.GoneRings as going
 use Rattle.safety.proofs.RingChanges.ListedRings.{none_found}
-use Rattle.safety.proofs.RingChanges.NewRings.{found_before, found_new, found_still}
+use Rattle.safety.proofs.RingChanges.NewRings.{found_before, found_new}
 use Rattle.trb.specs.declared.ring_kind.RingKind.{RingKind}
 use Rattle.traces.specs.Header.{command_ring, event_ring, id_or_none}
 use Rattle.world_state.specs.RingRows.{is_in_way, listed, may_come}

@@ -8,10 +8,8 @@ use Rattle.segments.specs.Ceiling.{is_open}
 use Rattle.traces.specs.declared.header.Header.{Header}
 use Rattle.traces.specs.declared.row.Row.{Row}
 use Rattle.traces.specs.declared.row.Row.TheVariants.{Read}
-use Rattle.traces.specs.declared.trace_row.TraceRow.{TraceRow}
-use Rattle.traces.specs.declared.trace_row.TraceRow.TheVariants.{Plain}
 use Rattle.ring_knowledge.specs.Known.{Known}
-use Rattle.safety.specs.RingChanges.Histories.{known_now}
+use Rattle.ring_knowledge.specs.Histories.{known_now}
 
 -- a Transfer Event with Success or Short Packet
 abbrev pub is_report_of_success : Block → Bool
@@ -25,12 +23,8 @@ unfoldable pub is_late : Known → Row → Bool
 is_late k (Read b) = is_report_of_success b && is_held_ring k (k.ring_of (slot b) (endpoint b))
 is_late k _ = false
 
-abbrev pub is_late_row : Known → TraceRow → Bool
-is_late_row k (Plain row) = is_late k row
-is_late_row k _ = false
-
 module _ (h : Header) where
   -- rows, the newest first, none of which is a late event
-  abbrev pub IsTimely : List TraceRow → Type 0
+  abbrev pub IsTimely : List Row → Type 0
   IsTimely [] = Unit {0}
-  IsTimely (row ∷ past) = IsTimely past × (is_late_row (known_now h past) row ≡ false)
+  IsTimely (row ∷ past) = IsTimely past × (is_late (known_now h past) row ≡ false)

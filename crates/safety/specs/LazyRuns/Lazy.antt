@@ -16,17 +16,14 @@ use Rattle.commands.specs.declared.command.Command.{Command}
 use Rattle.commands.specs.declared.command.Command.TheVariants.{StopEndpoint}
 use Rattle.traces.specs.declared.header.Header.{Header}
 use Rattle.traces.specs.declared.row.Row.{Row}
-use Rattle.traces.specs.declared.row.Row.TheVariants.{Read}
-use Rattle.traces.specs.declared.trace_row.TraceRow.{TraceRow}
-use Rattle.traces.specs.declared.trace_row.TraceRow.TheVariants.{Comes, Goes, Plain}
+use Rattle.traces.specs.declared.row.Row.TheVariants.{Read, Ring as RingRow, Free as FreeRow}
 use Rattle.traces.specs.declared.step.Step.{Step}
 use Rattle.traces.specs.declared.step.Step.TheVariants.{NextRow, Look, Report, Finish, Other}
 use Rattle.traces.specs.Header.{shape_of, command_id}
 use Rattle.ring_knowledge.specs.Known.{Known}
 use Rattle.ring_knowledge.specs.Learned.{learned}
 use Rattle.ring_knowledge.specs.Rings.{RingSpot, event_at, command_at, next_command}
-use Rattle.safety.specs.RingChanges.Histories.{header_now, known_now}
-use Rattle.safety.specs.RingChanges.Withdrawals.{restored}
+use Rattle.ring_knowledge.specs.Histories.{header_now, known_now, restored}
 use Rattle.safety.specs.LazyRuns.Needs.{need, is_placed}
 
 -- the spots from s on before t: where the controller looks to come from s to t
@@ -56,22 +53,22 @@ module _ (h : Header) where
 
   -- the spots to which the controller has to come on its rings for a Transfer Event: its block is taken, or, where it stopped, so is the
   -- Stop Endpoint
-  unfoldable pub report_goals : Known → List TraceRow → Block → Option RingSpot → List RingSpot
+  unfoldable pub report_goals : Known → List Row → Block → Option RingSpot → List RingSpot
   report_goals k later b None = []
   report_goals k later b (Some at) =
       if is_stopping (code b) then command_taken k ∷ stop_goal at (need h (learned h k (Read b)) at.ring later) ∷ []
       else taken_up_to at.ring (number at.spot + 1) ∷ []
 
   -- an open ring that is stopped now: what is reported later has to be taken
-  unfoldable pub open_goals : Known → List TraceRow → Block → Option ℕ → List RingSpot
+  unfoldable pub open_goals : Known → List Row → Block → Option ℕ → List RingSpot
   open_goals k later b None = []
   open_goals k later b (Some r) = if is_open (k.ring r) then taken_up_to r (need h (learned h k (Read b)) r later) ∷ [] else []
 
-  unfoldable pub stopped_goals : Known → List TraceRow → Block → Option Command → List RingSpot
+  unfoldable pub stopped_goals : Known → List Row → Block → Option Command → List RingSpot
   stopped_goals k later b (Some (StopEndpoint s i)) = if code b == 1 then open_goals k later b (k.ring_of s i) else []
   stopped_goals k later b _ = []
 
-  unfoldable pub goals : Known → List TraceRow → BlockKind → Block → List RingSpot
+  unfoldable pub goals : Known → List Row → BlockKind → Block → List RingSpot
   goals k later TransferEvent b = report_goals k later b (event_at h k b)
   goals k later CommandCompletion b = command_taken k ∷ stopped_goals k later b (command_at h k (next_command h k))
   goals k later _ b = []
@@ -87,7 +84,7 @@ module _ (h : Header) where
   looks_to pointers goal = map (λ t. Look goal.ring) (spots_before (shape_of h goal.ring) (pointers goal.ring) goal.spot)
 
   -- the controller's steps directly before a row, with these rows to come after it
-  unfoldable pub steps_before : Known → (ℕ → Spot) → Row → List TraceRow → List Step
+  unfoldable pub steps_before : Known → (ℕ → Spot) → Row → List Row → List Step
   steps_before k pointers (Read b) later = flat_map (looks_to pointers) (goals k later (kind b) b) ++ post_of (kind b) b ∷ []
   steps_before k pointers _ later = []
 
@@ -96,35 +93,33 @@ module _ (h : Header) where
   brought pointers (goal ∷ rest) = brought (put pointers goal.ring (further (pointers goal.ring) goal.spot)) rest
 
   -- by ring ID, where the pointers stand behind the row: the rings that it binds or moves stand at their floors
-  unfoldable pub pointers_after : Known → (ℕ → Spot) → Row → List TraceRow → ℕ → Spot
+  unfoldable pub pointers_after : Known → (ℕ → Spot) → Row → List Row → ℕ → Spot
   pointers_after k pointers (Read b) later r =
       if is_placed h k r b then ((learned h k (Read b)).ring r).floor else brought pointers (goals k later (kind b) b) r
   pointers_after k pointers _ later r = pointers r
 
-  -- a row by which a ring comes or goes, or a descriptor is withdrawn, needs no step
-  unfoldable pub steps_for : Known → (ℕ → Spot) → TraceRow → List TraceRow → List Step
-  steps_for k pointers (Plain row) later = steps_before (restored h k row) pointers row later
-  steps_for k pointers _ later = []
+  -- the controller's steps directly before a row, which is read where what it starts or moves is restored
+  unfoldable pub steps_for : Known → (ℕ → Spot) → Row → List Row → List Step
+  steps_for k pointers row later = steps_before (restored h k row) pointers row later
 
   -- a ring that comes stands at its beginning, and one that is gone too
-  unfoldable pub pointers_for : Known → (ℕ → Spot) → TraceRow → List TraceRow → ℕ → Spot
-  pointers_for k pointers (Plain row) later = pointers_after (restored h k row) pointers row later
-  pointers_for k pointers (Comes ring) later = put pointers ring.id (Data 0)
-  pointers_for k pointers (Goes id) later = put pointers id (Data 0)
-  pointers_for k pointers _ later = pointers
+  unfoldable pub pointers_for : Known → (ℕ → Spot) → Row → List Row → ℕ → Spot
+  pointers_for k pointers (RingRow ring) later = put pointers ring.id (Data 0)
+  pointers_for k pointers (FreeRow id) later = put pointers id (Data 0)
+  pointers_for k pointers row later = pointers_after (restored h k row) pointers row later
 
 module _ (h : Header) where
   -- by ring ID, where the pointers stand behind the rows so far, the newest first, with the others to come
-  unfoldable pub pointers_at : List TraceRow → List TraceRow → ℕ → Spot
+  unfoldable pub pointers_at : List Row → List Row → ℕ → Spot
   pointers_at [] later r = Data 0
   pointers_at (row ∷ past) later r = pointers_for (header_now h past) (known_now h past) (pointers_at past (row ∷ later)) row later r
 
   -- the run up to here: the rows so far and the steps between them, the newest first
-  unfoldable pub lazy_run : List TraceRow → List TraceRow → List Step
+  unfoldable pub lazy_run : List Row → List Row → List Step
   lazy_run [] later = []
   lazy_run (row ∷ past) later =
       NextRow ∷ reverse (steps_for (header_now h past) (known_now h past) (pointers_at past (row ∷ later)) row later) ++ lazy_run past (row ∷ later)
 
   -- all steps in their order
-  unfoldable pub lazy_steps : List TraceRow → List Step
+  unfoldable pub lazy_steps : List Row → List Step
   lazy_steps rows = reverse (lazy_run (reverse rows) [])

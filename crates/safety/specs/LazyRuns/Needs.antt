@@ -9,14 +9,13 @@ use Rattle.commands.specs.States.{is_off}
 use Rattle.commands.specs.Changes.{Change, Places, changes}
 use Rattle.traces.specs.declared.header.Header.{Header}
 use Rattle.traces.specs.declared.row.Row.{Row}
-use Rattle.traces.specs.declared.row.Row.TheVariants.{Bell, Read}
-use Rattle.traces.specs.declared.trace_row.TraceRow.{TraceRow}
-use Rattle.traces.specs.declared.trace_row.TraceRow.TheVariants.{Goes, Plain}
+use Rattle.traces.specs.declared.row.Row.TheVariants.{Bell, Read, Free as FreeRow}
 use Rattle.traces.specs.Header.{ring_having, is_ring}
 use Rattle.ring_knowledge.specs.Known.{Known}
 use Rattle.ring_knowledge.specs.Rings.{RingSpot, event_at, command_at, next_command}
 use Rattle.ring_knowledge.specs.Completions.{changed_by}
-use Rattle.safety.specs.RingChanges.Histories.{header_after, known_after}
+use Rattle.traces.specs.LivingRings.{header_after}
+use Rattle.ring_knowledge.specs.Histories.{known_after}
 use Rattle.safety.specs.LazyRuns.LateEvents.{is_report_of_success}
 
 -- one more than the position of the block, where it is one of ring r
@@ -54,17 +53,12 @@ module _ (h : Header) where
   number_reported k r _ = 0
 
   -- ring r begins anew, or goes
-  unfoldable pub ends_need : Known → ℕ → TraceRow → Bool
-  ends_need k r (Plain row) = begins_anew k r row
-  ends_need k r (Goes id) = id == r
-  ends_need k r _ = false
-
-  unfoldable pub number_needed : Known → ℕ → TraceRow → ℕ
-  number_needed k r (Plain row) = number_reported k r row
-  number_needed k r _ = 0
+  unfoldable pub ends_need : Known → ℕ → Row → Bool
+  ends_need k r (FreeRow id) = id == r
+  ends_need k r row = begins_anew k r row
 
 -- the need of ring r: the greatest number behind its blocks whose success is read in these rows, before the next doorbell or move, and
 -- before the ring goes
-unfoldable pub need : Header → Known → ℕ → List TraceRow → ℕ
+unfoldable pub need : Header → Known → ℕ → List Row → ℕ
 need h k r [] = 0
-need h k r (row ∷ later) = if ends_need h k r row then 0 else max (number_needed h k r row) (need (header_after h row) (known_after h k row) r later)
+need h k r (row ∷ later) = if ends_need h k r row then 0 else max (number_reported h k r row) (need (header_after h row) (known_after h k row) r later)

@@ -1,5 +1,5 @@
 -- What one call answers, by the first line of the bytes that stand ahead
-use Rattle.trace_reader.proofs.MiddleLaws.{rules, ◌≡◌, ◌≤◌, ◌<◌, ◌∷◌, ◌++◌, ◌∙◌, ℕ, List, [], Bool, true, false, Option, Some, None, Result, Ok, Err, refl, ap, sym, subst, append-nil, append_assoc, drop, length, length-append, arith, lt-ltb, Consumes-nil, drop_at, IsAtEnd, most_bytes, ids_with, Row, TraceRow, Plain, lines_of-ended, lines_of-nothing, TextLine, behind_content, lines_of, LineFault, LineError, Fault, Memory, AnswersRow, State, behind_row, most_of, next_number, read_line, BeginsWithRow, is_too_long, StreamFault, IsFilled, IsHeld, OfText, IsCall, behind_answer, fault_of, Call, call_in, call_on, next_row, Line, IsCut, NoFeed, ended_behind, ended_lines, long_line, no_feed_in, unended_whole, Comes}
+use Rattle.trace_reader.proofs.MiddleLaws.{rules, ◌≡◌, ◌≤◌, ◌<◌, ◌∷◌, ◌++◌, ◌∙◌, ℕ, List, [], Bool, true, false, Option, Some, None, Result, Ok, Err, refl, ap, sym, subst, append-nil, append_assoc, drop, length, length-append, arith, lt-ltb, Consumes-nil, drop_at, IsAtEnd, most_bytes, ids_with, Row, lines_of-ended, lines_of-nothing, TextLine, behind_content, lines_of, LineFault, LineError, Fault, Memory, AnswersRow, State, behind_row, most_of, next_number, read_line, BeginsWithRow, is_too_long, StreamFault, IsFilled, IsHeld, OfText, IsCall, behind_answer, fault_of, Call, call_in, call_on, next_row, Line, IsCut, NoFeed, ended_behind, ended_lines, long_line, no_feed_in, unended_whole, Comes}
 use Rattle.trace_reader.proofs.Streaming.LineEnds.{ended_if_read, long_alike}
 
 -- ---- the bytes that came, and those that may still come
@@ -77,7 +77,7 @@ pub call_of : (st : State) (text : List ℕ) (line : TextLine) (lines : List Tex
 unfolding next_row
 call_of st text line lines are = ap (call_in st text) are
 
-pub row_given : (st : State) {held held' : Option (List ℕ)} {before ahead text : List ℕ} (left : List ℕ) {line : TextLine} {rest : List ℕ} (number : ℕ) (row : TraceRow) → StandsAhead held held' before ahead text line rest →
+pub row_given : (st : State) {held held' : Option (List ℕ)} {before ahead text : List ℕ} (left : List ℕ) {line : TextLine} {rest : List ℕ} (number : ℕ) (row : Row) → StandsAhead held held' before ahead text line rest →
     read_line st line ≡ Ok (behind_row st row, Some row) → (line.is_ended ≡ true → left ≡ rest) → number ≡ next_number st →
     IsCall (record { read = st; ended = false }) (behind_answer st (Ok (Some (number, row)))) held held' before left (Ok (Some (number, row)))
 row_given st {held} {held'} {before} {ahead} {text} left {line} {rest} number row stands read is at =
@@ -109,7 +109,7 @@ no_row st held held' before ahead comes none = search (rules, of_one, none_held,
 
 -- ---- how far the reading has come behind a call
 
-pub given : (st : State) (ended : Bool) (number : ℕ) (row : TraceRow) (ids : List ℕ) (held held' : Option (List ℕ)) (ahead ahead' : List ℕ) → ended ≡ false → number ≡ next_number st → ids ≡ ids_with st.later row →
+pub given : (st : State) (ended : Bool) (number : ℕ) (row : Row) (ids : List ℕ) (held held' : Option (List ℕ)) (ahead ahead' : List ℕ) → ended ≡ false → number ≡ next_number st → ids ≡ ids_with st.later row →
     IsCall (record { read = st; ended = false }) (record { read = behind_row st row; ended = false }) held held' ahead ahead' (Ok (Some (number, row))) →
     IsCall (record { read = st; ended = ended }) (record { read = record st { lines = number; begun = true; later = ids }; ended = ended }) held held' ahead ahead' (Ok (Some (number, row)))
 given st ended number row ids held held' ahead ahead' is at noted right = search rules
@@ -117,7 +117,7 @@ given st ended number row ids held held' ahead ahead' is at noted right = search
 -- the bytes ahead begin with a line that says a row
 pub row_begins : (st : State) (ended : Bool) (held : Option (List ℕ)) (ahead left : List ℕ) (row : Row) (count : ℕ) → BeginsWithRow row count ahead → 2 ≤ st.lines → next_number st ≤ most_of st →
     ended ≡ false → left ≡ drop count ahead →
-    IsCall (record { read = st; ended = ended }) (record { read = record st { lines = next_number st; begun = true }; ended = ended }) held held ahead left (Ok (Some (next_number st, Plain row)))
+    IsCall (record { read = st; ended = ended }) (record { read = behind_row st row; ended = ended }) held held ahead left (Ok (Some (next_number st, row)))
 row_begins st ended held ahead left row count begins behind within going is =
     let content = begins.0 in
     let rest = begins.1 in
@@ -126,10 +126,10 @@ row_begins st ended held ahead left row count begins behind within going is =
     let stands : StandsAhead held held ahead ahead ahead line rest = record { comes = nothing_came held ahead; is = refl; lines = lines; whole = begins.2; one = begins.4 } in
     let long : length (content ++ 10 ∷ []) ≡ count = omega (arith, length-append content (10 ∷ []), begins.3) in
     let behind_it : drop count ahead ≡ rest = ap (drop count) (begins.2 ∙ sym (append_assoc content (10 ∷ []) rest)) ∙ drop_at (content ++ 10 ∷ []) rest count long in
-    given st ended (next_number st) (Plain row) st.later held held ahead left going refl refl
-    (row_given st left (next_number st) (Plain row) stands (begins.5 st behind within) (λ e. is ∙ behind_it) refl)
+    given st ended (next_number st) row (ids_with st.later row) held held ahead left going refl refl
+    (row_given st left (next_number st) row stands (begins.5 st behind within) (λ e. is ∙ behind_it) refl)
 
-pub stopped : (st : State) (ended : Bool) (result : Result (Option (ℕ × TraceRow)) StreamFault) (held held' : Option (List ℕ)) (ahead ahead' : List ℕ) → ended ≡ false →
+pub stopped : (st : State) (ended : Bool) (result : Result (Option (ℕ × Row)) StreamFault) (held held' : Option (List ℕ)) (ahead ahead' : List ℕ) → ended ≡ false →
     IsCall (record { read = st; ended = false }) (record { read = st; ended = true }) held held' ahead ahead' result →
     IsCall (record { read = st; ended = ended }) (record { read = st; ended = true }) held held' ahead ahead' result
 stopped st ended result held held' ahead ahead' is right = search rules

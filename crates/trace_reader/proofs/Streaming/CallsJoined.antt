@@ -1,5 +1,5 @@
 -- All calls on a text say what is read of the whole text
-use Rattle.trace_reader.proofs.UpperLaws.{rules, ◌≡◌, inl, inr, ◌+◌, ◌≤◌, ◌∷◌, ◌∙◌, ℕ, List, [], Bool, true, false, Option, Some, None, Result, Ok, Err, refl, ap, sym, length, map, arith, TraceRow, lines_of-ended, lines_of-nothing, TextLine, lines_of, LineFault, State, behind_row, go_on, next_number, read_line, start, trace_of, whole, with_said, Said, SaysRing, SaysRow, behind_line, call_on, opened_by, next_row, opened, opened_in, GivenRows, answered, joined, joined_behind, read_by_calls, read_lines, rows_given, IsGood, read_from_good, step_from_read, cut, dropped, ended_if_read}
+use Rattle.trace_reader.proofs.UpperLaws.{rules, ◌≡◌, inl, inr, ◌+◌, ◌≤◌, ◌∷◌, ◌∙◌, ℕ, List, [], Bool, true, false, Option, Some, None, Result, Ok, Err, refl, ap, sym, length, map, arith, Row, lines_of-ended, lines_of-nothing, TextLine, lines_of, LineFault, State, behind_row, go_on, next_number, read_line, start, trace_of, whole, with_said, Said, SaysRing, SaysRow, behind_line, call_on, opened_by, next_row, opened, opened_in, GivenRows, answered, joined, joined_behind, read_by_calls, read_lines, rows_given, IsGood, read_from_good, step_from_read, cut, dropped, ended_if_read}
 use Rattle.trace_reader.proofs.Streaming.FirstLines.{alone}
 use Rattle.trace_reader.proofs.Streaming.Openings.{step_of}
 
@@ -27,22 +27,22 @@ pub no_ring_read : (st next : State) (line : TextLine) → st.begun ≡ true →
 no_ring_read st next line begun behind is = let s = step_from_read st line (next, None) behind is in search rules
 
 -- a row's line is read so too where rows have begun
-row_alike : (st next : State) (line : TextLine) (row : TraceRow) (said : Said) → 2 ≤ st.lines → IsGood st line said → with_said st (Some said) ≡ (next, Some row) →
+row_alike : (st next : State) (line : TextLine) (row : Row) (said : Said) → 2 ≤ st.lines → IsGood st line said → with_said st (Some said) ≡ (next, Some row) →
     read_line (record st { begun = true }) line ≡ Ok (next, Some row)
 row_alike st next line row (SaysRow other) behind good is =
     let kept : IsGood (record st { begun = true }) line (SaysRow other) =
     record { ended = good.ended; spelled = good.spelled; ordered = search rules; within = good.within; few = good.few; placed = good.placed } in
-    read_from_good (record st { begun = true }) line (SaysRow other) behind kept ∙ ap (λ (p : State × Option TraceRow). Ok p) is
-row_alike st next line row (SaysRing ring) behind good is = let none : None ≡ Some row = ap (λ (p : State × Option TraceRow). p.1) is in cc none
+    read_from_good (record st { begun = true }) line (SaysRow other) behind kept ∙ ap (λ (p : State × Option Row). Ok p) is
+row_alike st next line row (SaysRing ring) behind good is = let none : None ≡ Some row = ap (λ (p : State × Option Row). p.1) is in cc none
 
 -- so is what calls gave, of what was read
-abbrev IsRead : State → GivenRows → Result (State × List TraceRow) (ℕ × LineFault) → Type 0
+abbrev IsRead : State → GivenRows → Result (State × List Row) (ℕ × LineFault) → Type 0
 IsRead st (rows, None) (Ok (end, read)) = (map (λ r. r.1) rows ≡ read) × (end.version ≡ st.version) × (end.size ≡ st.size) × (end.rings ≡ st.rings) × (end.lines ≡ st.lines + length read)
 IsRead st (rows, Some fault) (Err other) = fault ≡ other
 IsRead st (rows, None) (Err other) = ⊥
 IsRead st (rows, Some fault) (Ok read) = ⊥
 
-given_more : (st next : State) (row : TraceRow) (given : GivenRows) (lines : List TextLine) → next ≡ behind_row st row → IsRead next given (read_lines next lines) →
+given_more : (st next : State) (row : Row) (given : GivenRows) (lines : List TextLine) → next ≡ behind_row st row → IsRead next given (read_lines next lines) →
     IsRead st (answered (Ok (Some (next.lines, row))) given) (go_on (next_number st) (Ok (next, Some row)) (λ s. read_lines s lines))
 given_more st next row given lines is so = search rules
 
@@ -52,7 +52,7 @@ RowsLaw lines =
     IsRead st ((rows_given lines (record { read = st; ended = false }) text)) (read_lines st lines)
 
 module _ (st : State) (text : List ℕ) (line : TextLine) (lines : List TextLine) (are : lines_of text ≡ line ∷ lines) (begun : st.begun ≡ true) (behind : 2 ≤ st.lines) (later : RowsLaw lines) where
-  by_line : (r : Result (State × Option TraceRow) LineFault) → read_line st line ≡ r →
+  by_line : (r : Result (State × Option Row) LineFault) → read_line st line ≡ r →
       IsRead st ((answered (call_on st text r).answer (rows_given lines (call_on st text r).progress (call_on st text r).left)))
       (go_on (next_number st) r (λ next. read_lines next lines))
   by_line (Ok (next, Some row)) is =
@@ -69,14 +69,14 @@ rows_law (line ∷ lines) = λ st text are begun behind. rw are
 
 -- ---- the whole text
 
-closed : (st : State) (given : GivenRows) (read : Result (State × List TraceRow) (ℕ × LineFault)) → 2 ≤ st.lines → IsRead st given read → joined st given ≡ whole read
+closed : (st : State) (given : GivenRows) (read : Result (State × List Row) (ℕ × LineFault)) → 2 ≤ st.lines → IsRead st given read → joined st given ≡ whole read
 closed st given read behind so = search rules
 
 abbrev OpenLaw : List TextLine → Type 0
 OpenLaw lines = (st : State) (text : List ℕ) → lines_of text ≡ lines → joined_behind (opened_in st lines text) ≡ whole (read_lines st lines)
 
 module _ (st : State) (text : List ℕ) (line : TextLine) (lines : List TextLine) (are : lines_of text ≡ line ∷ lines) (later : OpenLaw lines) where
-  opened_law : (r : Result (State × Option TraceRow) LineFault) → read_line st line ≡ r →
+  opened_law : (r : Result (State × Option Row) LineFault) → read_line st line ≡ r →
       joined_behind (opened_by st text r (λ next. opened_in next lines (behind_line text))) ≡ whole (go_on (next_number st) r (λ next. read_lines next lines))
   unfolding read_lines
   opened_law (Ok (next, None)) is = search (rules, lines_left, ended_if_read)

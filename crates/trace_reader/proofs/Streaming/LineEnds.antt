@@ -1,12 +1,12 @@
 -- Lines that are bad whatever they say: those that no line feed ends, and those that are too long
-use Rattle.trace_reader.proofs.MiddleLaws.{rules, ◌≡◌, ◌⊎◌, ◌&&◌, ◌≤◌, ◌<◌, ◌∙◌, ℕ, Bool, true, false, List, length, Option, Ok, Err, refl, ap, ltb-true, bytes_eq-Decides, most_bytes, TraceRow, TextLine, LineFault, Limit, placed, said_by_line, State, is_too_long, read_line, size_of, version_of, bytes_eq, behind_header, no_size, no_version, step_from_read}
+use Rattle.trace_reader.proofs.MiddleLaws.{rules, ◌≡◌, ◌⊎◌, ◌&&◌, ◌≤◌, ◌<◌, ◌∙◌, ℕ, Bool, true, false, List, length, Option, Ok, Err, refl, ap, ltb-true, bytes_eq-Decides, most_bytes, Row, TextLine, LineFault, Limit, placed, said_by_line, State, is_too_long, read_line, size_of, version_of, bytes_eq, behind_header, no_size, no_version, step_from_read}
 
 pub three : (n : ℕ) → (n ≡ 0) ⊎ ((n ≡ 1) ⊎ (2 ≤ n))
 three n = search rules
 
 -- ---- a line that no line feed ends
 
-pub ended_if_read : (st : State) (line : TextLine) (p : State × Option TraceRow) → read_line st line ≡ Ok p → line.is_ended ≡ true
+pub ended_if_read : (st : State) (line : TextLine) (p : State × Option Row) → read_line st line ≡ Ok p → line.is_ended ≡ true
 unfolding version_of size_of
 ended_if_read st line p is = search (rules, three, no_version, no_size, step_from_read)
 

@@ -1,35 +1,35 @@
 -- What is read of a line before the first row
-use Rattle.trace_reader.proofs.UpperLaws.{rules, ◌≡◌, inl, inr, ◌+◌, ◌<◌, ◌≤◌, ◌∷◌, ◌++◌, ◌∙◌, ℕ, List, [], Bool, true, false, Option, Some, None, Result, Ok, Err, refl, ap, sym, append_assoc, TraceRow, lines_of-nothing, TextLine, lines_of, Consumes, Consumes-nil, Consumes-trans, LineFault, LineError, Fault, Memory, TraceSoFar, IfFault, state_of, State, behind_row, next_number, read_line, start, StreamFault, Device, RowReader, IsFilled, IsHeld, OfText, ahead_of, fault_of, IsOpened, IsTold, progress_of, behind_line, opened_by, with_rows, opened, opened_in, BadHeader, no_size, no_version, size_read, version_read, step_from_read, Line, NoMemory, bad_ahead, none_held, IsCut, ended_behind, ended_lines, ended_if_read, three, Comes}
+use Rattle.trace_reader.proofs.UpperLaws.{rules, ◌≡◌, inl, inr, ◌+◌, ◌<◌, ◌≤◌, ◌∷◌, ◌++◌, ◌∙◌, ℕ, List, [], Bool, true, false, Option, Some, None, Result, Ok, Err, refl, ap, sym, append_assoc, Row, lines_of-nothing, TextLine, lines_of, Consumes, Consumes-nil, Consumes-trans, LineFault, LineError, Fault, Memory, TraceSoFar, IfFault, state_of, State, behind_row, next_number, read_line, start, StreamFault, Device, RowReader, IsFilled, IsHeld, OfText, ahead_of, fault_of, IsOpened, IsTold, progress_of, behind_line, opened_by, with_rows, opened, opened_in, BadHeader, no_size, no_version, size_read, version_read, step_from_read, Line, NoMemory, bad_ahead, none_held, IsCut, ended_behind, ended_lines, ended_if_read, three, Comes}
 
 -- ---- one line more
 
 -- what is read behind a line
-behind : State × Option TraceRow → Result (State × Option TraceRow) LineFault → State × Option TraceRow
+behind : State × Option Row → Result (State × Option Row) LineFault → State × Option Row
 behind other (Ok p) = p
 behind other (Err fault) = other
 
-abbrev good : State × Option TraceRow → Result (State × Option TraceRow) LineFault
+abbrev good : State × Option Row → Result (State × Option Row) LineFault
 good p = Ok p
 
-same_step : (a b : State × Option TraceRow) → good a ≡ good b → a ≡ b
+same_step : (a b : State × Option Row) → good a ≡ good b → a ≡ b
 unfolding behind
 same_step a b is = ap (behind a) is
 
-pub record IsStep (st : State) (p : State × Option TraceRow) : Type 0 where
+pub record IsStep (st : State) (p : State × Option Row) : Type 0 where
   pub lines : p.0.lines ≡ next_number st
-  pub row : (row : TraceRow) → p.1 ≡ Some row → (2 ≤ st.lines) × (p.0 ≡ behind_row st row)
+  pub row : (row : Row) → p.1 ≡ Some row → (2 ≤ st.lines) × (p.0 ≡ behind_row st row)
   pub later : p.1 ≡ None → p.0.later ≡ st.later
   pub kept : p.1 ≡ None → p.0.keeps ≡ st.keeps
 
-no_row : (st next : State) (p : State × Option TraceRow) → next.lines ≡ next_number st → next.later ≡ st.later → next.keeps ≡ st.keeps → (next, None) ≡ p → IsStep st p
+no_row : (st next : State) (p : State × Option Row) → next.lines ≡ next_number st → next.later ≡ st.later → next.keeps ≡ st.keeps → (next, None) ≡ p → IsStep st p
 no_row st next p lines later kept is = record {
-  lines = sym (ap (λ (q : State × Option TraceRow). q.0.lines) is) ∙ lines;
-  row = λ row some. let none : None ≡ Some row = ap (λ (q : State × Option TraceRow). q.1) is ∙ some in cc none;
-  later = λ none. sym (ap (λ (q : State × Option TraceRow). q.0.later) is) ∙ later;
-  kept = λ none. sym (ap (λ (q : State × Option TraceRow). q.0.keeps) is) ∙ kept;
+  lines = sym (ap (λ (q : State × Option Row). q.0.lines) is) ∙ lines;
+  row = λ row some. let none : None ≡ Some row = ap (λ (q : State × Option Row). q.1) is ∙ some in cc none;
+  later = λ none. sym (ap (λ (q : State × Option Row). q.0.later) is) ∙ later;
+  kept = λ none. sym (ap (λ (q : State × Option Row). q.0.keeps) is) ∙ kept;
 }
 
-pub step_of : (st : State) (line : TextLine) (p : State × Option TraceRow) → read_line st line ≡ Ok p → IsStep st p
+pub step_of : (st : State) (line : TextLine) (p : State × Option Row) → read_line st line ≡ Ok p → IsStep st p
 step_of st line p is =
     elim (three st.lines) [
       | inl first ↦ search (rules, no_row, same_step, version_read, no_version)
@@ -42,7 +42,7 @@ step_of st line p is =
 
 -- ---- what opening makes of the line
 
-opened_at : (st : State) (text : List ℕ) (line : TextLine) (lines : List TextLine) (r : Result (State × Option TraceRow) LineFault) → lines_of text ≡ line ∷ lines → read_line st line ≡ r →
+opened_at : (st : State) (text : List ℕ) (line : TextLine) (lines : List TextLine) (r : Result (State × Option Row) LineFault) → lines_of text ≡ line ∷ lines → read_line st line ≡ r →
     opened_in st (lines_of text) text ≡ opened_by st text r (λ next. opened_in next lines (behind_line text))
 unfolding opened_in
 opened_at st text line lines r are is = ap (λ ls. opened_in st ls text) are ∙ ap (λ s. opened_by st text s (λ next. opened_in next lines (behind_line text))) is
@@ -54,7 +54,7 @@ ring_read st next ahead rest left later line cut read is =
     opened_at st (ahead ++ later) line (lines_of (rest ++ later)) (Ok (next, None)) (ended_lines ahead rest later line cut ended) read
     ∙ ap (λ t. opened_in next (lines_of (rest ++ later)) t) (ended_behind ahead rest later line cut ended) ∙ ap (λ r. opened_in next (lines_of (r ++ later)) (r ++ later)) (sym is)
 
-pub row_next : (st next : State) (ahead rest later : List ℕ) (line : TextLine) (row : TraceRow) → IsCut ahead line rest → read_line st line ≡ Ok (next, Some row) →
+pub row_next : (st next : State) (ahead rest later : List ℕ) (line : TextLine) (row : Row) → IsCut ahead line rest → read_line st line ≡ Ok (next, Some row) →
     opened_in st (lines_of (ahead ++ later)) (ahead ++ later) ≡ Ok (with_rows st false, ahead ++ later)
 row_next st next ahead rest later line row cut read =
     opened_at st (ahead ++ later) line (lines_of (rest ++ later)) (Ok (next, Some row)) (ended_lines ahead rest later line cut (ended_if_read st line (next, Some row) read)) read
@@ -69,7 +69,7 @@ bad_next st held ahead rest line fault cut lines read filled =
 -- ---- what is told of the line
 
 module _ (st next : State) {ahead rest : List ℕ} (left : List ℕ) {line : TextLine} (cut : IsCut ahead line rest) where
-  pub told_row : (row : TraceRow) → read_line st line ≡ Ok (next, Some row) → left ≡ ahead → IsTold st ahead next left (Ok true)
+  pub told_row : (row : Row) → read_line st line ≡ Ok (next, Some row) → left ≡ ahead → IsTold st ahead next left (Ok true)
   told_row row read same =
       let step = (step_of st line (next, Some row) read).row row refl in
       ((row, step.1), step.0, λ later. row_next st next ahead rest later line row cut read ∙ ap (λ l. Ok (with_rows st false, l ++ later)) (sym same))

@@ -1,5 +1,5 @@
 -- The rows that calls give are those of the lines before the bad one, by their numbers
-use Rattle.trace_reader.proofs.UpperLaws.{rules, ◌≡◌, ◌+◌, ◌≤◌, ◌∷◌, ◌∙◌, ℕ, List, [], true, false, Option, Some, None, Result, Ok, Err, refl, ap, subst, length, map, take, arith, TraceRow, TextLine, lines_of, LineFault, State, go_on, next_number, read_line, with_row, read_lines, behind_line, call_on, next_row, AreNumbered, AreOfLines, IsBehind, answered, rows_given, ended_if_read}
+use Rattle.trace_reader.proofs.UpperLaws.{rules, ◌≡◌, ◌+◌, ◌≤◌, ◌∷◌, ◌∙◌, ℕ, List, [], true, false, Option, Some, None, Result, Ok, Err, refl, ap, subst, length, map, take, arith, Row, TextLine, lines_of, LineFault, State, go_on, next_number, read_line, with_row, read_lines, behind_line, call_on, next_row, AreNumbered, AreOfLines, IsBehind, answered, rows_given, ended_if_read}
 use Rattle.trace_reader.proofs.Streaming.CallsJoined.{lines_left, no_ring_read}
 use Rattle.trace_reader.proofs.Streaming.Openings.{step_of}
 
@@ -7,7 +7,7 @@ abbrev LinesLaw : List TextLine → Type 0
 LinesLaw lines = (st : State) (text : List ℕ) → lines_of text ≡ lines → st.begun ≡ true → 2 ≤ st.lines → AreOfLines st lines (rows_given lines (record { read = st; ended = false }) text)
 
 module _ (st : State) (text : List ℕ) (line : TextLine) (lines : List TextLine) (are : lines_of text ≡ line ∷ lines) (begun : st.begun ≡ true) (behind : 2 ≤ st.lines) (later : LinesLaw lines) where
-  by_line : (r : Result (State × Option TraceRow) LineFault) → read_line st line ≡ r →
+  by_line : (r : Result (State × Option Row) LineFault) → read_line st line ≡ r →
       AreOfLines st (line ∷ lines) (answered (call_on st text r).answer (rows_given lines (call_on st text r).progress (call_on st text r).left))
   unfolding read_lines
   by_line (Ok (next, Some row)) is =

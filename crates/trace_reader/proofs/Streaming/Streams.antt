@@ -1,5 +1,5 @@
 -- The rows so far and what further calls give are what the whole text says
-use Rattle.trace_reader.proofs.UpperLaws.{arith, common_steps, rules, ◌≡◌, ◌+◌, ◌∷◌, ◌++◌, ◌∙◌, ℕ, List, [], Bool, true, false, Option, Some, None, Result, Ok, Err, refl, ap, sym, subst, append-nil, append_assoc, Consumes-trans, Header, TraceRow, TextLine, lines_of, LineFault, trace_of, State, TraceText, next_number, RowReader, OfLater, OfText, ahead_of, IsCall, IsSameTrace, IsOpened, progress_of, Call, Progress, opened, next_row, IsBadLine, IsReadTo, OfStream, read_with, GivenRows, answered, joined_behind, rows_given, read_by_calls, Line, call_of, ended_if_read}
+use Rattle.trace_reader.proofs.UpperLaws.{arith, common_steps, rules, ◌≡◌, ◌+◌, ◌∷◌, ◌++◌, ◌∙◌, ℕ, List, [], Bool, true, false, Option, Some, None, Result, Ok, Err, refl, ap, sym, subst, append-nil, append_assoc, Consumes-trans, Header, Row, TextLine, lines_of, LineFault, trace_of, State, TraceText, next_number, RowReader, OfLater, OfText, ahead_of, IsCall, IsSameTrace, IsOpened, progress_of, Call, Progress, opened, next_row, IsBadLine, IsReadTo, OfStream, read_with, GivenRows, answered, joined_behind, rows_given, read_by_calls, Line, call_of, ended_if_read}
 use Rattle.trace_reader.specs.Streaming.Streams.{HasRead}
 use Rattle.trace_reader.proofs.Streaming.CallsJoined.{calls_say_the_text, lines_left}
 use Rattle.trace_reader.proofs.Streaming.Openings.{step_of}
@@ -47,7 +47,7 @@ bad_given : (p p' : Progress) (left left' : List ℕ) (fault : ℕ × LineFault)
     rows_given lines p left ≡ ([], Some fault)
 bad_given p p' left left' fault lines is = (given_first p left (record { answer = Err fault; progress = p'; left = left' }) lines is).1
 
-module _ (st : State) (p' : Progress) (left left' : List ℕ) (row : ℕ × TraceRow) where
+module _ (st : State) (p' : Progress) (left left' : List ℕ) (row : ℕ × Row) where
   abbrev GivesRow : Call → Type 0
   GivesRow c = c ≡ record { answer = Ok (Some row); progress = p'; left = left' }
 
@@ -71,13 +71,13 @@ module _ (st : State) (p' : Progress) (left left' : List ℕ) (row : ℕ × Trac
 
 -- ---- the rows so far
 
-module _ (h : Header) (first : ℕ) (done : List TraceRow) where
+module _ (h : Header) (first : ℕ) (done : List Row) where
   -- the row is one of the rows so far
-  row_noted : (row : ℕ × TraceRow) (given : GivenRows) → read_with h first done (answered (Ok (Some row)) given) ≡ read_with h first (done ++ row.1 ∷ []) given
+  row_noted : (row : ℕ × Row) (given : GivenRows) → read_with h first done (answered (Ok (Some row)) given) ≡ read_with h first (done ++ row.1 ∷ []) given
   row_noted row given = grind (arith, common_steps)
 
   with_none : read_with h first done ([], None) ≡ Ok (record { header = h; first = first; rows = done })
-  with_none = ap (λ (rs : List TraceRow). Ok (record { header = h; first = first; rows = rs })) (append-nil done)
+  with_none = ap (λ (rs : List Row). Ok (record { header = h; first = first; rows = rs })) (append-nil done)
 
 opened_so : (keeps : Bool) (st : State) (ended : Bool) (text left : List ℕ) → opened keeps text ≡ Ok (record { read = st; ended = ended }, left) →
     trace_of keeps text ≡ read_with (record { version = st.version; context_size = st.size; rings = st.rings }) (st.lines + 1) [] ((rows_given (lines_of left) (record { read = st; ended = ended }) left))
@@ -92,11 +92,11 @@ opened_read keeps held held' r is =
     (text_too r.ended held held' [] (ahead_of r.ahead) (λ text left. opened keeps text ≡ Ok (progress_of r, left))
     (λ text left. trace_of keeps text ≡ read_with r.header (r.lines + 1) [] ((rows_given (lines_of left) (progress_of r) left))) (opened_so keeps (progress_of r).read r.ended) is.1)
 
-module _ (keeps : Bool) (held held' held'' : Option (List ℕ)) (h : Header) (first : ℕ) (done : List TraceRow) (st st' : State) (ahead ahead' : List ℕ) where
+module _ (keeps : Bool) (held held' held'' : Option (List ℕ)) (h : Header) (first : ℕ) (done : List Row) (st st' : State) (ahead ahead' : List ℕ) where
   abbrev Stands : Bool → Type 0
   Stands ended = IsReadTo keeps held held' h first done (record { read = st; ended = ended }) ahead
 
-  row_more : (ended : Bool) (row : ℕ × TraceRow) → Stands ended → IsCall (record { read = st; ended = ended }) (record { read = st'; ended = false }) held' held'' ahead ahead' (Ok (Some row)) →
+  row_more : (ended : Bool) (row : ℕ × Row) → Stands ended → IsCall (record { read = st; ended = ended }) (record { read = st'; ended = false }) held' held'' ahead ahead' (Ok (Some row)) →
       IsReadTo keeps held held'' h first (done ++ row.1 ∷ []) (record { read = st'; ended = false }) ahead'
   row_more true row stands (came, used, all) = absurd (over_gives st (record { read = st'; ended = false }) (ahead ++ came ++ []) (ahead' ++ []) row (all []))
   row_more false row stands call =
@@ -107,7 +107,7 @@ module _ (keeps : Bool) (held held' held'' : Option (List ℕ)) (h : Header) (fi
       (λ text left left' told gives. told ∙ ap (λ g. read_with h first done (g)) (row_given st p' left left' row gives) ∙ row_noted h first done row (rows_given (lines_of left') p' left')) stands call
 
   -- the answers that end the reading, and what they say of the whole text
-  end_more : (answer : Result (Option (ℕ × TraceRow)) (ℕ × LineFault)) (said : Result (TraceText) (ℕ × LineFault)) →
+  end_more : (answer : Result (Option (ℕ × Row)) (ℕ × LineFault)) (said : Result (TraceText) (ℕ × LineFault)) →
       ((left left' : List ℕ) → next_row (record { read = st; ended = false }) left ≡ record { answer = answer; progress = record { read = st'; ended = true }; left = left' } →
       read_with h first done ((rows_given (lines_of left) (record { read = st; ended = false }) left)) ≡ said) →
       Stands false → OfText true held' held'' ahead ahead' (λ text left. next_row (record { read = st; ended = false }) text ≡ record { answer = answer; progress = record { read = st'; ended = true }; left = left }) →
@@ -139,20 +139,20 @@ module _ (keeps : Bool) (held held' held'' : Option (List ℕ)) (h : Header) (fi
 -- ---- the same of a reader
 
 -- a row stands on the next line
-line_of_row : (held held' : Option (List ℕ)) (ahead ahead' : List ℕ) (st st' : State) (ended : Bool) (row : ℕ × TraceRow) →
+line_of_row : (held held' : Option (List ℕ)) (ahead ahead' : List ℕ) (st st' : State) (ended : Bool) (row : ℕ × Row) →
     IsCall (record { read = st; ended = ended }) (record { read = st'; ended = false }) held held' ahead ahead' (Ok (Some row)) → (row.0 ≡ next_number st) × (st'.lines ≡ row.0)
 line_of_row held held' ahead ahead' st st' true row (came, used, all) = absurd (over_gives st (record { read = st'; ended = false }) (ahead ++ came ++ []) (ahead' ++ []) row (all []))
 line_of_row held held' ahead ahead' st st' false row (came, used, all) =
     let l = row_line st (record { read = st'; ended = false }) (ahead ++ came ++ []) (ahead' ++ []) row (lines_of (ahead ++ came ++ [])) refl (all []) in
     (l.3.number, l.3.behind)
 
-pub row_numbered : (held held' : Option (List ℕ)) (r r' : RowReader) (row : ℕ × TraceRow) → r'.ended ≡ false → IsCall (progress_of r) (progress_of r') held held' (ahead_of r.ahead) (ahead_of r'.ahead) (Ok (Some row)) →
+pub row_numbered : (held held' : Option (List ℕ)) (r r' : RowReader) (row : ℕ × Row) → r'.ended ≡ false → IsCall (progress_of r) (progress_of r') held held' (ahead_of r.ahead) (ahead_of r'.ahead) (Ok (Some row)) →
     (row.0 ≡ r.lines + 1) × (r'.lines ≡ row.0)
 row_numbered held held' r r' row on call =
     line_of_row held held' (ahead_of r.ahead) (ahead_of r'.ahead) (progress_of r).read (progress_of r').read r.ended row (rw on at call)
 
-module _ (held held' held'' : Option (List ℕ)) (first : ℕ) (done : List TraceRow) (r r' : RowReader) (same : IsSameTrace r r') (read : HasRead held held' first done r) where
-  pub row_read : (row : ℕ × TraceRow) → r'.ended ≡ false → IsCall (progress_of r) (progress_of r') held' held'' (ahead_of r.ahead) (ahead_of r'.ahead) (Ok (Some row)) →
+module _ (held held' held'' : Option (List ℕ)) (first : ℕ) (done : List Row) (r r' : RowReader) (same : IsSameTrace r r') (read : HasRead held held' first done r) where
+  pub row_read : (row : ℕ × Row) → r'.ended ≡ false → IsCall (progress_of r) (progress_of r') held' held'' (ahead_of r.ahead) (ahead_of r'.ahead) (Ok (Some row)) →
       HasRead held held'' first (done ++ row.1 ∷ []) r'
   row_read row on call =
       subst (λ (k : Bool). IsReadTo k held held'' r'.header first (done ++ row.1 ∷ []) (progress_of r') (ahead_of r'.ahead)) (sym same.1)

@@ -1,6 +1,6 @@
 -- What the calls of a reader of rows answer
 use Rattle.std.specs.Prelude.{◌≡◌, ℕ, Bool, true, false, List, Option, Some, None, Result, Ok, Err}
-use Rattle.traces.specs.declared.trace_row.TraceRow.{TraceRow}
+use Rattle.traces.specs.declared.row.Row.{Row}
 use Rattle.trace_reader.specs.declared.fault.LineFault.{LineFault}
 use Rattle.trace_reader.specs.declared.fault.LineError.{LineError}
 use Rattle.trace_reader.specs.declared.fault.LineError.TheVariants.{Fault as BadLine, Memory as NoMemory}
@@ -30,7 +30,7 @@ IsNoLine Device = Unit {0}
 IsNoLine Memory = Unit {0}
 
 -- no row is answered
-abbrev pub has_ended : Result (Option (ℕ × TraceRow)) StreamFault → Bool
+abbrev pub has_ended : Result (Option (ℕ × Row)) StreamFault → Bool
 has_ended (Ok (Some row)) = false
 has_ended (Ok None) = true
 has_ended (Err fault) = true
@@ -43,12 +43,12 @@ IfAnswered (Err Device) P = Unit {0}
 IfAnswered (Err Memory) P = Unit {0}
 
 -- the answer, how far the reading has come and the text that is left are those of the definition
-abbrev pub IsCall : Progress → Progress → Option (List ℕ) → Option (List ℕ) → List ℕ → List ℕ → Result (Option (ℕ × TraceRow)) StreamFault → Type 0
+abbrev pub IsCall : Progress → Progress → Option (List ℕ) → Option (List ℕ) → List ℕ → List ℕ → Result (Option (ℕ × Row)) StreamFault → Type 0
 IsCall p p' held held' ahead ahead' result =
     IfAnswered result (λ answer. OfText p'.ended held held' ahead ahead' (λ text left. next_row p text ≡ record { answer = answer; progress = p'; left = left }))
 
 -- how far the reading has come behind a line that was answered so
-abbrev pub behind_answer : State → Result (Option (ℕ × TraceRow)) StreamFault → Progress
+abbrev pub behind_answer : State → Result (Option (ℕ × Row)) StreamFault → Progress
 behind_answer st (Ok (Some row)) = record { read = behind_row st row.1; ended = false }
 behind_answer st (Ok None) = record { read = st; ended = true }
 behind_answer st (Err fault) = record { read = st; ended = true }

@@ -1,7 +1,7 @@
 -- How far a reader of rows has come, and what is answered where it begins
 use Rattle.std.specs.Prelude.{◌≡◌, ◌≤◌, ℕ, Bool, true, false, List, [], ◌++◌, Option, Result, Ok, Err}
 use Rattle.line_text.specs.Lines.{lines_of}
-use Rattle.traces.specs.declared.trace_row.TraceRow.{TraceRow}
+use Rattle.traces.specs.declared.row.Row.{Row}
 use Rattle.trace_reader.specs.Reading.{State, behind_row, next_number}
 use Rattle.trace_reader.specs.declared.row_reader.fault.StreamFault.{StreamFault}
 use Rattle.trace_reader.specs.declared.row_reader.fault.StreamFault.TheVariants.{Line, Device, Memory}
@@ -38,7 +38,7 @@ IsTold st ahead next left (Ok false) =
     × ((later : List ℕ) → opened_in st (lines_of (ahead ++ later)) (ahead ++ later) ≡ opened_in next (lines_of (left ++ later)) (left ++ later))
     × (next.keeps ≡ st.keeps)
 IsTold st ahead next left (Ok true) =
-    ((row : TraceRow) × (next ≡ behind_row st row)) × (2 ≤ st.lines)
+    ((row : Row) × (next ≡ behind_row st row)) × (2 ≤ st.lines)
     × ((later : List ℕ) → opened_in st (lines_of (ahead ++ later)) (ahead ++ later) ≡ Ok (with_rows st false, left ++ later))
 IsTold st ahead next left (Err (Line line fault)) =
     (held : Option (List ℕ)) → IsFilled true held ahead →

@@ -3,7 +3,7 @@ use Rattle.std.specs.Prelude.{ℕ, Bool, true, false, List, [], ◌∷◌, nat_l
 use Rattle.std.specs.Option.{option_map}
 use Rattle.std.specs.Io.BufRead.{drop_through}
 use Rattle.line_text.specs.Lines.{TextLine, lines_of}
-use Rattle.traces.specs.declared.trace_row.TraceRow.{TraceRow}
+use Rattle.traces.specs.declared.row.Row.{Row}
 use Rattle.trace_reader.specs.declared.fault.LineFault.{LineFault}
 use Rattle.trace_reader.specs.declared.fault.LineFault.TheVariants.{Header as BadHeader}
 use Rattle.trace_reader.specs.Reading.{State, next_number, read_line, start}
@@ -25,7 +25,7 @@ pub record Progress : Type 0 where
 abbrev pub with_rows : State → Bool → Progress
 with_rows st ended = record { read = record st { begun = true }; ended = ended }
 
-abbrev pub opened_by : State → List ℕ → Result (State × Option TraceRow) LineFault → (State → Result (Progress × List ℕ) (ℕ × LineFault)) → Result (Progress × List ℕ) (ℕ × LineFault)
+abbrev pub opened_by : State → List ℕ → Result (State × Option Row) LineFault → (State → Result (Progress × List ℕ) (ℕ × LineFault)) → Result (Progress × List ℕ) (ℕ × LineFault)
 opened_by st text (Ok (next, None)) others = others next
 opened_by st text (Ok (next, Some row)) others = Ok (with_rows st false, text)
 opened_by st text (Err fault) others = Err (next_number st, fault)
@@ -44,13 +44,13 @@ opened keeps text = opened_in (start keeps) (lines_of text) text
 
 pub record Call : Type 0 where
   -- the row and the number of its line, none behind the last; or the bad line and its least fault
-  pub answer : Result (Option (ℕ × TraceRow)) (ℕ × LineFault)
+  pub answer : Result (Option (ℕ × Row)) (ℕ × LineFault)
   pub progress : Progress
   -- the text that is left
   pub left : List ℕ
 
 -- the call that reads a line: a bad one stays where it is
-abbrev pub call_on : State → List ℕ → Result (State × Option TraceRow) LineFault → Call
+abbrev pub call_on : State → List ℕ → Result (State × Option Row) LineFault → Call
 call_on st text (Ok (next, row)) =
     record { answer = Ok (option_map (λ r. (next.lines, r)) row); progress = record { read = next; ended = is_none row }; left = behind_line text }
 call_on st text (Err fault) = record { answer = Err (next_number st, fault); progress = record { read = st; ended = true }; left = text }

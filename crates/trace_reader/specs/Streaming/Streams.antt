@@ -2,7 +2,7 @@
 use Rattle.std.specs.Prelude.{◌≡◌, ℕ, Bool, true, List, [], ◌++◌, map, Option, Some, None, Result, Ok, Err}
 use Rattle.line_text.specs.Lines.{lines_of}
 use Rattle.traces.specs.declared.header.Header.{Header}
-use Rattle.traces.specs.declared.trace_row.TraceRow.{TraceRow}
+use Rattle.traces.specs.declared.row.Row.{Row}
 use Rattle.trace_reader.specs.declared.fault.LineFault.{LineFault}
 use Rattle.trace_reader.specs.Reading.{TraceText, trace_of}
 use Rattle.trace_reader.specs.declared.row_reader.fault.StreamFault.{StreamFault}
@@ -30,15 +30,15 @@ IfBadLine Memory P = Unit {0}
 -- ---- how far calls have come
 
 -- rows that were read and those that further calls give, as a trace with this header and number of the first row; or the bad line
-abbrev pub read_with : Header → ℕ → List TraceRow → GivenRows → Result TraceText (ℕ × LineFault)
+abbrev pub read_with : Header → ℕ → List Row → GivenRows → Result TraceText (ℕ × LineFault)
 read_with h first done (rows, None) = Ok (record { header = h; first = first; rows = done ++ map (λ r. r.1) rows })
 read_with h first done (rows, Some fault) = Err fault
 
 -- the text says these rows, and then what further calls give of what is left
-abbrev pub IsReadTo : Bool → Option (List ℕ) → Option (List ℕ) → Header → ℕ → List TraceRow → Progress → List ℕ → Type 0
+abbrev pub IsReadTo : Bool → Option (List ℕ) → Option (List ℕ) → Header → ℕ → List Row → Progress → List ℕ → Type 0
 IsReadTo keeps held held' h first done p ahead =
     OfText p.ended held held' [] ahead (λ text left. trace_of keeps text ≡ read_with h first done (rows_given (lines_of left) p left))
 
 -- these rows were read, and the reader stands behind them
-abbrev pub HasRead : Option (List ℕ) → Option (List ℕ) → ℕ → List TraceRow → RowReader → Type 0
+abbrev pub HasRead : Option (List ℕ) → Option (List ℕ) → ℕ → List Row → RowReader → Type 0
 HasRead held held' first done r = IsReadTo r.keeps held held' r.header first done (progress_of r) (ahead_of r.ahead)

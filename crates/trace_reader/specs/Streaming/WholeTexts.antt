@@ -1,16 +1,16 @@
 -- What all calls on a text say together
 use Rattle.std.specs.Prelude.{◌≡◌, ℕ, Bool, ◌+◌, List, [], ◌∷◌, length, map, take, Option, Some, None, Result, Ok, Err}
 use Rattle.line_text.specs.Lines.{TextLine, lines_of}
-use Rattle.traces.specs.declared.trace_row.TraceRow.{TraceRow}
+use Rattle.traces.specs.declared.row.Row.{Row}
 use Rattle.trace_reader.specs.declared.fault.LineFault.{LineFault}
 use Rattle.trace_reader.specs.Reading.{State, TraceText, next_number, read_lines}
 use Rattle.trace_reader.specs.Streaming.RowByRow.{Progress, next_row, opened}
 
 -- rows with the numbers of their lines; and the bad line behind them, where one is why no more came
 abbrev pub GivenRows : Type 0
-GivenRows = List (ℕ × TraceRow) × Option (ℕ × LineFault)
+GivenRows = List (ℕ × Row) × Option (ℕ × LineFault)
 
-abbrev pub answered : Result (Option (ℕ × TraceRow)) (ℕ × LineFault) → GivenRows → GivenRows
+abbrev pub answered : Result (Option (ℕ × Row)) (ℕ × LineFault) → GivenRows → GivenRows
 answered (Ok (Some row)) later = (row ∷ later.0, later.1)
 answered (Ok None) later = ([], None)
 answered (Err fault) later = ([], Some fault)
@@ -39,7 +39,7 @@ read_by_calls keeps text = joined_behind (opened keeps text)
 -- ---- where a bad line is told
 
 -- the rows stand on lines one after another, from this number on
-abbrev pub AreNumbered : ℕ → List (ℕ × TraceRow) → Type 0
+abbrev pub AreNumbered : ℕ → List (ℕ × Row) → Type 0
 AreNumbered number [] = Unit {0}
 AreNumbered number (row ∷ rows) = (row.0 ≡ number) × AreNumbered (number + 1) rows
 

@@ -19,7 +19,7 @@ use crate::{
 };
 use line_text::first_line;
 use std::alloc::Global;
-use traces::{Header, Register, Row, TraceRow};
+use traces::{Header, Register, Row};
 use trb::Blocks;
 
 impl RowReader {
@@ -42,10 +42,7 @@ impl RowReader {
     /// definition. The numbers of a row fit the fields of their types. Where no row is answered the reading has ended, and from then on each
     /// call answers none and reads nothing. A failure of the device is told, and nothing else is told as one.
     #[inline(always)]
-    pub fn next_row<S: Source>(
-        &mut self,
-        source: &mut S,
-    ) -> Result<Option<(u32, TraceRow)>, StreamFault>
+    pub fn next_row<S: Source>(&mut self, source: &mut S) -> Result<Option<(u32, Row)>, StreamFault>
         ensures answer { IsCall (progress_of self.old) (progress_of self.new) (S.held source.old) (S.held source.new) (ahead_of self.old.ahead) (ahead_of self.new.ahead) result }
         ensures over { self.new.ended ≡ has_ended result }
         ensures nothing { self.old.ended ≡ true → (result ≡ Ok None) × (self.new ≡ self.old) × (source.new ≡ source.old) }
@@ -60,7 +57,7 @@ impl RowReader {
             self.ahead.skip(28);
             self.lines += 1;
             let row = Row::Write { at, word };
-            return Ok(Some((self.lines, TraceRow::Plain(row))));
+            return Ok(Some((self.lines, row)));
         }
         self.other_row(source)
     }
@@ -76,10 +73,7 @@ impl RowReader {
 
     /// The next row, where it isn't known to be a write: by the places of its fields, where they are those of a frequent form.
     #[inline(always)]
-    fn other_row<S: Source>(
-        &mut self,
-        source: &mut S,
-    ) -> Result<Option<(u32, TraceRow)>, StreamFault>
+    fn other_row<S: Source>(&mut self, source: &mut S) -> Result<Option<(u32, Row)>, StreamFault>
         requires going { self.now.ended ≡ false }
         requires limit { self.now.lines + 1 ≤ most_lines_of self.now.keeps self.now.header.version }
         requires counted { self.now.lines + 1 ≤ most_streamed_lines }
@@ -92,20 +86,20 @@ impl RowReader {
             self.ahead.skip(39);
             self.lines += 1;
             let row = Row::Read { event };
-            return Ok(Some((self.lines, TraceRow::Plain(row))));
+            return Ok(Some((self.lines, row)));
         }
         if let Some((ring, block)) = declaration_ahead(self.ahead.as_slice()) {
             self.ahead.skip(43);
             self.lines += 1;
             let blocks = Blocks::one(block);
             let row = Row::Sub { ring, blocks };
-            return Ok(Some((self.lines, TraceRow::Plain(row))));
+            return Ok(Some((self.lines, row)));
         }
         if let Some((slot, target)) = bell_ahead(self.ahead.as_slice()) {
             self.ahead.skip(9);
             self.lines += 1;
             let row = Row::Bell { slot, target };
-            return Ok(Some((self.lines, TraceRow::Plain(row))));
+            return Ok(Some((self.lines, row)));
         }
         if let Some(value) = erdp_ahead(self.ahead.as_slice()) {
             self.ahead.skip(26);
@@ -114,17 +108,14 @@ impl RowReader {
                 register: Register::Erdp,
                 value,
             };
-            return Ok(Some((self.lines, TraceRow::Plain(row))));
+            return Ok(Some((self.lines, row)));
         }
         self.searched_row(source)
     }
 
     /// The next row, where a line feed is looked for.
     #[inline(never)]
-    fn searched_row<S: Source>(
-        &mut self,
-        source: &mut S,
-    ) -> Result<Option<(u32, TraceRow)>, StreamFault>
+    fn searched_row<S: Source>(&mut self, source: &mut S) -> Result<Option<(u32, Row)>, StreamFault>
         ensures answer { IsCall (progress_of self.old) (progress_of self.new) (S.held source.old) (S.held source.new) (ahead_of self.old.ahead) (ahead_of self.new.ahead) result }
         ensures over { self.new.ended ≡ has_ended result }
         ensures nothing { self.old.ended ≡ true → (result ≡ Ok None) × (self.new ≡ self.old) × (source.new ≡ source.old) }
@@ -173,7 +164,7 @@ fn row_ahead<S: Source>(
     lines: u32,
     ahead: &mut Ahead,
     source: &mut S,
-) -> Result<Option<(u32, TraceRow)>, StreamFault>
+) -> Result<Option<(u32, Row)>, StreamFault>
     requires behind { 2 ≤ lines }
     requires within { lines ≤ most_streamed_lines }
     ensures answer { (st : State) → st.keeps ≡ keeps → st.version ≡ header.now.version → st.rings ≡ header.now.rings → st.later ≡ later.now → st.lines ≡ lines → st.begun ≡ true →
@@ -195,7 +186,7 @@ fn row_standing(
     later: &[u8],
     lines: u32,
     ahead: &mut Ahead,
-) -> Option<(u32, TraceRow)>
+) -> Option<(u32, Row)>
     requires behind { 2 ≤ lines }
     requires within { lines ≤ most_streamed_lines }
     ensures row { IfSome result (λ found. (st : State) (held : Option (List ℕ)) → st.keeps ≡ keeps → st.version ≡ header.now.version → st.rings ≡ header.now.rings → st.later ≡ later.now → st.lines ≡ lines → st.begun ≡ true →
@@ -226,7 +217,7 @@ fn row_behind_reads<S: Source>(
     lines: u32,
     ahead: &mut Ahead,
     source: &mut S,
-) -> Result<Option<(u32, TraceRow)>, StreamFault>
+) -> Result<Option<(u32, Row)>, StreamFault>
     requires behind { 2 ≤ lines }
     requires within { lines ≤ most_streamed_lines }
     ensures answer { (st : State) → st.keeps ≡ keeps → st.version ≡ header.now.version → st.rings ≡ header.now.rings → st.later ≡ later.now → st.lines ≡ lines → st.begun ≡ true →

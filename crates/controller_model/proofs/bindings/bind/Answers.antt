@@ -2,7 +2,7 @@ use Rattle.controller_model.proofs.Laws.{IsSome, ring_with, ◌≡◌, ◌<◌, 
 use Rattle.controller_model.proofs.bindings.bind.Goals as goal
 
 pub returns-clause-change : goal.returns-clause-change
-returns-clause-change c = λ h rows words w same has free f.
+returns-clause-change c = λ h words w same has free f.
     let place : c.from-2.result * 32 + c.from-3.result ≡ c.args.slot * 32 + c.args.index = omega (arith, c.from-2.ensures, c.from-3.ensures) in
     let taken =
     holder_taken (λ t j. is_ring c.args.ring (w.ring_of t j)) c.args.slot c.args.index (omega (arith, c.ranges.slot)) c.requires.index

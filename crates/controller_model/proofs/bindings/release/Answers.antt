@@ -5,7 +5,7 @@ none_some : (r : ℕ) → None ≡ Some r → ⊥
 none_some r e = absurd (cc)
 
 pub returns-clause-change : goal.returns-clause-change
-returns-clause-change c = λ h rows words w has f.
+returns-clause-change c = λ h words w has f.
     let place : c.from-2.result * 32 + c.from-3.result ≡ c.args.slot * 32 + c.args.index = omega (arith, c.from-2.ensures, c.from-3.ensures) in
     let within : c.args.slot * 32 + c.args.index < length c.args.kept.now.endpoints.items = omega (arith, c.args.kept.now.endpoints_many, c.ranges.slot, c.requires) in
     let was = f.endpoints.each c.args.slot c.args.index c.index_mut-endpoint.result.now c.requires

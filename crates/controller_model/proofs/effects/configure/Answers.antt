@@ -3,15 +3,15 @@ use Rattle.controller_model.proofs.effects.configure.Goals as goal
 
 pub returns-then-deconfigure-clause-change : goal.returns-then-deconfigure-clause-change
 unfolding changes changed_by changed_by_all
-returns-then-deconfigure-clause-change g c = λ h rows words n w final lists made f.
+returns-then-deconfigure-clause-change g c = λ h words n w final lists made f.
     onward (rw c.if-deconfigure.true at made)
-    (c.disable.ensures.change h rows words (gone c.args.command.now w c.args.slot) (c.go_on.ensures.change h rows words w f))
+    (c.disable.ensures.change h words (gone c.args.command.now w c.args.slot) (c.go_on.ensures.change h words w f))
 
 pub returns-clause-change : goal.returns-clause-change
 unfolding changes changed_by changed_by_all added_endpoints
-returns-clause-change g c = λ h rows words n w final lists made f.
+returns-clause-change g c = λ h words n w final lists made f.
     let memory = g.M.WordMemory.words c.args.memory.now in
     let u = gone c.args.command.now w c.args.slot in
-    let now = c.disable-2.ensures.change h rows words u (c.go_on.ensures.change h rows words w f) in
+    let now = c.disable-2.ensures.change h words u (c.go_on.ensures.change h words w f) in
     let flags : slice_index c.block_at.result.w 0 ≡ memory c.args.context = ap (λ b. slice_index b.w 0) c.block_at.ensures in
-    c.in_ok-place_all.ensures.change h rows words c.args.command.now (disabled u c.args.slot (is_dropped memory c.args.context)) final lists (rw c.if-deconfigure.false at made) (rw flags at now)
+    c.in_ok-place_all.ensures.change h words c.args.command.now (disabled u c.args.slot (is_dropped memory c.args.context)) final lists (rw c.if-deconfigure.false at made) (rw flags at now)

@@ -1,10 +1,10 @@
-use Rattle.controller_model.proofs.Laws.{◌+◌, ◌*◌, ℕ, List, sym, refl, ap, HeaderValue, RowValue, opening, FollowsRing, ring_held, all_at, replicate_at}
+use Rattle.controller_model.proofs.Laws.{◌+◌, ◌*◌, ℕ, sym, refl, ap, HeaderValue, opening, FollowsRing, ring_held, all_at, replicate_at}
 use Rattle.controller_model.proofs.opening.opening.Goals as goal
 
 pub returns : goal.returns
 unfolding opening
-returns c = λ h rows words nothing. record {
-  progress = record { rows = refl; steps = refl; started = refl; stopped = refl };
+returns c = λ h words nothing. record {
+  progress = record { steps = refl; started = refl; stopped = refl };
   registers = record { crcr = refl; dcbaap = refl; config = refl };
   held = (λ i. record {
     memory = λ a. sym (nothing a) i;
@@ -14,8 +14,8 @@ returns c = λ h rows words nothing. record {
   beyond = λ a far. nothing a;
   rings = record {
     each = λ r x at.
-        all_at (λ y. (h' : HeaderValue) (rows' : List RowValue) (r' : ℕ) → FollowsRing h' r' (ring_held (opening rows') r') y) c.in_ok-rings.field-0.items r x
-        c.in_ok-rings.ensures.each at h rows r;
+        all_at (λ y. (h' : HeaderValue) (r' : ℕ) → FollowsRing h' r' (ring_held opening r') y) c.in_ok-rings.field-0.items r x
+        c.in_ok-rings.ensures.each at h r;
   };
   slots = record {
     each = λ s x at.

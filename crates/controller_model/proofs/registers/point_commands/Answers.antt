@@ -5,5 +5,5 @@ pub returns-in-None : goal.returns-in-None
 returns-in-None c = grind (arith, command_id-none, follows_same, pointed_other)
 
 pub returns-in-Some : goal.returns-in-Some
-returns-in-Some c = λ rows words w f.
-    rw (command_id-some c.args.header.now c.in-Some.ring.now c.in-Some.ensures) (c.point.ensures c.args.header.now rows words w f)
+returns-in-Some c = λ words w f.
+    rw (command_id-some c.args.header.now c.in-Some.ring.now c.in-Some.ensures) (c.point.ensures c.args.header.now words w f)

@@ -4,7 +4,7 @@ use Rattle.controller_model.proofs.registers.set_dequeue.Goals as goal
 
 pub returns : goal.returns
 unfolding event_shape
-returns c = λ rows words w f.
+returns c = λ words w f.
     let same : c.in-Some.ring.now.shape ≡ event_shape c.args.header.now = ap (λ o. shape_or Evt o) c.in-Some.ensures in
     let there = sym c.in-Some-Data.ensures.value ∙ ap (λ p. Some p) c.in-Some-Data.field-0-is in
     let yes_place = is_place c.in-Some.ring.now.shape c.places.ensures.allowed c.args.address c.in-Some-Data.place c.in-Some-Data.field-0-1 c.requires there in
@@ -15,6 +15,6 @@ returns c = λ rows words w f.
     let now : position_from (event_shape c.args.header.now) w.dequeue c.args.address ≡ c.in_ok-dequeue.dequeue =
     (λ i. position_from (sym same i) (f.events.dequeue i) c.args.address) ∙ position
     ∙ sym (got ∙ (λ i. c.args.kept.now.events.dequeue + (c.from-place.ensures i + count i - c.args.kept.now.events.dequeue % count i) % count i)) in
-    follows_along c.args.header.now rows words _ (with_dequeue c.args.header.now w c.args.address)
+    follows_along c.args.header.now words _ (with_dequeue c.args.header.now w c.args.address)
     (record w { dequeue = position_from (event_shape c.args.header.now) w.dequeue c.args.address })
     (dequeue_set c.args.header.now w c.args.address (ap (λ s. is_event_place s c.args.address) (sym same) ∙ yes_place)) (assumption)

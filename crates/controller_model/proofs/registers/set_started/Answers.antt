@@ -1,4 +1,4 @@
 use Rattle.controller_model.proofs.registers.set_started.Goals as goal
 
 pub returns : goal.returns
-returns c = λ h rows words w f. assumption
+returns c = λ h words w f. assumption

@@ -21,5 +21,5 @@ returns c = λ rows words x f.
       live = ap (λ h. listed h r) f.live ∙ sym live;
       lists = λ n q found. ap (λ (h : Header). ring_with h n) declared ∙ listed_lists c.args.rings.now.declared c.args.rings.now.live r f.lists n q (sym (ap (λ (h : Header). ring_with h n) live) ∙ found);
       left = f.left;
-      follows = c.empty.ensures c.args.rings.now.declared c.list.new.header _ words x.world alike f.follows;
+      follows = c.empty.ensures c.args.rings.now.declared c.list.new.header words x.world alike f.follows;
     })

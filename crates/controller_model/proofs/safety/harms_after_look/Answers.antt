@@ -2,13 +2,13 @@ use Rattle.controller_model.proofs.Laws.{◌≡◌, ◌<◌, ◌∙◌, Some, le
 use Rattle.controller_model.proofs.safety.harms_after_look.Goals as goal
 
 pub returns-then-is_any : goal.returns-then-is_any
-returns-then-is_any g c = λ live rows w v before made f. c.ring_harms.ensures rows v f
+returns-then-is_any g c = λ live w v before made f. c.ring_harms.ensures v f
 
 pub returns-then-is_any-2 : goal.returns-then-is_any-2
-returns-then-is_any-2 g c = λ live rows w v before made f. c.ring_harms-then-is_any-2.ensures rows v f
+returns-then-is_any-2 g c = λ live w v before made f. c.ring_harms-then-is_any-2.ensures v f
 
 pub returns : goal.returns
-returns g c = λ live rows w v before made f.
+returns g c = λ live w v before made f.
     let h = c.args.header.now in
     let r = c.args.ring in
     let at = look_is h live w v r made in

@@ -13,29 +13,29 @@ loop-ring-preserved g c =
     let known = listed c.args.header.now.rings c.loop-ring.ring-index c.ring-item.result inside at in
     record {
       items = c.loop-ring.invariant.items;
-      order = λ rows w f.
+      order = λ w f.
           let old = f.rings.each c.ring-item.result.id c.index-state.result.now there in
           any_more (λ ring. is_out_of_order (shape_of c.args.header.now ring.id) (w.events ring.id)) c.args.header.now.rings c.loop-ring.ring-index c.ring-item.result _ _ inside at
-          (c.loop-ring.invariant.order rows w f) (c.is_out_of_order.ensures ∙ sym (old.harms known).order);
-      words = λ rows w f.
+          (c.loop-ring.invariant.order w f) (c.is_out_of_order.ensures ∙ sym (old.harms known).order);
+      words = λ w f.
           let old = f.rings.each c.ring-item.result.id c.index-state.result.now there in
           any_more (λ ring. has_other_words (shape_of c.args.header.now ring.id) (w.events ring.id)) c.args.header.now.rings c.loop-ring.ring-index c.ring-item.result _ _ inside at
-          (c.loop-ring.invariant.words rows w f) (c.has_other_words.ensures ∙ sym (old.harms known).words);
-      waiting = λ rows w f.
+          (c.loop-ring.invariant.words w f) (c.has_other_words.ensures ∙ sym (old.harms known).words);
+      waiting = λ w f.
           let old = f.rings.each c.ring-item.result.id c.index-state.result.now there in
           any_more (λ ring. waits w ring.id && is_inside_descriptor (w.events ring.id)) c.args.header.now.rings c.loop-ring.ring-index c.ring-item.result _ _ inside at
-          (c.loop-ring.invariant.waiting rows w f) (c.waits_inside.ensures c.args.header.now c.ring-item.result.id w old (sym (ap (λ y. y.memory) f.held)));
+          (c.loop-ring.invariant.waiting w f) (c.waits_inside.ensures c.args.header.now c.ring-item.result.id w old (sym (ap (λ y. y.memory) f.held)));
     }
 
 pub returns : goal.returns
 unfolding some_ring
-returns g c = λ rows w f.
+returns g c = λ w f.
     let past = take_past c.args.header.now.rings c.loop-ring.ring-index (omega (arith, ap length c.as_slice-ring-items.ensures)) in
     record {
-      order = c.loop-ring.invariant.order rows w f
+      order = c.loop-ring.invariant.order w f
           ∙ ap (λ xs. list_any (λ ring. is_out_of_order (shape_of c.args.header.now ring.id) (w.events ring.id)) xs) past;
-      words = c.loop-ring.invariant.words rows w f
+      words = c.loop-ring.invariant.words w f
           ∙ ap (λ xs. list_any (λ ring. has_other_words (shape_of c.args.header.now ring.id) (w.events ring.id)) xs) past;
-      waiting = c.loop-ring.invariant.waiting rows w f
+      waiting = c.loop-ring.invariant.waiting w f
           ∙ ap (λ xs. list_any (λ ring. waits w ring.id && is_inside_descriptor (w.events ring.id)) xs) past;
     }

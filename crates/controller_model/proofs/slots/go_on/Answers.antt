@@ -2,7 +2,7 @@ use Rattle.controller_model.proofs.Laws.{◌≡◌, ◌<◌, ◌∙◌, length, 
 use Rattle.controller_model.proofs.slots.go_on.Goals as goal
 
 pub returns-clause-change : goal.returns-clause-change
-returns-clause-change c = λ h rows words w f.
+returns-clause-change c = λ h words w f.
     let inside : c.args.slot < length c.args.kept.now.slots.items = omega (arith, c.args.kept.now.slots_many, c.ranges.slot) in
     let old = f.slots.each c.args.slot c.index_mut-kept_slot.result.now
     (read_at c.args.kept.now.slots.items c.from.result c.args.slot c.index_mut-kept_slot.result.now c.from.ensures inside c.index_mut-kept_slot.ensures.value) in

@@ -2,7 +2,7 @@ use Rattle.controller_model.proofs.Laws.{◌<◌, ◌∙◌, length, is_some, ap
 use Rattle.controller_model.proofs.successes.slot_allows.Goals as goal
 
 pub returns : goal.returns
-returns c = λ h rows words w f.
+returns c = λ h words w f.
     let inside : c.slot_meant-meant.result < length c.args.kept.now.slots.items = omega (arith, c.args.kept.now.slots_many, c.from.ensures) in
     let old = f.slots.each c.slot_meant-meant.result c.index.result.now
     (read_at c.args.kept.now.slots.items c.from.result c.slot_meant-meant.result c.index.result.now c.from.ensures inside c.index.ensures) in

@@ -3,11 +3,11 @@ use Rattle.controller_model.proofs.trials.can_configure.Goals as goal
 
 pub returns-then-deconfigure : goal.returns-then-deconfigure
 unfolding changes changed_by changed_by_all
-returns-then-deconfigure g c = λ h rows words d n w f. simp c.if-deconfigure.true
+returns-then-deconfigure g c = λ h words d n w f. simp c.if-deconfigure.true
 
 pub returns : goal.returns
 unfolding changes changed_by changed_by_all added_endpoints disabled
-returns g c = λ h rows words d n w f.
+returns g c = λ h words d n w f.
     let memory = g.M.WordMemory.words c.args.memory.now in
     let s = c.args.slot in
     let v = disabled (gone d w s) s (is_dropped memory c.args.context) in
@@ -15,7 +15,7 @@ returns g c = λ h rows words d n w f.
     let sees : Sees c.left-rings.result s w v = record {
       own = λ j below.
           (λ k. if eq-eqb s s refl k && (nat_le 2 j && has_flag (sym flags k) j) then None else w.ring_of s j)
-          ∙ sym (c.left-rings.ensures h rows words w f j below);
+          ∙ sym (c.left-rings.ensures h words w f j below);
       others = λ t j apart. ap (λ b. if b && (nat_le 2 j && has_flag (memory c.args.context) j) then None else w.ring_of t j) apart;
     } in
-    rw c.if-deconfigure.false (c.can_add_all.ensures h rows words d w v f sees)
+    rw c.if-deconfigure.false (c.can_add_all.ensures h words d w v f sees)

@@ -1,4 +1,4 @@
-use Rattle.knowledge_page.proofs.BaseWords.{◌≡◌, Some, ap, arith, length, text_of, ring_verdict, IsRange}
+use Rattle.knowledge_page.proofs.BaseWords.{◌≡◌, Some, ap, arith, length, text_of, trace_verdict, IsRange}
 use Rattle.knowledge_page.proofs.RowsFit.{rows_fit}
 use Rattle.knowledge_page.proofs.Verdicts.{range_of_all, range_to}
 use Rattle.knowledge_page.proofs.shown.no_row.Goals.{in-Ok, in-Err-Refused, in-Err-Memory}
@@ -16,7 +16,7 @@ returns c =
     elim c.match-standing_behind.branch [
       | in-Ok w ↦ rw w.result-is (range_of_all trace _ (rw same at w.in-Ok.ensures.standing.verdict) (omega (arith, placed, many)))
       | in-Err-Refused w ↦
-          let refused : ring_verdict trace.header trace.first c.as_slice-rows.result.now ≡ Some (w.in-Err-Refused.row, w.in-Err-Refused.field-0-1) =
+          let refused : trace_verdict trace.header trace.first c.as_slice-rows.result.now ≡ Some (w.in-Err-Refused.row, w.in-Err-Refused.field-0-1) =
           rw w.in-Err-Refused.field-0-is at w.in-Err-Refused.ensures.refused in
           let range : IsRange trace trace.first w.in-Err-Refused.row = range_to trace w.in-Err-Refused.row w.in-Err-Refused.field-0-1 (rw same at refused) in
           rw w.result-is (rw w.in-Err-Refused.row-is range)

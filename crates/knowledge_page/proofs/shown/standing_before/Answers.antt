@@ -1,4 +1,4 @@
-use Rattle.knowledge_page.proofs.BaseWords.{◌≡◌, ◌-◌, Some, ap, inl, inr, arith, length, text_of, ring_verdict}
+use Rattle.knowledge_page.proofs.BaseWords.{◌≡◌, ◌-◌, Some, ap, inl, inr, arith, length, text_of, trace_verdict}
 use Rattle.knowledge_page.proofs.RowsFit.{first_fit}
 use Rattle.knowledge_page.proofs.Verdicts.{behind_broken, not_there}
 use Rattle.knowledge_page.proofs.shown.standing_before.Goals.{then-row-trace-via-then-row-trace, then-row-trace-via-else-row-trace+then-row-trace-2}
@@ -28,7 +28,7 @@ returns-in-Err-Refused-clause-none c =
     let same = c.as_slice-rows.ensures in
     let many : length c.as_slice-rows.result.now ≡ length trace.rows = ap (λ xs. length xs) same in
     let taken = c.first_rows-before.ensures in
-    let refused : ring_verdict trace.header trace.first c.first_rows-before.result.now ≡ Some (c.in-Err-Refused.row, c.in-Err-Refused.field-0-1) =
+    let refused : trace_verdict trace.header trace.first c.first_rows-before.result.now ≡ Some (c.in-Err-Refused.row, c.in-Err-Refused.field-0-1) =
     rw c.in-Err-Refused.field-0-is at c.in-Err-Refused.ensures.refused in
     behind_broken trace (c.args.row - trace.first) c.args.row c.in-Err-Refused.row c.in-Err-Refused.field-0-1 (omega (arith, within, many)) (omega (arith, before))
     (rw same at (rw taken at refused))

@@ -1,4 +1,4 @@
-use Rattle.ownership_checker.proofs.Laws.{arith, ℕ, [], subst, reverse, err_from_is_err_and, Header, FollowsLeases, HoldsLents, header_now, ring_lents, opened_bad, sound_so}
+use Rattle.ownership_checker.proofs.Laws.{arith, ℕ, [], subst, reverse, err_from_is_err_and, Header, FollowsLeases, HoldsLents, header_now, lents, opened_bad, sound_so}
 use Rattle.ownership_checker.proofs.stream_check.check_stream.Goals as goal
 
 pub returns-in_err-reader-clause-line : goal.returns-in_err-reader-clause-line
@@ -14,7 +14,7 @@ returns-in-Whole-clause-accepted g c =
     let so = whole c.args.keeps held [] c.in_ok-reader.ensures.opened begins in
     let trace = so.0 in
     let past = reverse trace.rows in
-    (trace, so.1, sound_so HoldsLents trace book so.2 c.into_leases.result.items (c.into_leases.ensures (header_now trace.header past) (ring_lents trace.header trace.first past) so.2.kept))
+    (trace, so.1, sound_so HoldsLents trace book so.2 c.into_leases.result.items (c.into_leases.ensures (header_now trace.header past) (lents trace.header trace.first past) so.2.kept))
 
 pub returns-in-Refused-clause-refused : goal.returns-in-Refused-clause-refused
 returns-in-Refused-clause-refused g c = grind arith

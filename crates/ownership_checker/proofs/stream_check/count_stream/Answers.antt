@@ -1,4 +1,4 @@
-use Rattle.ownership_checker.proofs.Laws.{arith, false, ◌≡◌, ℕ, [], length, subst, reverse, err_from_is_err_and, Header, lents, header_now, ring_lents, LeaseCount, opened_bad, sound_count}
+use Rattle.ownership_checker.proofs.Laws.{arith, false, ◌≡◌, ℕ, [], length, subst, reverse, err_from_is_err_and, Header, lents, header_now, LeaseCount, opened_bad, sound_count}
 use Rattle.ownership_checker.proofs.stream_check.count_stream.Goals as goal
 
 pub returns-in_err-reader-clause-line : goal.returns-in_err-reader-clause-line
@@ -14,7 +14,7 @@ returns-in-Whole-clause-accepted g c =
     let so = whole false held [] c.in_ok-reader.ensures.opened begins in
     let trace = so.0 in
     let past = reverse trace.rows in
-    let count = c.count.ensures [] (header_now trace.header past) (ring_lents trace.header trace.first past) so.2.kept in
+    let count = c.count.ensures [] (header_now trace.header past) (lents trace.header trace.first past) so.2.kept in
     (trace, so.1, sound_count (λ h ts (l : LeaseCount). l.count ≡ length ts) trace log so.2 c.count.result count)
 
 pub returns-in-Refused-clause-refused : goal.returns-in-Refused-clause-refused

@@ -5,9 +5,9 @@ ghost use Rattle.segments.specs.RingView.{Restores, Withdraws as WithdrawsAt, fl
 ghost use Rattle.traces.specs.Header.{IsHeader, ring_with};
 ghost use Rattle.traces.specs.declared.header.Header.{Header};
 ghost use Rattle.traces.specs.Limits.{most_streamed_lines};
-ghost use Rattle.traces.specs.declared.row.Row.TheVariants.{Write};
-ghost use Rattle.traces.specs.declared.trace_row.TraceRow.{TraceRow};
-ghost use Rattle.traces.specs.declared.trace_row.TraceRow.TheVariants.{Plain, Withdraws};
+ghost use Rattle.traces.specs.declared.row.Row.TheVariants.{Write, Nop as NopRow};
+ghost use Rattle.traces.specs.declared.row.Row.{Row};
+ghost use Rattle.traces.specs.Rows.{is_ring_row};
 ghost use Rattle.ring_knowledge.specs.declared.lease.Lease.{Lease};
 ghost use Rattle.ring_knowledge.specs.Known.{Known};
 ghost use Rattle.ring_knowledge.specs.Learned.{learned};
@@ -16,8 +16,8 @@ ghost use Rattle.trace_record.specs.RingFinder.Finding.{IsFinder};
 ghost use Rattle.ownership_rules.specs.Leases.{without_end};
 ghost use Rattle.ownership_rules.specs.OpenLeases.{open_leases};
 ghost use Rattle.ownership_rules.specs.Refusal.{first_of};
-ghost use Rattle.ownership_rules.specs.Rules.{lenient};
-ghost use Rattle.safety.specs.EndpointsKeep.{is_transfer_ring};
+ghost use Rattle.ownership_rules.specs.Rules.{lenient, broken_restored};
+ghost use Rattle.ownership_rules.specs.Rings.{is_transfer_ring};
 ghost use Rattle.safety.specs.Keeps.{DriverKeeps};
 ghost use Rattle.leases.specs.LeaseBooks.InStep.{AreOpen};
 ghost use Rattle.leases.specs.LeaseBooks.Lents.{Lent, passed_on};
@@ -28,11 +28,10 @@ ghost use Rattle.trace_record.specs.Fresh.{IsWithin};
 ghost use Rattle.trace_record.specs.Steps.{IfRefused, IsRowStep};
 ghost use Rattle.trace_record.specs.RowPlaces.{IsPlaced, IsPlacedSo};
 ghost use Rattle.driver_rows.specs.RingRows.GivenCommands.{GivesCommandAt};
-ghost use Rattle.safety.specs.RingChanges.Histories.{header_now, known_now};
-ghost use Rattle.safety.specs.RingChanges.Withdrawals.{is_left, restored, ring_restored, some_flips};
+ghost use Rattle.ring_knowledge.specs.Histories.{header_now, known_now, restored, ring_restored};
+ghost use Rattle.ownership_rules.specs.Withdrawals.{is_left, some_flips};
 ghost use Rattle.ownership_checker.specs.RingPasses.Clean.{IsLeastOfRow};
 ghost use Rattle.ownership_checker.specs.RingPasses.Passing.{IsRingLogged, IsRingPassed};
-ghost use Rattle.ownership_checker.specs.RingPasses.Rules.{broken_restored};
 
 use super::RingPass;
 use crate::rows::check_row;
@@ -50,19 +49,19 @@ use traces::Row;
 impl<B: LeaseLog + Drop, M: WordMemory + Drop> RingPass<B, M> {
     /// Checks a descriptor that is withdrawn, ends the leases of its blocks, and notes it (xHCI 4.6.9).
     #[inline(never)]
-    pub fn descriptor_withdrawn(
+    pub(super) fn descriptor_withdrawn(
         &mut self,
         number: u32,
         id: u8,
         position: u64,
     ) -> Result<(), StepFault>
-        requires so_far { (h : Header) × (past : List TraceRow) × IsRingPassed M.words h past self.old }
-        ensures passed { OnOk result ((h : Header) (past : List TraceRow) → IsRingPassed M.words h past self.old → IsRingPassed M.words h (Withdraws id position ∷ past) self.new) }
-        ensures logged { OnOk result ((list : List Lease) (h : Header) (first : ℕ) (past : List TraceRow) → IsRingPassed M.words h past self.old →
+        requires so_far { (h : Header) × (past : List Row) × IsRingPassed M.words h past self.old }
+        ensures passed { OnOk result ((h : Header) (past : List Row) → IsRingPassed M.words h past self.old → IsRingPassed M.words h (NopRow id position ∷ past) self.new) }
+        ensures logged { OnOk result ((list : List Lease) (h : Header) (first : ℕ) (past : List Row) → IsRingPassed M.words h past self.old →
             number ≡ first + length past → first + length past < without_end →
-            IsRingLogged (B.holds list) h first past self.old → IsRingLogged (B.holds list) h first (Withdraws id position ∷ past) self.new) }
-        ensures refused { IfErr result (λ e. IfRefused e (λ c. (h : Header) (past : List TraceRow) → IsRingPassed M.words h past self.old →
-            IsLeastOfRow (header_now h past) (known_now h past) (Withdraws id position) c)) }
+            IsRingLogged (B.holds list) h first past self.old → IsRingLogged (B.holds list) h first (NopRow id position ∷ past) self.new) }
+        ensures refused { IfErr result (λ e. IfRefused e (λ c. (h : Header) (past : List Row) → IsRingPassed M.words h past self.old →
+            IsLeastOfRow (header_now h past) (known_now h past) (NopRow id position) c)) }
     {
         if self.record.registers.is_stopped() {
             return Err(StepFault::Refused(Refusal::AfterStop));
@@ -109,14 +108,15 @@ impl<B: LeaseLog + Drop, M: WordMemory + Drop> RingPass<B, M> {
     /// Checks a row of the driver where descriptors were withdrawn, and notes it and its leases.
     #[inline(never)]
     pub(super) fn row_behind_withdrawals(&mut self, number: u32, row: &Row) -> Result<(), StepFault>
-        requires so_far { (h : Header) × (past : List TraceRow) × IsRingPassed M.words h past self.old × (length past ≤ most_streamed_lines) }
+        requires so_far { (h : Header) × (past : List Row) × IsRingPassed M.words h past self.old × (length past ≤ most_streamed_lines) }
         requires withdrawn { self.old.has_withdrawn ≡ true }
-        ensures passed { OnOk result ((h : Header) (past : List TraceRow) → IsRingPassed M.words h past self.old → IsRingPassed M.words h (Plain row.now ∷ past) self.new) }
-        ensures logged { OnOk result ((list : List Lease) (h : Header) (first : ℕ) (past : List TraceRow) → IsRingPassed M.words h past self.old →
+        requires driven { is_ring_row row.now ≡ false }
+        ensures passed { OnOk result ((h : Header) (past : List Row) → IsRingPassed M.words h past self.old → IsRingPassed M.words h (row.now ∷ past) self.new) }
+        ensures logged { OnOk result ((list : List Lease) (h : Header) (first : ℕ) (past : List Row) → IsRingPassed M.words h past self.old →
             number ≡ first + length past → first + length past < without_end →
-            IsRingLogged (B.holds list) h first past self.old → IsRingLogged (B.holds list) h first (Plain row.now ∷ past) self.new) }
-        ensures refused { IfErr result (λ e. IfRefused e (λ c. (h : Header) (past : List TraceRow) → IsRingPassed M.words h past self.old →
-            IsLeastOfRow (header_now h past) (known_now h past) (Plain row.now) c)) }
+            IsRingLogged (B.holds list) h first past self.old → IsRingLogged (B.holds list) h first (row.now ∷ past) self.new) }
+        ensures refused { IfErr result (λ e. IfRefused e (λ c. (h : Header) (past : List Row) → IsRingPassed M.words h past self.old →
+            IsLeastOfRow (header_now h past) (known_now h past) row.now c)) }
     {
         if self.record.registers.is_stopped() {
             return Err(StepFault::Refused(Refusal::AfterStop));
@@ -133,10 +133,11 @@ impl<B: LeaseLog + Drop, M: WordMemory + Drop> RingPass<B, M> {
 
     /// The least rule that a row breaks that starts or moves a ring which doesn't stand as declared: rule 33 is the last of them.
     fn refusal_left(&mut self, row: &Row, place: &RowPlace) -> StepFault
-        requires so_far { (h : Header) × (past : List TraceRow) × IsRingPassed M.words h past self.old × (length past ≤ most_streamed_lines) }
-        ensures { IfRefused result (λ c. (h : Header) (past : List TraceRow) → IsRingPassed M.words h past self.old → IsPlaced self.old.header (known_now h past) row.now place.now →
+        requires so_far { (h : Header) × (past : List Row) × IsRingPassed M.words h past self.old × (length past ≤ most_streamed_lines) }
+        requires driven { is_ring_row row.now ≡ false }
+        ensures { IfRefused result (λ c. (h : Header) (past : List Row) → IsRingPassed M.words h past self.old → IsPlaced self.old.header (known_now h past) row.now place.now →
             (known_now h past).stopped ≡ false → is_left (header_now h past) (known_now h past) (ring_restored (header_now h past) (known_now h past) row.now) ≡ true →
-            IsLeastOfRow (header_now h past) (known_now h past) (Plain row.now) c) }
+            IsLeastOfRow (header_now h past) (known_now h past) row.now c) }
     {
         match check_row(
             &self.header,
@@ -176,6 +177,7 @@ impl<B: LeaseLog + Drop, M: WordMemory + Drop> RingPass<B, M> {
         requires found { IsFinder self.old.header.rings self.old.finder }
         requires as_many { length self.old.record.rings.items ≡ length self.old.header.rings }
         requires few_reads { IsWithin self.old.record.events most_streamed_lines }
+        requires driven { is_ring_row row.now ≡ false }
         ensures header { self.new.header ≡ self.old.header }
         ensures finder { self.new.finder ≡ self.old.finder }
         ensures log { self.new.log ≡ self.old.log }
@@ -214,16 +216,17 @@ impl<B: LeaseLog + Drop, M: WordMemory + Drop> RingPass<B, M> {
         requires headed { IsHeader self.old.header }
         requires found { IsFinder self.old.header.rings self.old.finder }
         requires as_many { length self.old.record.rings.items ≡ length self.old.header.rings }
+        requires driven { is_ring_row row.now ≡ false }
         ensures header { self.new.header ≡ self.old.header }
         ensures finder { self.new.finder ≡ self.old.finder }
         ensures record { self.new.record ≡ self.old.record }
         ensures memory { self.new.memory ≡ self.old.memory }
         ensures withdrawn { self.new.has_withdrawn ≡ self.old.has_withdrawn }
-        ensures logged { OnOk result ((list : List Lease) (h : Header) (first : ℕ) (past : List TraceRow) → IsRingPassed M.words h past self.old →
+        ensures logged { OnOk result ((list : List Lease) (h : Header) (first : ℕ) (past : List Row) → IsRingPassed M.words h past self.old →
             IsPlaced self.old.header (known_now h past) row.now place.now → ring ≡ ring_restored (header_now h past) (known_now h past) row.now →
             lenient (header_now h past) (restored (header_now h past) (known_now h past) row.now) row.now ≡ [] →
             number ≡ first + length past → first + length past < without_end →
-            IsRingLogged (B.holds list) h first past self.old → IsRingLogged (B.holds list) h first (Plain row.now ∷ past) self.new) }
+            IsRingLogged (B.holds list) h first past self.old → IsRingLogged (B.holds list) h first (row.now ∷ past) self.new) }
     {
         let Some(id) = ring else {
             return note_row(

@@ -3,4 +3,4 @@ use Rattle.trace_reader.proofs.quick.declaration_ahead.Goals as goal
 
 pub returns : goal.returns
 returns c =
-    found_ahead (λ said. Sub said.0 (said.1 ∷ [])) c.args.text.now c.in_ok-content_ahead.field-0.now 42 c.quick_declaration.result (λ said. refl) c.in_ok-content_ahead.ensures c.quick_declaration.ensures
+    found_ahead (λ said. Sub said.0 (said.1 ∷ [])) c.args.text.now c.in_ok-content_ahead.field-0.now 42 c.quick_declaration.result (λ said. (refl, refl)) c.in_ok-content_ahead.ensures c.quick_declaration.ensures

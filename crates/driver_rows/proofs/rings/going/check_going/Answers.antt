@@ -1,4 +1,4 @@
-use Rattle.driver_rows.proofs.Laws.{refl, arith, slice_get_within, rest_header, rest_is, went}
+use Rattle.driver_rows.proofs.Laws.{refl, arith, going_kept, slice_get_within, rest_header, rest_is, went}
 use Rattle.driver_rows.proofs.rings.going.check_going.Goals as goal
 
 pub remove-requires : goal.remove-requires
@@ -23,4 +23,4 @@ pub returns-clause-ok : goal.returns-clause-ok
 returns-clause-ok c = λ k m f keeps on.
     let h = c.args.header.now in
     let good = c.in-Some.ensures.free k m f in
-    record { kept = (on, good); followed = went h c.requires.headed c.args.id c.in-Some.number c.in-Some.ensures.there k keeps good c.args.kept.now m f (record c.args.kept.now { rings = c.remove.new.self }) c.remove.ensures.items }
+    record { kept = going_kept h k on c.args.id good; followed = went h c.requires.headed c.args.id c.in-Some.number c.in-Some.ensures.there k keeps good c.args.kept.now m f (record c.args.kept.now { rings = c.remove.new.self }) c.remove.ensures.items }

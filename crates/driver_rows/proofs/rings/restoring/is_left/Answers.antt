@@ -1,5 +1,5 @@
 use Rattle.driver_rows.proofs.Laws.{◌≡◌, ◌∙◌, ap, arith, get_or, length, refl, subst, sym, slice_get_read, slice_get_within, Ring, false≢true, NamesTransfer, read_there, left_so}
-use Rattle.safety.specs.RingChanges.Withdrawals.{is_left}
+use Rattle.ownership_rules.specs.Withdrawals.{is_left}
 use Rattle.driver_rows.proofs.rings.restoring.is_left.Goals as goal
 
 pub returns-in_default : goal.returns-in_default

@@ -1,9 +1,9 @@
-use Rattle.driver_rows.proofs.Laws.{◌≡◌, ◌∙◌, ap, arith, rules, get_or, length, refl, inl, inr, slice_get_read, slice_get_within, Ring, read_there, known_read, passed_so, withdrawn_so, if_both, if_ok, if_refused, may, may_not, may_now, floor_low, is_bad_withdraw, withdraws_badly}
+use Rattle.driver_rows.proofs.Laws.{◌≡◌, ◌∙◌, ap, arith, rules, get_or, length, refl, inl, inr, slice_get_read, slice_get_within, Ring, read_there, known_read, passed_so, withdrawn_so, if_both, if_ok, or_true, if_refused, may, may_not, may_now, withdrawing_kept, floor_low, is_bad_withdraw, withdraws_badly}
 use Rattle.driver_rows.proofs.rings.withdrawing.check_withdrawing.Goals as goal
 
 pub returns-in_default-clause-refused : goal.returns-in_default-clause-refused
 unfolding withdraws_badly is_bad_withdraw
-returns-in_default-clause-refused g c = (refl, λ k f d fits. rw (c.in_default.ensures.none k f d fits) refl)
+returns-in_default-clause-refused g c = (refl, λ k f d fits. rw (c.in_default.ensures.none k f d fits) (or_true _))
 
 pub returns : goal.returns
 returns g c =
@@ -21,7 +21,7 @@ returns g c =
     record {
       ok = if_both c.withdraw_on.result
           (λ rule noted k f d fits on. record {
-            kept = (on, may h k c.args.id c.args.position (c.in-Some.ensures.stopped k f d fits) (rule (k.ring c.args.id) (known k m f shape read) (low k m f shape read d)).1);
+            kept = withdrawing_kept h k on c.args.id c.args.position (may h k c.args.id c.args.position (c.in-Some.ensures.stopped k f d fits) (rule (k.ring c.args.id) (known k m f shape read) (low k m f shape read d)).1);
             followed = withdrawn_so h c.requires.headed c.args.id n there c.args.kept.now old at k m f shape read c.args.position c.withdraw_on.new.known (noted (k.ring c.args.id) (known k m f shape read) (low k m f shape read d));
           })
           c.withdraw_on.ensures.rule c.withdraw_on.ensures.ok;

@@ -15,77 +15,21 @@ returns-clause-whole g c =
     let told = c.in_ok-number.ensures in
     whole_so c.loop-pass.invariant.0 (ended c.loop-pass.reader c.next_row.new.self c.in_default.is told.same told.over told.answer) (λ ended. ap (g.S.Source.held) (c.next_row.ensures.nothing ended).2) c.into_log.result c.into_log.ensures.harmless c.into_log.ensures.logged
 
-pub ring_comes-requires-clause-transfers : goal.ring_comes-requires-clause-transfers
-ring_comes-requires-clause-transfers g c = grind (arith, given, fits_so)
-
-pub loop-pass-smaller-in-Ok : goal.loop-pass-smaller-in-Ok
-loop-pass-smaller-in-Ok g c = fewer_left (given c.loop-pass.reader c.next_row.new.self c.in-Some.is c.in_ok-number.ensures.same c.in_ok-number.ensures.over c.in_ok-number.ensures.answer)
-
-pub loop-pass-preserved-in-Ok : goal.loop-pass-preserved-in-Ok
-loop-pass-preserved-in-Ok g c = (
-  row_passed c.loop-pass.invariant.0 (given c.loop-pass.reader c.next_row.new.self c.in-Some.is c.in_ok-number.ensures.same c.in_ok-number.ensures.over c.in_ok-number.ensures.answer) c.in-Plain.is c.driver_row.new.self c.in-Ok.ensures.passed c.in-Ok.ensures.logged,
-  c.in_ok-number.ensures.failures ∙ c.loop-pass.invariant.1,
-)
-
-pub returns-in-Err-clause-refused : goal.returns-in-Err-clause-refused
-returns-in-Err-clause-refused g c =
-    ended_refused c.ended_at.result _ _
-    (refused_at c.loop-pass.invariant.0 (given c.loop-pass.reader c.next_row.new.self c.in-Some.is c.in_ok-number.ensures.same c.in_ok-number.ensures.over c.in_ok-number.ensures.answer) c.in-Plain.is _ c.in-Err.ensures.refused) c.ended_at.ensures.refused
-
-pub returns-in-Err-clause-line : goal.returns-in-Err-clause-line
-returns-in-Err-clause-line g c =
-    ended_bad c.ended_at.result _ _ (bad_behind c.loop-pass.invariant.0 (given c.loop-pass.reader c.next_row.new.self c.in-Some.is c.in_ok-number.ensures.same c.in_ok-number.ensures.over c.in_ok-number.ensures.answer) c.in-Plain.is _) c.ended_at.ensures.line
-
-pub loop-pass-smaller-in-Ok-ring_comes : goal.loop-pass-smaller-in-Ok-ring_comes
-loop-pass-smaller-in-Ok-ring_comes g c = fewer_left (given c.loop-pass.reader c.next_row.new.self c.in-Some.is c.in_ok-number.ensures.same c.in_ok-number.ensures.over c.in_ok-number.ensures.answer)
-
-pub loop-pass-preserved-in-Ok-ring_comes : goal.loop-pass-preserved-in-Ok-ring_comes
-loop-pass-preserved-in-Ok-ring_comes g c = (
-  row_passed c.loop-pass.invariant.0 (given c.loop-pass.reader c.next_row.new.self c.in-Some.is c.in_ok-number.ensures.same c.in_ok-number.ensures.over c.in_ok-number.ensures.answer) c.in-Comes.is c.ring_comes.new.self (rw c.into_ring.ensures at c.in-Ok-ring_comes.ensures.passed) (λ list h first past p numbered. (rw c.into_ring.ensures at c.in-Ok-ring_comes.ensures.logged) list h first past p),
-  c.in_ok-number.ensures.failures ∙ c.loop-pass.invariant.1,
-)
-
-pub returns-in-Err-ring_comes-clause-refused : goal.returns-in-Err-ring_comes-clause-refused
-returns-in-Err-ring_comes-clause-refused g c =
-    ended_refused c.ended_at-in-Err-ring_comes.result _ _
-    (refused_at c.loop-pass.invariant.0 (given c.loop-pass.reader c.next_row.new.self c.in-Some.is c.in_ok-number.ensures.same c.in_ok-number.ensures.over c.in_ok-number.ensures.answer) c.in-Comes.is _ (rw c.into_ring.ensures at c.in-Err-ring_comes.ensures.refused)) c.ended_at-in-Err-ring_comes.ensures.refused
-
-pub returns-in-Err-ring_comes-clause-line : goal.returns-in-Err-ring_comes-clause-line
-returns-in-Err-ring_comes-clause-line g c =
-    ended_bad c.ended_at-in-Err-ring_comes.result _ _ (bad_behind c.loop-pass.invariant.0 (given c.loop-pass.reader c.next_row.new.self c.in-Some.is c.in_ok-number.ensures.same c.in_ok-number.ensures.over c.in_ok-number.ensures.answer) c.in-Comes.is _) c.ended_at-in-Err-ring_comes.ensures.line
-
-pub loop-pass-smaller-in-Ok-ring_goes : goal.loop-pass-smaller-in-Ok-ring_goes
-loop-pass-smaller-in-Ok-ring_goes g c = fewer_left (given c.loop-pass.reader c.next_row.new.self c.in-Some.is c.in_ok-number.ensures.same c.in_ok-number.ensures.over c.in_ok-number.ensures.answer)
-
-pub loop-pass-preserved-in-Ok-ring_goes : goal.loop-pass-preserved-in-Ok-ring_goes
-loop-pass-preserved-in-Ok-ring_goes g c = (
-  row_passed c.loop-pass.invariant.0 (given c.loop-pass.reader c.next_row.new.self c.in-Some.is c.in_ok-number.ensures.same c.in_ok-number.ensures.over c.in_ok-number.ensures.answer) c.in-Goes.is c.ring_goes.new.self c.in-Ok-ring_goes.ensures.passed c.in-Ok-ring_goes.ensures.logged,
-  c.in_ok-number.ensures.failures ∙ c.loop-pass.invariant.1,
-)
-
-pub returns-in-Err-ring_goes-clause-refused : goal.returns-in-Err-ring_goes-clause-refused
-returns-in-Err-ring_goes-clause-refused g c =
-    ended_refused c.ended_at-in-Err-ring_goes.result _ _
-    (refused_at c.loop-pass.invariant.0 (given c.loop-pass.reader c.next_row.new.self c.in-Some.is c.in_ok-number.ensures.same c.in_ok-number.ensures.over c.in_ok-number.ensures.answer) c.in-Goes.is _ c.in-Err-ring_goes.ensures.refused) c.ended_at-in-Err-ring_goes.ensures.refused
-
-pub returns-in-Err-ring_goes-clause-line : goal.returns-in-Err-ring_goes-clause-line
-returns-in-Err-ring_goes-clause-line g c =
-    ended_bad c.ended_at-in-Err-ring_goes.result _ _ (bad_behind c.loop-pass.invariant.0 (given c.loop-pass.reader c.next_row.new.self c.in-Some.is c.in_ok-number.ensures.same c.in_ok-number.ensures.over c.in_ok-number.ensures.answer) c.in-Goes.is _) c.ended_at-in-Err-ring_goes.ensures.line
+pub row-requires-clause-fits : goal.row-requires-clause-fits
+row-requires-clause-fits g c = fits_so c.loop-pass.invariant.0 (given c.loop-pass.reader c.next_row.new.self c.in-Some.is c.in_ok-number.ensures.same c.in_ok-number.ensures.over c.in_ok-number.ensures.answer) refl
 
 pub loop-pass-smaller : goal.loop-pass-smaller
 loop-pass-smaller g c = fewer_left (given c.loop-pass.reader c.next_row.new.self c.in-Some.is c.in_ok-number.ensures.same c.in_ok-number.ensures.over c.in_ok-number.ensures.answer)
 
 pub loop-pass-preserved : goal.loop-pass-preserved
 loop-pass-preserved g c = (
-  row_passed c.loop-pass.invariant.0 (given c.loop-pass.reader c.next_row.new.self c.in-Some.is c.in_ok-number.ensures.same c.in_ok-number.ensures.over c.in_ok-number.ensures.answer) c.in-Withdraws.is c.descriptor_withdrawn.new.self c.in-Ok-descriptor_withdrawn.ensures.passed c.in-Ok-descriptor_withdrawn.ensures.logged,
+  row_passed c.loop-pass.invariant.0 (given c.loop-pass.reader c.next_row.new.self c.in-Some.is c.in_ok-number.ensures.same c.in_ok-number.ensures.over c.in_ok-number.ensures.answer) refl c.row.new.self c.in-Ok.ensures.passed c.in-Ok.ensures.logged,
   c.in_ok-number.ensures.failures ∙ c.loop-pass.invariant.1,
 )
 
-pub returns-in-Err-descriptor_withdrawn-clause-refused : goal.returns-in-Err-descriptor_withdrawn-clause-refused
-returns-in-Err-descriptor_withdrawn-clause-refused g c =
-    ended_refused c.ended_at-in-Err-descriptor_withdrawn.result _ _
-    (refused_at c.loop-pass.invariant.0 (given c.loop-pass.reader c.next_row.new.self c.in-Some.is c.in_ok-number.ensures.same c.in_ok-number.ensures.over c.in_ok-number.ensures.answer) c.in-Withdraws.is _ c.in-Err-descriptor_withdrawn.ensures.refused) c.ended_at-in-Err-descriptor_withdrawn.ensures.refused
+pub returns-in-Err-clause-refused : goal.returns-in-Err-clause-refused
+returns-in-Err-clause-refused g c =
+    ended_refused c.ended_at.result _ _ (refused_at c.loop-pass.invariant.0 (given c.loop-pass.reader c.next_row.new.self c.in-Some.is c.in_ok-number.ensures.same c.in_ok-number.ensures.over c.in_ok-number.ensures.answer) refl _ c.in-Err.ensures.refused) c.ended_at.ensures.refused
 
-pub returns-in-Err-descriptor_withdrawn-clause-line : goal.returns-in-Err-descriptor_withdrawn-clause-line
-returns-in-Err-descriptor_withdrawn-clause-line g c =
-    ended_bad c.ended_at-in-Err-descriptor_withdrawn.result _ _ (bad_behind c.loop-pass.invariant.0 (given c.loop-pass.reader c.next_row.new.self c.in-Some.is c.in_ok-number.ensures.same c.in_ok-number.ensures.over c.in_ok-number.ensures.answer) c.in-Withdraws.is _) c.ended_at-in-Err-descriptor_withdrawn.ensures.line
+pub returns-in-Err-clause-line : goal.returns-in-Err-clause-line
+returns-in-Err-clause-line g c = ended_bad c.ended_at.result _ _ (bad_behind c.loop-pass.invariant.0 (given c.loop-pass.reader c.next_row.new.self c.in-Some.is c.in_ok-number.ensures.same c.in_ok-number.ensures.over c.in_ok-number.ensures.answer) refl _) c.ended_at.ensures.line

@@ -1,4 +1,4 @@
-use Rattle.replayer.proofs.MiddleLaws.{◌+◌, drop, sym, ◌∙◌, refl, arith, Header, List, TraceRow, spot_in, first_notes, one_note, no_note, steps_with}
+use Rattle.replayer.proofs.MiddleLaws.{◌+◌, drop, sym, ◌∙◌, refl, arith, Header, List, Row, spot_in, first_notes, one_note, no_note, steps_with}
 use Rattle.replayer.proofs.lazy_steps.walk.walk_notes.Goals as goal
 
 pub loop-note-init : goal.loop-note-init
@@ -13,7 +13,7 @@ pub loop-note-preserved : goal.loop-note-preserved
 loop-note-preserved c =
     let i = c.loop-note.invariant in
     let h : Header = c.loop-note.header in
-    let left : List TraceRow = drop c.loop-note.next c.args.rows.now in
+    let left : List Row = drop c.loop-note.next c.args.rows.now in
     let after = c.in_ok-next.ensures in
     record {
       size = c.walk_note.ensures.size;

@@ -1,11 +1,11 @@
-use Rattle.replayer.proofs.MiddleLaws.{◌≡◌, ◌∙◌, ◌+◌, ◌*◌, ◌≤◌, List, arith, headline, length, reverse, All, Header, Step, TraceRow, IsHeader, AreSteps, IsTraceRow, scene_replayed, NoHarm, AreKept, FitsFields, AreClean, kept_now, IsTimely, lazy_steps, ContainsAll, all_are_read, few_steps, lazy_steps_are, rows_fit, without_harm}
+use Rattle.replayer.proofs.MiddleLaws.{◌≡◌, ◌∙◌, ◌+◌, ◌*◌, ◌≤◌, List, arith, headline, length, reverse, All, Header, Step, Row, IsHeader, AreSteps, IsTraceRow, scene_replayed, NoHarm, AreKept, IsRow, AreClean, kept_now, IsTimely, lazy_steps, ContainsAll, all_are_read, few_steps, lazy_steps_are, rows_fit, without_harm}
 use Rattle.replayer.proofs.Schedules.Floors.{stands_at_floors}
 use Rattle.replayer.specs.Schedules.Floors.{StandsAtFloors}
 use Rattle.replayer.proofs.Schedules.Fitting.{rows_of_fit}
 use Rattle.replayer.proofs.scheduler.lazy.lazy_schedule.Goals as goal
 
-module _ (h : Header) (headed : IsHeader h) (rows slice : List TraceRow) (fitting : All IsTraceRow rows) (value : slice ≡ rows) (clean : AreClean h (reverse slice)) (steps made : List Step) (new : steps ≡ made) (lazy : made ≡ lazy_steps h slice) where
-  fits : All FitsFields rows
+module _ (h : Header) (headed : IsHeader h) (rows slice : List Row) (fitting : All IsTraceRow rows) (value : slice ≡ rows) (clean : AreClean h (reverse slice)) (steps made : List Step) (new : steps ≡ made) (lazy : made ≡ lazy_steps h slice) where
+  fits : All IsRow rows
   fits = rows_fit rows fitting
 
   kept : AreKept h (reverse rows)

@@ -1,11 +1,11 @@
 use Rattle.std.proofs.Common.{◌∙◌, refl}
-use Rattle.world_state.specs.RingRows.{with_ring, without_ring}
+use Rattle.traces.specs.LivingRings.{with_ring, without_ring}
 use Rattle.replayer.proofs.scheduler.rings.follow_rings.Goals as goal
 
-pub returns-in_ok-add_ring-in-Comes : goal.returns-in_ok-add_ring-in-Comes
+pub returns-in_ok-add_ring-in-Ring : goal.returns-in_ok-add_ring-in-Ring
 unfolding with_ring
-returns-in_ok-add_ring-in-Comes c h before = rw c.in-Comes.is (c.in_ok-add_ring-in-Comes.ensures ∙ rw (before, c.as_ring.ensures) refl)
+returns-in_ok-add_ring-in-Ring c h before = rw c.in-Ring.is (c.in_ok-add_ring-in-Ring.ensures ∙ rw (before, c.as_ring.ensures) refl)
 
-pub returns-in-Goes : goal.returns-in-Goes
+pub returns-in-Free : goal.returns-in-Free
 unfolding without_ring
-returns-in-Goes c h before = rw c.in-Goes.is (c.drop_ring.ensures ∙ rw before refl)
+returns-in-Free c h before = rw c.in-Free.is (c.drop_ring.ensures ∙ rw before refl)

@@ -1,10 +1,10 @@
-use Rattle.ownership_checker.proofs.Laws.{◌≡◌, ◌∙◌, ◌∷◌, false, length, refl, sym, subst, err_from_is_err_and, IsWithin, Header, on_ring, BadWithdraw, header_now, known_now, is_bad_withdraw, withdraws_badly, ring_lents, Withdraws, WithdrawsAt, contexts_fit, withdrawn_now, least_stopped, withdrawn_transfer, behind_logged, held_before, opened_before, same_still, withdrawn_behind, withdrawn_refused}
+use Rattle.ownership_checker.proofs.Laws.{◌≡◌, ◌∙◌, ◌∷◌, false, length, refl, sym, subst, err_from_is_err_and, IsWithin, Header, on_ring, header_now, known_now, is_bad_withdraw, lents, NopRow, WithdrawsAt, contexts_fit, withdrawn_now, withdrawn_transfer, behind_logged, held_before, opened_before, same_still, withdrawn_behind, withdrawn_refused, least_off, kept_withdrawing}
 use Rattle.ownership_checker.proofs.pass.ring_pass.RingPass.descriptor_withdrawn.Goals as goal
 
 pub returns-then-is_stopped-clause-refused : goal.returns-then-is_stopped-clause-refused
 returns-then-is_stopped-clause-refused g c = λ h past p.
     let k = known_now h past in
-    least_stopped k BadWithdraw (withdraws_badly (header_now h past) k c.args.id c.args.position) (sym (c.is_stopped.ensures k p.tracked.follows.registers) ∙ c.if-is_stopped.true)
+    least_off (header_now h past) k (NopRow c.args.id c.args.position) (sym (c.is_stopped.ensures k p.tracked.follows.registers) ∙ c.if-is_stopped.true)
 
 pub returns-in_err-check_withdrawing-clause-refused : goal.returns-in_err-check_withdrawing-clause-refused
 returns-in_err-check_withdrawing-clause-refused g c =
@@ -45,7 +45,7 @@ returns-clause-logged g c = λ list h first past p numbered room held.
     let keeps = q.tracked.keeps on in
     let step = c.in_ok-check_withdrawing.ensures.ok k q.tracked.follows keeps (contexts_fit later.header k keeps) on in
     let from = c.in_ok-check_withdrawing.ensures.from k q.tracked.follows keeps (contexts_fit later.header k keeps) in
-    let good = subst (λ (x : Header). is_bad_withdraw x k id at ≡ false) c.end_withdrawn.ensures.header step.kept.1 in
-    behind_logged words Holds other h first past before p room (λ y. on_ring y k id (WithdrawsAt at)) (ring_lents h first (Withdraws id at ∷ past)) (withdrawn_now h first past id at) c.args.number numbered later.log later.ranges
-    (c.end_withdrawn.ensures.ended list k (words before.memory) (ring_lents h first past) p.tracked.follows from (withdrawn_transfer before.header k (p.tracked.keeps on) id at good)
+    let good = subst (λ (x : Header). is_bad_withdraw x k id at ≡ false) c.end_withdrawn.ensures.header (kept_withdrawing later.header k id at step.kept).1 in
+    behind_logged words Holds other h first past before p room (NopRow id at) refl (λ y. on_ring y k id (WithdrawsAt at)) (withdrawn_now h first past id at) c.args.number numbered later.log later.ranges
+    (c.end_withdrawn.ensures.ended list k (words before.memory) (lents h first past) p.tracked.follows from (withdrawn_transfer before.header k (p.tracked.keeps on) id at good)
     (opened_before words Holds other h first past before p room) (held_before words Holds other h first past before p room before.log before.ranges held))

@@ -1,10 +1,10 @@
-use Rattle.ownership_checker.proofs.Laws.{◌≡◌, ◌∙◌, false, length, refl, sym, subst, err_from_is_err_and, IsWithin, header_now, known_now, BadRing, Header, IsHeader, is_bad_ring, least_stopped, comes_behind, comes_refused, coming_by_header, comes_logged}
+use Rattle.ownership_checker.proofs.Laws.{◌≡◌, ◌∙◌, false, length, refl, sym, subst, err_from_is_err_and, IsWithin, header_now, known_now, Header, IsHeader, is_bad_ring, comes_behind, comes_refused, coming_by_header, comes_logged, least_off, kept_coming, RingRow}
 use Rattle.ownership_checker.proofs.pass.ring_pass.RingPass.ring_comes.Goals as goal
 
 pub returns-then-is_stopped-clause-refused : goal.returns-then-is_stopped-clause-refused
 returns-then-is_stopped-clause-refused g c = λ h past p.
     let k = known_now h past in
-    least_stopped k BadRing (is_bad_ring (header_now h past) k c.args.ring) (sym (c.is_stopped.ensures k p.tracked.follows.registers) ∙ c.if-is_stopped.true)
+    least_off (header_now h past) k (RingRow c.args.ring) (sym (c.is_stopped.ensures k p.tracked.follows.registers) ∙ c.if-is_stopped.true)
 
 pub returns-in_err-check_coming-clause-refused : goal.returns-in_err-check_coming-clause-refused
 returns-in_err-check_coming-clause-refused g c =
@@ -33,4 +33,4 @@ returns-clause-logged g c = λ list h first past p room held.
     let step = c.in_ok-check_coming.ensures.ok k p.tracked.follows (p.tracked.keeps on) on in
     let coming = coming_by_header before.header c.args.ring (subst IsHeader c.in_ok-check_coming.ensures.comes c.in_ok-check_coming.ensures.headed) c.requires.transfers in
     comes_logged words (g.B.LeaseLog.holds list) (g.met.B.LeaseLog.other_rings list) h first past before p room c.args.ring coming on
-    (subst (λ (x : Header). is_bad_ring x k c.args.ring ≡ false) p.header step.kept.1) held
+    (subst (λ (x : Header). is_bad_ring x k c.args.ring ≡ false) p.header (kept_coming before.header k c.args.ring step.kept).1) held

@@ -1,10 +1,10 @@
-use Rattle.ownership_checker.proofs.Laws.{◌≡◌, ◌∙◌, ◌∷◌, false, arith, length, refl, sym, subst, err_from_is_err_and, IsWithin, header_now, known_now, BadFree, Header, Goes, AreOpen, RangeIndexes, HoldsAll, is_bad_free, without_ring, ring_lents, lent_open, least_stopped, goes_behind, goes_refused, same_still, goes_logged, goes_transfer}
+use Rattle.ownership_checker.proofs.Laws.{◌≡◌, ◌∙◌, ◌∷◌, false, arith, length, refl, sym, subst, err_from_is_err_and, IsWithin, header_now, known_now, Header, FreeRow, AreOpen, RangeIndexes, HoldsAll, is_bad_free, without_ring, lents, lent_open, goes_behind, goes_refused, same_still, goes_logged, goes_transfer, least_off, kept_going}
 use Rattle.ownership_checker.proofs.pass.ring_pass.RingPass.ring_goes.Goals as goal
 
 pub returns-then-is_stopped-clause-refused : goal.returns-then-is_stopped-clause-refused
 returns-then-is_stopped-clause-refused g c = λ h past p.
     let k = known_now h past in
-    least_stopped k BadFree (is_bad_free (header_now h past) k c.args.id) (sym (c.is_stopped.ensures k p.tracked.follows.registers) ∙ c.if-is_stopped.true)
+    least_off (header_now h past) k (FreeRow c.args.id) (sym (c.is_stopped.ensures k p.tracked.follows.registers) ∙ c.if-is_stopped.true)
 
 pub returns-in_err-check_going-clause-refused : goal.returns-in_err-check_going-clause-refused
 returns-in_err-check_going-clause-refused g c =
@@ -41,10 +41,10 @@ returns-clause-logged g c = λ list h first past p numbered room held.
     let on = sym (c.is_stopped.ensures k p.tracked.follows.registers) ∙ c.if-is_stopped.false in
     let q = same_still words h past before p later c.end_leases.ensures.header c.end_leases.ensures.finder c.end_leases.ensures.record c.end_leases.ensures.memory c.end_leases.ensures.withdrawn in
     let step = c.in_ok-check_going.ensures.ok k (words later.memory) q.tracked.follows (q.tracked.keeps on) on in
-    let good : is_bad_free (header_now h past) k id ≡ false = subst (λ (x : Header). is_bad_free x k id ≡ false) q.header step.kept.1 in
+    let good : is_bad_free (header_now h past) k id ≡ false = subst (λ (x : Header). is_bad_free x k id ≡ false) q.header (kept_going later.header k id step.kept).1 in
     let here : is_bad_free before.header k id ≡ false = subst (λ (x : Header). is_bad_free x k id ≡ false) (sym p.header) good in
-    let opened : AreOpen before.header k (ring_lents h first past) = subst (λ (x : Header). AreOpen x k (ring_lents h first past)) (sym p.header) (lent_open h first past (omega (arith, room))) in
-    let ended = c.end_leases.ensures.ended list k (words before.memory) (ring_lents h first past) p.tracked.follows (goes_transfer before.header k id here) opened
-    (subst (λ (x : Header). Holds x (ring_lents h first past) before.log) (sym p.header) held.held) in
-    subst (λ (x : RangeIndexes). HoldsAll Holds (without_ring (header_now h past) id) (ring_lents h first (Goes id ∷ past)) later.log x) (sym c.end_leases.ensures.ranges)
+    let opened : AreOpen before.header k (lents h first past) = subst (λ (x : Header). AreOpen x k (lents h first past)) (sym p.header) (lent_open h first past (omega (arith, room))) in
+    let ended = c.end_leases.ensures.ended list k (words before.memory) (lents h first past) p.tracked.follows (goes_transfer before.header k id here) opened
+    (subst (λ (x : Header). Holds x (lents h first past) before.log) (sym p.header) held.held) in
+    subst (λ (x : RangeIndexes). HoldsAll Holds (without_ring (header_now h past) id) (lents h first (FreeRow id ∷ past)) later.log x) (sym c.end_leases.ensures.ranges)
     (goes_logged words Holds (g.met.B.LeaseLog.other_rings list) h first past before p room id c.args.number numbered on good later.log ended held)

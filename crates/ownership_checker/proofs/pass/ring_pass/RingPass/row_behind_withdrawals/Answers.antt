@@ -1,4 +1,4 @@
-use Rattle.ownership_checker.proofs.Laws.{arith, ◌≡◌, ◌∙◌, ℕ, Bool, false, Option, None, List, length, ap, refl, sym, false≢true, Header, Known, Row, RowPlace, on_both, on_more, lenient_row, IsPlaced, IsRingPassed, IsTracked, TraceRow, header_now, known_now, is_left, restored, restored_on, ring_restored, NamesTransfer, names_transfer, least_off, least_restored, plain_behind, refused_too, restored_tracked, same_still, told_of}
+use Rattle.ownership_checker.proofs.Laws.{arith, ◌≡◌, ◌∙◌, ℕ, Bool, false, Option, None, List, length, ap, refl, sym, false≢true, Header, Known, Row, RowPlace, on_both, on_more, lenient_row, IsPlaced, IsRingPassed, IsTracked, header_now, known_now, is_left, restored, restored_on, ring_restored, NamesTransfer, names_transfer, least_off, least_restored, refused_too, restored_tracked, same_still, told_of, driven_behind}
 use Rattle.ownership_checker.proofs.pass.ring_pass.RingPass.row_behind_withdrawals.Goals.{After-is_left, After-restore_ring}
 use Rattle.ownership_checker.proofs.pass.ring_pass.RingPass.row_behind_withdrawals.Goals as goal
 
@@ -6,7 +6,7 @@ use Rattle.ownership_checker.proofs.pass.ring_pass.RingPass.row_behind_withdrawa
 abbrev IsFound : Header → Header → Known → Row → RowPlace → Option ℕ → Bool → Type 0
 IsFound before h k row place ring left = (k.stopped ≡ false) × IsPlaced before k row place × (ring ≡ ring_restored h k row) × (is_left h k (ring_restored h k row) ≡ left)
 
-found : (g : _) (c : After-is_left g) (h : Header) (past : List TraceRow) → IsRingPassed g.M.WordMemory.words h past c.args.self.now →
+found : (g : _) (c : After-is_left g) (h : Header) (past : List Row) → IsRingPassed g.M.WordMemory.words h past c.args.self.now →
     IsFound c.args.self.now.header (header_now h past) (known_now h past) c.args.row.now c.place-place.result c.ring_restored-ring.result c.is_left.result
 found g c h past p =
     let k = known_now h past in
@@ -17,7 +17,7 @@ found g c h past p =
     grind arith
 
 -- once the leases are noted and the ring is the controller's again: what is known, and that the place is the row's still where no ring was restored
-behind : (g : _) (c : After-restore_ring g) (h : Header) (past : List TraceRow) → IsRingPassed g.M.WordMemory.words h past c.args.self.now →
+behind : (g : _) (c : After-restore_ring g) (h : Header) (past : List Row) → IsRingPassed g.M.WordMemory.words h past c.args.self.now →
     IsFound c.args.self.now.header (header_now h past) (known_now h past) c.args.row.now c.place-place.result c.ring_restored-ring.result c.is_left.result →
     IsRingPassed g.M.WordMemory.words h past c.note_leases.new.self
     × IsTracked c.note_leases.new.self.header (restored c.note_leases.new.self.header (known_now h past) c.args.row.now) c.restore_ring.new.kept (g.M.WordMemory.words c.note_leases.new.self.memory)
@@ -57,7 +57,7 @@ returns-clause-passed g c = on_both c.check_restored.result (λ ok reads h past 
     let row = c.args.row.now in
     let (q, tracked, still, stands) = behind g (goal.at.returns-clause-passed g c).After-restore_ring h past p (found g (goal.at.returns-clause-passed g c).After-is_left h past p) in
     let step = ok (restored noted.header (known_now h past) row) tracked still in
-    plain_behind words h past noted q row later.record (words later.memory) stands (rw q.header at step.0) (rw q.header at step.1)
+    driven_behind words h past noted q row c.requires.driven later.record (words later.memory) stands (rw q.header at step.0) (rw q.header at step.1)
     (reads (length past) (rw c.restore_ring.ensures.events q.few_reads))
     later c.check_restored.ensures.header c.check_restored.ensures.finder refl refl
     (λ none. absurd (false≢true (sym none ∙ c.check_restored.ensures.withdrawn ∙ c.note_leases.ensures.withdrawn ∙ c.requires.withdrawn)))) c.check_restored.ensures.ok c.check_restored.ensures.reads

@@ -1,5 +1,6 @@
 use Rattle.std.proofs.Common.{◌≡◌, ◌-◌, ◌||◌, nat_lt}
-use Rattle.replayer.specs.Schedules.Making.{Making, blocks_of_ring, is_command_kind, looked_at, made_looks}
+use Rattle.replayer.specs.Schedules.Making.{Making, blocks_of_ring, looked_at, made_looks}
+use Rattle.traces.specs.Header.{is_command_kind}
 use Rattle.replayer.specs.Schedules.Attempts.{HasMade}
 use Rattle.replayer.proofs.scheduler.attempt.Attempt.look_at.Given as goal
 
