@@ -8,5 +8,6 @@ pub mod Histories
 pub mod Following
 pub mod Trials
 pub mod Completions
+pub mod Controllers
 pub mod Worlds
 pub mod RingHarms

@@ -290,6 +290,13 @@ impl History {
         }
     }
 
+    /// The takes that weren't reported, the oldest first.
+    pub(crate) fn unreported_takes(&self) -> &VecDeque<u64>
+        ensures { result.now ≡ self.now.unreported }
+    {
+        &self.unreported
+    }
+
     /// How many takes weren't reported.
     pub(crate) fn unreported(&self) -> usize
         ensures { result ≡ length self.now.unreported.items }

@@ -72,10 +72,11 @@ pub struct Events {
 /// A command that was taken and isn't finished.
 #[derive(Clone, Copy, Debug)]
 pub struct Pending {
-    pub(crate) address: u64,
-    pub(crate) block: Block,
+    /// Where it lies in the Command Ring.
+    pub address: u64,
+    pub block: Block,
     /// It is a Stop Endpoint whose Stopped event was posted.
-    pub(crate) has_stopped: bool,
+    pub has_stopped: bool,
 }
 
 /// What a world keeps beside its memory.

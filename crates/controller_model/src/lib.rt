@@ -1,10 +1,12 @@
 //! The controller model: which steps a controller may make beside the driver's rows (xHCI 4.5, 4.6, 4.8, 4.9, 4.11).
 //!
-//! `World` runs it beside a trace: each step is possible exactly where the definitions allow it, and the least harm is told.
+//! `World` runs it beside a trace, `Controller` beside rows that come one by one: each step is possible exactly where the definitions allow
+//! it, and the least harm is told.
 #![tactic(auto)]
 
 mod bells;
 mod bindings;
+mod controller;
 mod declared;
 mod disabling;
 mod effects;
@@ -34,9 +36,12 @@ mod stamps;
 mod steps;
 mod successes;
 mod trials;
+mod views;
 mod watches;
 mod world;
 
+pub use controller::Controller;
 pub use fault::StepFault;
+pub use kept::Pending;
 pub use seen::Seen;
 pub use world::World;

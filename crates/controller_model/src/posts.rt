@@ -1,11 +1,11 @@
-ghost use Rattle.std.specs.Prelude.{◌≡◌, ℕ, ◌+◌, ◌&&◌, ◌==◌, ◌%◌, ◌<◌, ◌≤◌, ◌^◌, OnOk, IfOk, Err, Option};
+ghost use Rattle.std.specs.Prelude.{◌≡◌, ℕ, ◌+◌, ◌&&◌, ◌==◌, ◌%◌, ◌<◌, ◌≤◌, ◌^◌, nat_lt, OnOk, IfOk, Err, Option};
 ghost use Rattle.std.specs.Option.{option_copied};
 ghost use Rattle.trb.specs.Block.{kind};
 ghost use Rattle.trb.specs.Kind.{is_other_event};
-ghost use Rattle.segments.specs.Places.{address_of, place_count};
+ghost use Rattle.segments.specs.Places.{address_of, cycle_of, place_count};
 ghost use Rattle.event_ring.specs.EventRing.{has_room};
 ghost use Rattle.traces.specs.declared.header.Header.{Header as HeaderValue};
-ghost use Rattle.traces.specs.Header.{event_ring, event_shape, is_event_kind};
+ghost use Rattle.traces.specs.Header.{event_ring, event_shape, event_size, is_event_kind};
 ghost use Rattle.world_state.specs.World.{World};
 ghost use Rattle.world_state.specs.Posts.{can_post, posted, other_posted};
 ghost use Rattle.controller_model.specs.declared.seen.Seen.TheVariants.{Posted, Row};
@@ -61,12 +61,36 @@ fn is_other_event(block: &Block) -> bool
 }
 
 /// Whether the controller has room for one more event (xHCI 4.9.4).
-fn has_room(shape: &RingShape, posted: u64, dequeue: u64) -> bool
+pub(crate) fn has_room(shape: &RingShape, posted: u64, dequeue: u64) -> bool
     ensures value { result ≡ has_room (place_count shape.now) posted dequeue }
     ensures several { 2 ≤ place_count shape.now }
 {
     let size = u128::from(shape.places());
     (u128::from(posted) + 1) % size != u128::from(dequeue) % size
+}
+
+/// Whether the Event Ring has room for one more event.
+#[tactic(auto, unfolding(traces::specs::Header::event_shape, traces::specs::Header::event_size))]
+pub(crate) fn has_event_room(header: &Header, kept: &Kept) -> bool
+    ensures { (words : ℕ → ℕ) (w : World) → Follows header.now words kept.now w →
+        result ≡ (nat_lt 0 (event_size header.now) && has_room (event_size header.now) w.posted w.dequeue) }
+{
+    match event_ring(header) {
+        None => false,
+        Some(ring) => has_room(&ring.shape, kept.events.posted, kept.events.dequeue),
+    }
+}
+
+/// The Cycle bit of the next event; 1 where no event ring is declared.
+#[tactic(auto, unfolding(traces::specs::Header::event_shape))]
+pub(crate) fn event_cycle(header: &Header, kept: &Kept) -> bool
+    ensures { (words : ℕ → ℕ) (w : World) → Follows header.now words kept.now w →
+        result ≡ (cycle_of (event_shape header.now) w.posted == 1) }
+{
+    match event_ring(header) {
+        None => true,
+        Some(ring) => ring.shape.cycle(kept.events.posted),
+    }
 }
 
 /// Whether the controller runs, there is room, and the words have the right Cycle bit.

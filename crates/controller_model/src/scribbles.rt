@@ -28,7 +28,7 @@ fn long_at<M: WordMemory>(memory: &M, at: u64) -> u64
 }
 
 /// Where the device context of a slot lies, by DCBAA (xHCI 6.1); beyond the last address there is no memory.
-fn device_context<M: WordMemory>(memory: &M, dcbaap: u64, slot: u8) -> u64
+pub(crate) fn device_context<M: WordMemory>(memory: &M, dcbaap: u64, slot: u8) -> u64
     ensures { ((a : ℕ) → 2 ^ 64 ≤ a → M.words memory.now a ≡ 0) → result ≡ device_context (M.words memory.now) dcbaap slot }
 {
     match (dcbaap / 64 * 64).checked_add(8 * u64::from(slot)) {

@@ -1,5 +1,5 @@
 use Rattle.controller_model.proofs.Words.{◌∙◌, ap, sym, harm_of}
-use Rattle.controller_model.proofs.world.World.safe.Goals as goal
+use Rattle.controller_model.proofs.controller.Controller.safe.Goals as goal
 
 pub returns-in-None : goal.returns-in-None
 returns-in-None g c = λ x s.

@@ -1,5 +1,5 @@
 use Rattle.controller_model.proofs.Words.{arith, opening}
-use Rattle.controller_model.proofs.world.World.new.Goals as goal
+use Rattle.controller_model.proofs.controller.Controller.new.Goals as goal
 
 pub returns : goal.returns
 returns g c =

@@ -1,5 +1,5 @@
 use Rattle.controller_model.proofs.Laws.{FollowsScene, step_made, IsFollowed, shows, step_more}
-use Rattle.controller_model.proofs.world.make_followed.Goals as goal
+use Rattle.controller_model.proofs.controller.make_followed.Goals as goal
 
 pub returns-then-not-is_quiet-clause-step : goal.returns-then-not-is_quiet-clause-step
 returns-then-not-is_quiet-clause-step g c = λ x f.
