@@ -1,13 +1,11 @@
 -- That what is right of the text that a device gave, with what it still holds, is right of the input, of which nothing may be known
-use Rattle.command_runs.proofs.Words.{Accepted, Answer, BadLine, Bool, Device, Err, FoundHarm, HarmShown, IfBadLineIn, IfErr, IfOk, IfRefusedIn, IsBadLine, IsCheckAnswer, IsFirstBad, IsHarmFound, IsHindered, IsKept, IsKeptInPart, IsSound, IsVerdictAlone, IsVerdictBeside, IsVerified, Lease, LineFault, List, Memory, None, OfStream, OfTrace, Ok, Option, Refused, Result, Some, StreamCheckFault, StreamFault, TraceText, Unread, Verified, answer_of_check_fault, answer_of_stream_fault, false, inl, inr, is_some, known_text, length, not, refl, trace_verdict, subst, sym, trace_of, true, ℕ, ◌∙◌, ◌≡◌, Line, NoDevice, NoMemory, IfBadLine, RefusedRow, IsTextOf, IsTraceAnswer, IsUnread}
+use Rattle.command_runs.proofs.Words.{arith, Accepted, Answer, Bool, Err, FoundHarm, IfBadLineIn, IfErr, IfOk, IfRefusedIn, IsBadLine, IsCheckAnswer, IsFirstBad, IsHarmFound, IsHindered, IsKept, IsKeptInPart, IsSound, IsVerdictAlone, IsVerdictBeside, IsVerified, Lease, LineFault, List, OfStream, OfTrace, Ok, Option, Result, Some, StreamCheckFault, StreamFault, TraceText, Unread, Verified, answer_of_check_fault, answer_of_stream_fault, false, inl, inr, is_some, known_text, length, not, refl, trace_verdict, trace_of, true, ℕ, ◌≡◌, Line, NoDevice, NoMemory, IfBadLine, RefusedRow, IsTextOf, IsTraceAnswer, IsUnread}
 
 text_known : (keeps : Bool) (known known' : Option (List ℕ)) (trace : TraceText) → OfStream known known' (λ text. trace_of keeps text ≡ Ok trace) → IsTextOf keeps known trace
-text_known keeps None known' trace read = tt
-text_known keeps (Some bytes) known' trace read = known_text bytes known' (λ text. trace_of keeps text ≡ Ok trace) read
+text_known keeps given2 known' trace read = grind (arith, known_text, trace_of)
 
 bad_known : (keeps : Bool) (known known' : Option (List ℕ)) (line : ℕ) (fault : LineFault) → IsBadLine keeps known known' line fault → IsFirstBad keeps known line fault
-bad_known keeps None known' line fault bad = tt
-bad_known keeps (Some bytes) known' line fault bad = known_text bytes known' (λ text. trace_of keeps text ≡ Err (line, fault)) bad
+bad_known keeps given2 known' line fault bad = grind (arith, known_text, trace_of)
 
 pub unread_right : (keeps : Bool) (known known' : Option (List ℕ)) (fault : StreamFault) → IfBadLine fault (IsBadLine keeps known known') → IsUnread keeps known (answer_of_stream_fault fault)
 unread_right keeps known known' (Line line fault) bad = bad_known keeps known known' line fault bad
@@ -30,15 +28,7 @@ unaccepted_right keeps known known' (Unread fault) refused bad = inl (unread_rig
 -- what is right of a trace alone is right where none is asked for
 pub alone_right : {C : Type 0} (keeps : Bool) (contents : C → Option (List ℕ)) (before : Option C) (known : Option (List ℕ)) (a : Answer) → is_some before ≡ not true → IsTraceAnswer keeps IsVerdictAlone known a →
     IsCheckAnswer keeps false contents before before known a
-alone_right keeps contents None known (Accepted count) none (inr right) = (right.0, right.1, (right.2.0, right.2.1, right.2.2, tt))
-alone_right keeps contents None known (Refused row refusal) none (inr right) = (right.0, right.1, (right.2.0, refl))
-alone_right keeps contents None known (HarmShown row refusal harm) none (inr right) = (right.0, right.1, (right.2.0, refl))
-alone_right keeps contents None known (BadLine line fault) none (inl unread) = (unread, refl)
-alone_right keeps contents None known Memory none right = inl refl
-alone_right keeps contents None known Device none right = inl refl
-alone_right keeps contents None known _ none (inl right) = absurd right
-alone_right keeps contents None known _ none (inr right) = absurd right.2
-alone_right keeps contents (Some writer) known a none right = absurd (cc)
+alone_right keeps contents given3 known a none right = grind arith
 
 -- ---- where one is asked for
 
@@ -67,11 +57,6 @@ verified_right leases known known' holds (trace, read, right) = inr (trace, text
 
 -- ---- a run that does harm
 
-same_trace : (x y : TraceText) (r : Result TraceText (ℕ × LineFault)) → r ≡ Ok x → r ≡ Ok y → x ≡ y
-same_trace x y r is also = cc (sym is ∙ also)
-
 pub harm_found : {E : Type 0} (text : List ℕ) (kept : TraceText) (row : ℕ) (r : Result (Option FoundHarm) E) → trace_of true text ≡ Ok kept → IfOk r (λ found. IsHarmFound kept row found) →
     IfOk r (λ found. (trace : TraceText) → trace_of true text ≡ Ok trace → IsHarmFound trace row found)
-harm_found text kept row (Ok found) read harms = λ trace told.
-    subst (λ (t : TraceText). IsHarmFound t row found) (same_trace kept trace (trace_of true text) read told) harms
-harm_found text kept row (Err e) read harms = tt
+harm_found text kept row given4 read harms = grind (arith, trace_of)

@@ -6,20 +6,30 @@ pub use Rattle.answers.specs.Answers.{answer_of_cert_fault, answer_of_fault, ans
 pub use Rattle.answers.specs.Inputs.{opened}
 pub use Rattle.answers.specs.Keeping.{IsKept, IsKeptInPart, kept_bytes}
 pub use Rattle.answers.specs.declared.answer.Answer.{Answer}
-pub use Rattle.answers.specs.declared.answer.Answer.TheVariants.{Accepted, BadLine, Device, HarmShown, Memory, Refused, Replayed, Unfollowed, Verified, Written}
+pub use Rattle.answers.specs.declared.answer.Answer.TheVariants.{Accepted, Memory, Verified}
 pub use Rattle.answers.specs.declared.answer.FoundHarm.{FoundHarm}
 pub use Rattle.certificate.specs.Spelling.{certificate_of, spelling}
 pub use Rattle.certificate.specs.declared.fault.CertFault.{CertFault}
 pub use Rattle.certificate.specs.declared.fault.CertFault.TheVariants.{Memory as NoLeaseMemory}
+pub use Rattle.command_runs.specs.CheckAnswers.{IsCheckAnswer, IsHindered, IsVerdictAlone, answer_of_check_fault}
+pub use Rattle.command_runs.specs.HarmAnswers.{IsHarmFound}
+pub use Rattle.command_runs.specs.PlanAnswers.{IsPlanAnswer}
+pub use Rattle.command_runs.specs.ReplayAnswers.{IsReplayBeside, IsReplayed}
+pub use Rattle.command_runs.specs.ScheduleAnswers.{IsScheduleAnswer, IsScheduled}
+pub use Rattle.command_runs.specs.ShowAnswers.{IsPageAnswer, IsShowAnswer}
+pub use Rattle.command_runs.specs.TraceTexts.{IsFirstBad, IsTextOf, IsTraceAnswer, IsUnread}
+pub use Rattle.command_runs.specs.VerifyAnswers.{IsCertificateOf, IsUncertified, IsVerdictBeside, IsVerified}
+pub use Rattle.command_runs.specs.VersionNotes.{in_version_three, is_behind}
+unfoldable pub use Rattle.command_runs.specs.VersionNotes.{breaks_no_rule_of_three}
 pub use Rattle.ownership_checker.specs.RingPasses.Accepted.{IsSound}
 pub use Rattle.ownership_checker.specs.RingPasses.Reading.{OfTrace}
-pub use Rattle.ownership_rules.specs.Rules.{trace_verdict}
 pub use Rattle.ownership_checker.specs.Streams.{IfBadLineIn, IfRefusedIn}
 pub use Rattle.ownership_checker.specs.declared.fault.StreamCheckFault.{StreamCheckFault}
 pub use Rattle.ownership_checker.specs.declared.fault.StreamCheckFault.TheVariants.{Refused as RefusedRow, Unread}
+pub use Rattle.ownership_rules.specs.Rules.{trace_verdict}
 pub use Rattle.ownership_rules.specs.declared.refusal.Refusal.{Refusal}
 pub use Rattle.ring_knowledge.specs.declared.lease.Lease.{Lease}
-pub use Rattle.std.proofs.Common.{Bool, Err, List, None, Ok, Option, Result, Some, ap, arith, false, inl, inr, length, nat_lt, not, refl, subst, sym, true, ℕ, ◌+◌, ◌∙◌, ◌≡◌, ◌≢◌, ◌≤◌}
+pub use Rattle.std.proofs.Common.{Bool, Err, List, None, Ok, Option, Result, Some, ap, arith, false, inl, inr, length, nat_lt, not, refl, subst, sym, true, ℕ, ◌∙◌, ◌≡◌, ◌≢◌}
 pub use Rattle.std.proofs.lemmas.List.Elements.{All-weaker}
 pub use Rattle.std.specs.Io.KnownBytes.{Consumes}
 pub use Rattle.std.specs.Prelude.{IfErr, IfOk, IfSome, is_some}
@@ -37,13 +47,3 @@ pub use Rattle.traces.specs.Header.{IsHeader}
 pub use Rattle.traces.specs.TraceRows.{IsRowOf, IsTraceRow}
 pub use Rattle.traces.specs.declared.header.Header.{Header}
 pub use Rattle.traces.specs.declared.schedule.Schedule.{Schedule}
-pub use Rattle.command_runs.specs.CheckAnswers.{IsCheckAnswer, IsHindered, IsVerdictAlone, answer_of_check_fault}
-pub use Rattle.command_runs.specs.HarmAnswers.{IsHarmFound}
-pub use Rattle.command_runs.specs.PlanAnswers.{IsPlanAnswer}
-pub use Rattle.command_runs.specs.ReplayAnswers.{IsReplayBeside, IsReplayed}
-pub use Rattle.command_runs.specs.ScheduleAnswers.{IsScheduleAnswer, IsScheduled}
-pub use Rattle.command_runs.specs.ShowAnswers.{IsPageAnswer, IsShowAnswer}
-pub use Rattle.command_runs.specs.TraceTexts.{IsFirstBad, IsTextOf, IsTraceAnswer, IsUnread}
-pub use Rattle.command_runs.specs.VerifyAnswers.{IsCertificateOf, IsLeastFault, IsUncertified, IsVerdictBeside, IsVerified}
-pub use Rattle.command_runs.specs.VersionNotes.{in_version_three, is_behind}
-unfoldable pub use Rattle.command_runs.specs.VersionNotes.{breaks_no_rule_of_three}

@@ -6,3 +6,4 @@ pub mod Floors
 pub mod Making
 pub mod Looking
 pub mod RingLists
+pub mod Trying

@@ -21,14 +21,15 @@ pub use Rattle.event_rows.proofs.CommandCompletions.Finished.{has_room, was_star
 pub use Rattle.event_rows.proofs.CommandCompletions.Succeeded.{words_are}
 pub use Rattle.event_rows.proofs.TransferEvents.Reports.{driven}
 pub use Rattle.event_rows.specs.TransferEvents.NamedSpots.{IsNamedAt}
-pub use Rattle.ownership_checker.proofs.RingPasses.Histories.{kept_now, driven_after, header_driven}
-pub use Rattle.ownership_checker.proofs.RingPasses.Verdicts.{row_refused}
+pub use Rattle.ownership_checker.proofs.JudgedRows.Kinds.{driven_by}
+pub use Rattle.ownership_checker.proofs.RingPasses.Histories.{driven_after, header_driven, kept_now}
+pub use Rattle.ownership_checker.proofs.RingPasses.Verdicts.{none_refused, reversed_twice, row_refused}
 pub use Rattle.ownership_checker.specs.RingPasses.Clean.{AreClean, IsLeastOfRow}
 pub use Rattle.ownership_checker.specs.RingPasses.Passing.{IsRingPassed}
-pub use Rattle.ownership_rules.specs.Rules.{trace_verdict}
 pub use Rattle.ownership_checker.specs.declared.pass.ring_pass.RingPass.{RingPass}
 unfoldable pub use Rattle.ownership_rules.specs.Events.{is_impossible_by_kind, is_impossible_completion}
 unfoldable pub use Rattle.ownership_rules.specs.Moves.{binding_in, binds, has_repeats, is_among, ring_bound}
+pub use Rattle.ownership_rules.specs.Rules.{trace_verdict}
 unfoldable pub use Rattle.ownership_rules.specs.Rules.{lenient}
 pub use Rattle.ownership_rules.specs.declared.refusal.Refusal.{Refusal}
 pub use Rattle.replayer.specs.LazySteps.Headers.{KeepHeaders}
@@ -41,10 +42,23 @@ pub use Rattle.replayer.specs.LazySteps.Tables.{IsTable, spot_in}
 pub use Rattle.replayer.specs.RowNotes.Added.{MayPlace}
 unfoldable pub use Rattle.replayer.specs.RowNotes.Added.{rings_added}
 pub use Rattle.replayer.specs.RowNotes.Noted.{AreNoted, MayBeRead}
+pub use Rattle.replayer.specs.Schedules.Attempts.{HasMade}
+pub use Rattle.replayer.specs.Schedules.Eager.{is_late, lines_of, looked_at_last, nothing_made, without_late}
+unfoldable pub use Rattle.replayer.specs.Schedules.Eager.{eager_row, eager_rows, eager_schedule, late_schedules}
+pub use Rattle.replayer.specs.Schedules.Floors.{StandsAtFloors}
 pub use Rattle.replayer.specs.Schedules.Harmful.{DoesHarm, rows_made}
+pub use Rattle.replayer.specs.Schedules.Making.{IsMade, Making, behind_look, behind_step, blocks_of_ring, if_possible, is_full, is_waited, rings_at, unless_possible, with_active}
+unfoldable pub use Rattle.replayer.specs.Schedules.Making.{looked_at, looked_at_each, made_before, made_behind_looks, made_looks, made_post, made_step, made_steps, tried_step}
+pub use Rattle.replayer.specs.Schedules.Tried.{IsNoRead, IsTame, NoneDoesHarm}
+unfoldable pub use Rattle.replayer.specs.Schedules.Tried.{lazy_behind}
 pub use Rattle.replayer.specs.declared.lazy_steps.note.Note.{Note}
 pub use Rattle.replayer.specs.declared.lazy_steps.note.Note.TheVariants.{Begun, Made, Next, Placed, Succeeded}
 pub use Rattle.replayer.specs.declared.row_notes.rings.CommandPlace.{CommandPlace}
+pub use Rattle.replayer.specs.declared.scheduler.attempt.Unmade.{Unmade}
+pub use Rattle.replayer.specs.declared.scheduler.attempt.Unmade.TheVariants.{Dropped, Memory}
+pub use Rattle.replayer.specs.declared.scheduler.harmful.Search.{Search}
+pub use Rattle.ring_knowledge.specs.Histories.{header_now, known_after, known_now, restored}
+unfoldable pub use Rattle.ring_knowledge.specs.Histories.{restored_on, ring_restored}
 pub use Rattle.ring_knowledge.specs.Known.{Known}
 unfoldable pub use Rattle.ring_knowledge.specs.Known.{nothing}
 unfoldable pub use Rattle.ring_knowledge.specs.Learned.{learned}
@@ -61,7 +75,7 @@ pub use Rattle.safety.proofs.LazyRuns.LazySteps.{lazy_steps_are}
 pub use Rattle.safety.proofs.LazyRuns.RingRows.{restored_learns}
 pub use Rattle.safety.proofs.LazyRuns.RowsLearn.{row_learns}
 pub use Rattle.safety.proofs.LazyRuns.StepsCounted.{few_steps}
-pub use Rattle.safety.proofs.LazyRuns.WholeRuns.{all_are_read}
+pub use Rattle.safety.proofs.LazyRuns.WholeRuns.{all_are_read, lazy_law}
 pub use Rattle.safety.proofs.Placings.{ReadyAt, all_ready, dropped, map_map, ready_next, ring_at}
 pub use Rattle.safety.proofs.RingChanges.GoneRings.{gone_ring_header}
 pub use Rattle.safety.proofs.RingChanges.Headline.{headline}
@@ -83,26 +97,24 @@ unfoldable pub use Rattle.safety.specs.LazyRuns.Lazy.{behind_taken, brought, com
 unfoldable pub use Rattle.safety.specs.LazyRuns.Needs.{begins_anew, ends_need, is_placed, is_placed_by, is_placed_by_all, need, number_behind, number_reported, ring_placed}
 pub use Rattle.safety.specs.Placings.{StillHolds}
 pub use Rattle.safety.specs.RingChanges.Histories.{AreKept, IsKept}
-pub use Rattle.traces.specs.Rows.{IsRow, AreSteps, IsStep, is_ring_row}
-pub use Rattle.traces.specs.LivingRings.{header_after}
-pub use Rattle.ring_knowledge.specs.Histories.{header_now, known_after, known_now, restored}
-unfoldable pub use Rattle.ring_knowledge.specs.Histories.{restored_on, ring_restored}
 pub use Rattle.safety.specs.RingsKeep.{RingsKeep}
 pub use Rattle.segments.proofs.Words.{nat_tests, next, position_or_len, spots_from, take_more}
 pub use Rattle.segments.specs.RingView.{floor_number}
-pub use Rattle.std.proofs.Common.{Bool, Err, List, None, Ok, Option, Result, Some, [], add-one, ap, append-nil, append_assoc, arith, drop, drop-cons, eq-eqb, false, filter, get_or, get_or-set_other, get_or-set_same, get_or-take, if◌then◌else◌, inl, inr, is_some, length, length-take-le, map, max, nat_lt, not, position, refl, replicate, rules, slice_get, slice_index, subst, suc, sym, take_all, true, zero, ℕ, ◌&&◌, ◌*◌, ◌++◌, ◌+◌, ◌-◌, ◌<◌, ◌==◌, ◌||◌, ◌∙◌, ◌∷◌, ◌≡◌, ◌≤◌}
+pub use Rattle.std.proofs.Common.{Bool, Bor, Err, IfSome, List, None, Ok, Option, Result, Some, [], add-one, ap, append-nil, append_assoc, arith, drop, drop-cons, eq-eqb, false, filter, get_or, get_or-set_other, get_or-set_same, get_or-take, if◌then◌else◌, inl, inr, is_some, le-leb, length, length-take-le, lt-ltb, map, max, nat_lt, not, option_map, option_to_list, position, refl, replicate, rules, slice_get, slice_index, subst, suc, sym, take_all, true, zero, ℕ, ◌&&◌, ◌*◌, ◌++◌, ◌+◌, ◌-◌, ◌<◌, ◌==◌, ◌||◌, ◌∙◌, ◌∷◌, ◌≡◌, ◌≤◌}
 pub use Rattle.std.proofs.Math.Bool.{or-false}
 pub use Rattle.std.proofs.Math.ListN.{get_or-append, set}
 pub use Rattle.std.proofs.Math.Seq.{set-append_seam}
-pub use Rattle.std.proofs.lemmas.Bool.{cond-false, cond-true, cond_both, eqb-true, ne_eqb, or_parts}
+pub use Rattle.std.proofs.lemmas.Bool.{cond-false, cond-true, cond_both, eqb-true, lt-leb, ne_eqb, or_parts}
+pub use Rattle.std.proofs.lemmas.Fn.{filter_same}
 pub use Rattle.std.proofs.lemmas.Grind.{common_steps}
 pub use Rattle.std.proofs.lemmas.List.{get_or-replicate, length-replicate, reverse-reverse}
 pub use Rattle.std.proofs.lemmas.List.Edits.{length-remove}
 pub use Rattle.std.proofs.lemmas.List.Elements.{All-append, All-cons, All-head, All-nil, All-same, All-tail, All-weaker}
 pub use Rattle.std.proofs.lemmas.List.Folds.{find_at}
 pub use Rattle.std.proofs.lemmas.Option.{none-some, same_Some, slice_get-get_or, slice_get_within}
+pub use Rattle.std.proofs.lemmas.Result.{err_from_is_err_and}
 pub use Rattle.std.specs.List.{cons_option, filter_map, range_with_len, remove}
-pub use Rattle.std.specs.Prelude.{All, IfOk, OnOk, option_and_then, reverse, take}
+pub use Rattle.std.specs.Prelude.{All, IfErr, IfNone, IfOk, OnOk, option_and_then, reverse, take}
 pub use Rattle.trace_record.proofs.RingFinder.CommandRings.{IsCommandNumber, command_id_is, command_number, has_commands, read_at}
 pub use Rattle.trace_record.proofs.RingFinder.FoundRings.{no_command_ring, none_here, ring_here}
 pub use Rattle.trace_record.proofs.RingFinder.HeaderRings.{find_some, not_found, ring_found}
@@ -111,14 +123,18 @@ pub use Rattle.trace_record.specs.FollowsTrace.{FollowsTrace}
 pub use Rattle.trace_record.specs.RingFinder.Finding.{IsFinder}
 pub use Rattle.trace_record.specs.RingFinder.RecordsOfRings.{FollowsRings}
 pub use Rattle.trace_record.specs.declared.trace_record.TraceRecord.{TraceRecord}
-pub use Rattle.traces.specs.Header.{IsHeader, is_transfer_kind, may_stand_together, no_shape, ring_with}
+pub use Rattle.traces.specs.Header.{IsHeader, is_command_kind, is_event_kind, is_transfer_kind, may_stand_together, no_shape, ring_with}
 unfoldable pub use Rattle.traces.specs.Header.{command_id, command_ring, ring_having, shape_of}
 pub use Rattle.traces.specs.Limits.{most_lines, most_streamed_lines}
+pub use Rattle.traces.specs.LivingRings.{header_after}
+unfoldable pub use Rattle.traces.specs.LivingRings.{with_ring, without_ring}
+pub use Rattle.traces.specs.Rows.{AreSteps, IsRow, IsStep, is_ring_row}
 pub use Rattle.traces.specs.TraceRows.{AreRowsOf, IsRowOf, IsTraceRow}
 pub use Rattle.traces.specs.declared.header.Header.{Header}
 pub use Rattle.traces.specs.declared.ring.Ring.{Ring}
 pub use Rattle.traces.specs.declared.row.Row.{Row}
-pub use Rattle.traces.specs.declared.row.Row.TheVariants.{Bell, Read, Ring as RingRow, Free as FreeRow, Nop as NopRow}
+pub use Rattle.traces.specs.declared.row.Row.TheVariants.{Bell, Free as FreeRow, Read, Ring as RingRow}
+pub use Rattle.traces.specs.declared.schedule.Schedule.{Schedule}
 pub use Rattle.traces.specs.declared.step.Step.TheVariants.{Finish, Other, Report}
 pub use Rattle.traces.specs.declared.version.Version.{Version}
 pub use Rattle.trb.specs.Block.{code, kind, slot}
@@ -127,10 +143,8 @@ pub use Rattle.trb.specs.declared.block.Block.{Block}
 pub use Rattle.trb.specs.declared.kind.BlockKind.{BlockKind}
 pub use Rattle.trb.specs.declared.kind.BlockKind.TheVariants.{CommandCompletion, TransferEvent}
 unfoldable pub use Rattle.world_state.specs.Harms.{harm_of}
-unfoldable pub use Rattle.traces.specs.LivingRings.{with_ring}
 pub use Rattle.world_state.specs.Scenes.{Scene, scene_before, scene_reached, step_made}
 unfoldable pub use Rattle.world_state.specs.Scenes.{scene_ending_from}
 pub use Rattle.world_state.specs.Steps.{Harmful, Harmful as HarmfulAt, NoHarm}
 unfoldable pub use Rattle.world_state.specs.Steps.{judged}
 pub use Rattle.world_state.specs.declared.harm.Harm.{Harm}
-pub use Rattle.ownership_checker.proofs.JudgedRows.Kinds.{driven_by}

@@ -4,3 +4,4 @@ pub mod Floors
 pub mod Making
 pub mod Attempts
 pub mod Eager
+pub mod Tried

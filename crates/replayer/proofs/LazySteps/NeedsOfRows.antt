@@ -1,5 +1,5 @@
 -- The notes of rows need of each ring what the rows need
-use Rattle.replayer.proofs.LowerLaws.{◌≡◌, ◌+◌, ◌==◌, ◌&&◌, ◌∷◌, ◌++◌, if◌then◌else◌, ◌∙◌, ℕ, Bool, not, max, List, [], map, Option, refl, sym, ap, arith, append_assoc, Block, BlockKind, CommandCompletion, code, slot, is_command_completion, is_transfer_event, is_success, Header, Row, Read, is_ring, Known, RingSpot, event_at, command_at, next_command, number_behind, is_placed_by, is_placed, begins_anew, number_reported, ends_need, need, header_after, known_after, any_notes, post_of, Note, Begun, Made, listed, open_stopped, placed, placed_note, reporting_look, transfer_notes, completing_look, event_notes, row_notes, notes, need_before, need_in, NeedsLaw, has, has_listed, has_placed}
+use Rattle.replayer.proofs.LowerLaws.{rules, ◌≡◌, ◌==◌, ◌&&◌, ◌∷◌, ◌++◌, if◌then◌else◌, ◌∙◌, ℕ, Bool, max, List, [], map, Option, refl, ap, arith, append_assoc, Block, BlockKind, CommandCompletion, code, slot, is_command_completion, is_transfer_event, is_success, Header, Row, Known, RingSpot, event_at, command_at, next_command, number_behind, is_placed_by, is_placed, begins_anew, number_reported, ends_need, need, header_after, known_after, any_notes, post_of, Note, Begun, Made, open_stopped, placed, placed_note, reporting_look, transfer_notes, completing_look, event_notes, row_notes, notes, need_before, need_in, NeedsLaw, has, has_listed, has_placed}
 
 zero_most : (n : ℕ) → max 0 n ≡ n
 zero_most n = omega arith
@@ -22,14 +22,10 @@ module _ (h : Header) where
   placed_need k row [] rest r = refl
   placed_need k row (q ∷ l) rest r = placed_need k row l rest r
 
-  reporting_is_look : (k : Known) (b : Block) (at : RingSpot) → IsLook (reporting_look h k b at)
-  unfolding reporting_look need_before
-  reporting_is_look k b at = grind arith
-
   transfer_need : (k : Known) (b : Block) (o : Option RingSpot) (post : Note) (rest : List Note) (r : ℕ) → IsLook post →
       need_in ((transfer_notes h k b o ++ post ∷ []) ++ rest) r ≡ max (if is_success (code b) then number_behind r o else 0) (need_in rest r)
-  unfolding transfer_notes need_in number_behind need_before
-  transfer_need k b o post rest r is_post = grind (arith, one_or_none, zero_most, reporting_is_look)
+  unfolding transfer_notes need_in number_behind need_before reporting_look
+  transfer_need k b o post rest r is_post = search (rules, one_or_none, zero_most)
 
   made_is_look : (k : BlockKind) (b : Block) → IsLook (Made (post_of h k b))
   unfolding need_before
@@ -43,31 +39,16 @@ module _ (h : Header) where
 
   completion_need : (k : Known) (b : Block) (rest : List Note) (r : ℕ) → EventNeed k CommandCompletion b rest r
   unfolding event_notes need_in completing_look need_before
-  completion_need k b rest r =
-      let l : List ℕ = placed h k b in
-      let look : Note = completing_look h k (open_stopped k (code b) (command_at h k (next_command h k))) in
-      let tail : List Note = map (placed_note h k (Read b)) l in
-      let post : Note = Made (post_of h CommandCompletion b) in
-      let behind : need_in (look ∷ post ∷ (tail ++ rest)) r ≡ max 0 (need_in rest r) =
-      (grind arith) ∙ made_is_look CommandCompletion b r _
-      ∙ placed_need k (Read b) l rest r ∙ sym (zero_most (need_in rest r)) in
-      ap (λ (m : List Note). need_in m r) (append_assoc (map Begun l) (look ∷ post ∷ tail) rest)
-      ∙ begun_need l (look ∷ post ∷ (tail ++ rest)) r
-      ∙ ap (λ t. if t then 0 else need_in (look ∷ post ∷ (tail ++ rest)) r) (has_placed h k b r)
-      ∙ ap (λ n. if code b == 1 && is_placed_by h k r (slot b) (command_at h k (next_command h k)) then 0 else n) behind
+  completion_need k b rest r = grind (arith, placed, completing_look, open_stopped, code, command_at, next_command, placed_note, post_of, need_in, max, made_is_look, placed_need, zero_most, append_assoc, begun_need, has_placed, is_placed_by, slot)
 
   event_need : (k : Known) (κ : BlockKind) (b : Block) (rest : List Note) (r : ℕ) → EventNeed k κ b rest r
   unfolding event_notes need_in need_before
   event_need k κ b rest r = grind (arith, transfer_need, made_is_look, completion_need, zero_most)
 
-  bell_need : (zero : Bool) (o : Option ℕ) (rest : List Note) (r : ℕ) →
-      need_in ((if zero then [] else map Begun (listed o)) ++ rest) r ≡ (if not zero && is_ring r o then 0 else max 0 (need_in rest r))
-  bell_need zero o rest r = grind (arith, zero_most, begun_need, has_listed)
-
   any_need : (k : Known) (row : Row) (rest : List Note) (r : ℕ) →
       need_in (any_notes h k row ++ rest) r ≡ (if ends_need h k r row then 0 else max (number_reported h k r row) (need_in rest r))
   unfolding any_notes ends_need number_reported need_in need_before row_notes begins_anew is_placed
-  any_need k row rest r = grind (arith, bell_need, event_need, zero_most)
+  any_need k row rest r = grind (arith, zero_most, begun_need, has_listed, event_need, zero_most)
 
 needs_of : (rows : List Row) (h : Header) (k : Known) (r : ℕ) → need_in (notes h k rows) r ≡ need h k r rows
 unfolding notes need need_in need_before

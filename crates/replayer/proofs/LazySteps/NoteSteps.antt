@@ -1,5 +1,5 @@
 -- The steps of the notes of one row are those of the lazy schedule before it
-use Rattle.replayer.proofs.MiddleLaws.{rules, arith, ne_eqb, ◌≡◌, ◌+◌, ◌==◌, ◌&&◌, ◌||◌, ◌∷◌, ◌++◌, if◌then◌else◌, ◌∙◌, ℕ, Bool, List, [], map, Option, Some, None, refl, sym, ap, eq-eqb, eqb-true, append_assoc, flat_map, fun_ext, cases_Bool, false≢true, put, Block, BlockKind, CommandCompletion, kind, code, slot, is_command_completion, Spot, Command, Header, Row, Bell, Read, Step, Known, learned, RingSpot, command_at, next_command, is_placed_by, is_placed, need, taken_up_to, command_taken, report_goals, open_goals, stopped_goals, goals, post_of, looks_to, steps_before, brought, pointers_after, Note, Begun, Made, header_behind, rows_behind, any_notes, header_after, known_after, restored_on, ring_restored, steps_for, pointers_for, if_open, open_stopped, placed, placed_note, reporting_look, transfer_notes, completing_look, event_notes, row_notes, need_before, need_in, with_need, filled, note_goals, note_steps, pointers_behind, steps_of, has, has_placed, placed_need}
+use Rattle.replayer.proofs.MiddleLaws.{rules, arith, ne_eqb, ◌≡◌, ◌==◌, ◌&&◌, ◌||◌, ◌∷◌, ◌++◌, if◌then◌else◌, ◌∙◌, ℕ, Bool, List, [], map, Option, Some, None, refl, eq-eqb, eqb-true, append_assoc, flat_map, fun_ext, cases_Bool, false≢true, put, Block, BlockKind, CommandCompletion, kind, code, slot, is_command_completion, Spot, Command, Header, Row, Bell, Read, Step, Known, learned, RingSpot, command_at, next_command, is_placed_by, is_placed, need, taken_up_to, command_taken, report_goals, open_goals, stopped_goals, goals, post_of, looks_to, steps_before, brought, pointers_after, Note, Begun, Made, header_behind, rows_behind, any_notes, header_after, known_after, restored_on, ring_restored, steps_for, pointers_for, if_open, open_stopped, placed, placed_note, reporting_look, transfer_notes, completing_look, event_notes, row_notes, need_before, need_in, with_need, filled, note_goals, note_steps, pointers_behind, steps_of, has, has_placed, placed_need}
 
 put_first : (f p : ℕ → Spot) (q r : ℕ) (b : Bool) → (if b then f r else (if r == q then f q else p r)) ≡ (if (q == r) || b then f r else p r)
 put_first f p q r b = grind (arith, cases_Bool, eqb-true, eq-eqb, ne_eqb, false≢true, Bool)
@@ -43,12 +43,9 @@ module _ (h : Header) (rows : List Row) where
     stopped_needed None = []
     stopped_needed (Some r) = taken_up_to h r (m r) ∷ []
 
-    one_open : (t : Bool) (r : ℕ) → (if t then taken_up_to h r (m r) ∷ [] else []) ≡ stopped_needed (if t then Some r else None)
-    one_open t r = grind arith
-
     stopped_are : (o : Option Command) → stopped_goals h k later b o ≡ stopped_needed (open_stopped k (code b) o)
     unfolding stopped_goals open_stopped open_goals if_open
-    stopped_are o = grind (arith, one_open)
+    stopped_are o = grind arith
 
     -- the tail of a completion: the rings that it binds or moves stand at their floors
     abbrev tail : List Note
@@ -69,17 +66,7 @@ module _ (h : Header) (rows : List Row) where
     completion_steps =
         let l : List ℕ = placed h k b in
         let c : Option Command = command_at h k (next_command h k) in
-        let o : Option ℕ = open_stopped k (code b) c in
-        let post : Step = post_of h CommandCompletion b in
-        ap (λ (n : List Note). steps_of h rows p (filled n)) (append_assoc (map Begun l) (completing_look h k o ∷ Made post ∷ tail) rest)
-        ∙ begun_steps p l (completing_look h k o ∷ Made post ∷ (tail ++ rest))
-        ∙ (grind (arith, look_then, tail_needs))
-        ∙ ap (λ (g : List RingSpot). (flat_map (looks_to h p) (command_taken h k ∷ g) ++ post ∷ []) ++ steps_of h rows (brought h p (command_taken h k ∷ g)) (filled (tail ++ rest)))
-        (sym (stopped_are c))
-        ∙ ap (λ (s : List Step). (flat_map (looks_to h p) (command_taken h k ∷ stopped_goals h k later b c) ++ post ∷ []) ++ s)
-        (placed_steps k (Read b) (brought h p (command_taken h k ∷ stopped_goals h k later b c)) l rest
-        ∙ ap (λ (s : ℕ → Spot). steps_of h rows s (filled rest))
-        (fun_ext (λ r. ap (λ t. if t then floor_behind k (Read b) r else brought h p (command_taken h k ∷ stopped_goals h k later b c) r) (has_placed h k b r))))
+        grind (arith, open_stopped, code, post_of, steps_of, filled, append_assoc, completing_look, begun_steps, look_then, tail_needs, flat_map, looks_to, command_taken, brought, stopped_are, stopped_goals, placed_steps, fun_ext, has_placed)
 
     event_steps : (κ : BlockKind) → EventSteps κ
     unfolding event_notes goals steps_of filled with_need note_steps note_goals pointers_behind brought header_behind rows_behind

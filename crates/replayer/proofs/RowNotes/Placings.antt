@@ -1,6 +1,5 @@
 -- The rings that the success of a command binds or moves
 use Rattle.replayer.proofs.Words.{rules, cond_both, ◌≡◌, ℕ, suc, ◌+◌, ◌-◌, ◌<◌, ◌∙◌, List, [], ◌∷◌, ◌++◌, Bool, true, false, Option, map, refl, ap, sym, arith, get_or, ◌==◌, All, filter, cases_Bool, cond-true, cond-false, or_parts, none-some, All-head, All-tail, All-nil, All-cons, All-append, Block, code, slot, ContextSize, added_endpoints, context_pointer, input_add_flag, Command, AddressDevice, ConfigureEndpoint, SetTrDequeue, EndpointState, Stopped, is_off, Change, Places, changes, placed_by_context, Header, IsHeader, is_ring, ring_having, Known, changed_by, is_among, has_repeats, binds, binding_in, ring_bound, EndpointsKeep, DriverKeeps, IsTransferRing, StillHolds, RingsKeep, endpoints_of, transfer_ring, change_keeps, ReadyAt, all_ready, dropped, map_map, ready_next, ring_at, having_transfer, each_fails, any_of_map, ring_placed, listed, placed, placed_by, placed_by_all, rings_added, cons_option, filter_map, list_any, range_with_len}
-use Rattle.safety.specs.EndpointsKeep as endpoints
 
 listed_alone : (o : Option ℕ) → listed o ++ [] ≡ listed o
 listed_alone o = grind arith
@@ -64,9 +63,7 @@ module _ (h : Header) where
         let change : Change = placed_by_context h.context_size memory s a i in
         let next : Known = changed_by h c l change in
         let more = placed_each c memory s a rest next (λ x d inside. ready_next h is c l memory s a i r (get_or rest x d) here.off here.named (later x d inside) (others x d inside)) parts.1 in
-        ap (λ o. listed o ++ placed_by_all h c next (map (placed_by_context h.context_size memory s a) rest)) (placed_off l s i _ _ _ here.off)
-        ∙ ap (λ xs. listed (ring_at h is memory a i) ++ xs) more
-        ∙ listed_before (ring_at h is memory a i) (filter_map (ring_at h is memory a) rest)
+        grind (arith, listed, placed_by_all, placed_by_context, placed_off, ring_at, listed_before, filter_map)
 
     configured_places : (k : Known) → RingsKeep h k → (n s a : ℕ) → StillHolds h k (ConfigureEndpoint s false a) →
         placed_by_all h (ConfigureEndpoint s false a) k (changes h.context_size k.memory n (ConfigureEndpoint s false a)) ≡ rings_added h k.memory a 2

@@ -1,8 +1,5 @@
 -- The lazy schedule has brought each ring that an endpoint has to its floor behind each row
-use Rattle.replayer.proofs.Words.{◌≡◌, ◌∷◌, ◌++◌, ◌∙◌, List, [], All, ap, append-nil, append_assoc, refl, reverse, subst, sym, Header, NextRow, Step, Row, IsHeader, AreKept, IsRow, header_now, known_now, IsTimely, lazy_run, lazy_steps, one_more, pointers_at, steps_for}
-use Rattle.std.proofs.lemmas.List.{reverse-append, reverse-reverse}
-use Rattle.safety.proofs.LazyRuns.WholeRuns.{lazy_law}
-use Rattle.replayer.specs.Schedules.Floors.{StandsAtFloors, StandsBehind}
+use Rattle.replayer.proofs.Words.{arith, ◌≡◌, ◌∷◌, ◌++◌, ◌∙◌, List, [], All, ap, append-nil, append_assoc, refl, reverse, subst, sym, Header, NextRow, Step, Row, IsHeader, AreKept, IsRow, header_now, known_now, IsTimely, lazy_run, lazy_steps, one_more, pointers_at, steps_for, reverse-append, reverse-reverse, lazy_law, StandsAtFloors}
 
 module _ (h : Header) where
   -- the lazy run of more rows goes on where that of fewer ended
@@ -24,9 +21,7 @@ module _ (h : Header) where
   -- its steps up to a row, and the others
   parts : (past later : List Row) (on : GoesOn later past []) → lazy_steps h (reverse past ++ later) ≡ reverse (lazy_run h past later) ++ reverse on.then
   unfolding lazy_steps
-  parts past later on =
-      let turned : reverse (reverse past ++ later) ≡ reverse later ++ past = reverse-append (reverse past) later ∙ ap (λ rows. reverse later ++ rows) (reverse-reverse past) in
-      ap (λ rows. reverse (lazy_run h rows [])) turned ∙ ap reverse on.same ∙ reverse-append on.then (lazy_run h past (later ++ [])) ∙ ap (λ rows. reverse (lazy_run h past rows) ++ reverse on.then) (append-nil later)
+  parts past later on = grind (arith, reverse, reverse-append, reverse-reverse, lazy_run, append-nil)
 
   pub stands_at_floors : (rows : List Row) → IsHeader h → All IsRow rows → AreKept h (reverse rows) → IsTimely h (reverse rows) → StandsAtFloors h rows (lazy_steps h rows)
   stands_at_floors rows is fits kept timely past later same =

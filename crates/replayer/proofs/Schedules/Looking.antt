@@ -1,19 +1,5 @@
 -- Looks at rings, one behind the other
-use Rattle.std.proofs.lemmas.List.{drop_all}
-use Rattle.std.proofs.Common.{◌≡◌, ◌∙◌, ℕ, suc, zero, ◌+◌, ◌-◌, ◌<◌, ◌≤◌, ◌||◌, lt-ltb, nat_lt, Bool, true, false, List, [], ◌∷◌, drop, get_or, length, Option, Some, None, is_some, Ok, Err, ap, sym, refl, arith, option_and_then, Bor}
-use Rattle.std.proofs.lemmas.Bool.Decides.{nat_tests}
-use Rattle.std.proofs.lemmas.Grind.{common_steps}
-use Rattle.traces.specs.declared.ring.Ring.{Ring}
-use Rattle.traces.specs.declared.row.Row.{Row}
-use Rattle.traces.specs.declared.row.Row.TheVariants.{Read}
-use Rattle.trb.specs.declared.block.Block.{Block}
-use Rattle.traces.specs.declared.step.Step.{Step}
-use Rattle.traces.specs.declared.step.Step.TheVariants.{Look}
-use Rattle.controller_model.specs.declared.seen.Seen.{Seen}
-use Rattle.replayer.specs.declared.scheduler.attempt.Unmade.{Unmade}
-use Rattle.replayer.specs.Schedules.Making.{IsMade, Making, behind_look, blocks_of_ring, is_waited, looked_at, looked_at_each, made_before, made_behind_looks, made_looks, made_step, rings_at, tried_step, unless_possible, with_active}
-use Rattle.traces.specs.Header.{is_command_kind}
-use Rattle.replayer.proofs.Schedules.Making.{left, made_is, made_of, unmade}
+use Rattle.replayer.proofs.LowerLaws.{rules, drop_all, ◌≡◌, ◌∙◌, ℕ, suc, ◌+◌, ◌-◌, ◌<◌, ◌≤◌, ◌||◌, lt-ltb, nat_lt, Bool, true, false, List, [], drop, get_or, length, Option, Some, None, is_some, Ok, Err, ap, refl, arith, option_and_then, Bor, nat_tests, Ring, Row, Read, Block, Step, Look, Seen, Unmade, IsMade, Making, behind_look, blocks_of_ring, is_waited, looked_at, looked_at_each, made_before, made_behind_looks, made_looks, made_step, rings_at, tried_step, unless_possible, with_active, is_command_kind, left, made_is, made_of, unmade}
 
 pub any_before : (ring : Ring) (looks : ℕ) → 0 < looks → nat_lt 0 looks ≡ (nat_lt 0 looks || is_command_kind ring.shape.kind)
 any_before ring looks some = rw (lt-ltb 0 looks some) refl
@@ -32,9 +18,7 @@ module _ (m k : Making) (ring : Ring) (looks : ℕ) where
   module _ (below : looks < blocks_of_ring ring) (so_far : looked_at m ring ≡ made_looks (blocks_of_ring ring - looks) had k ring.id) where
     look_next : looked_at m ring ≡ option_and_then (λ p. behind_look had (made_looks (blocks_of_ring ring - (looks + 1)) true p.1 ring.id) p) (tried_step k (Look ring.id))
     unfolding made_looks
-    look_next =
-        let one : blocks_of_ring ring - looks ≡ suc (blocks_of_ring ring - (looks + 1)) = omega (arith, below) in
-        so_far ∙ ap (λ n. made_looks n had k ring.id) one
+    look_next = search rules
 
     pub look_failed : {X Z : Type 0} (e : Unmade) (P : X → Option Seen × Making → Type 0) (Q : Z → Bool × Making → Type 0) → IsMade (Err e) (tried_step k (Look ring.id)) P → IsMade (Err e) (looked_at m ring) Q
     look_failed e P Q made = rw look_next (unmade e (tried_step k (Look ring.id)) _ P Q made)
@@ -69,9 +53,7 @@ module _ (m k : Making) (ring : Ring) (looks : ℕ) where
 
   pub look_end : (so_far : looked_at m ring ≡ made_looks (blocks_of_ring ring - looks) had k ring.id) (R : Making → Type 0) → blocks_of_ring ring ≤ looks → R k → IsMade (Ok true) (looked_at m ring) (λ a p. (a ≡ p.0) × R p.1)
   unfolding made_looks
-  look_end so_far R past has =
-      let none : blocks_of_ring ring - looks ≡ zero = omega (arith, past) in
-      rw (so_far, none) (refl, has)
+  look_end so_far R past has = grind arith
 
 -- ---- a step behind looks at a ring that is late
 
@@ -87,37 +69,20 @@ module _ (m k : Making) (s : Step) (r n looks : ℕ) where
     late_failed e P Q made = rw late_next (unmade e (tried_step k s) _ P Q made)
 
     pub late_posted : {Z : Type 0} (z : Z) (shown : Option Seen) → is_some shown ≡ true → (R : Making → Type 0) → IsMade (Ok shown) (tried_step k s) (λ v p. (v ≡ p.0) × R p.1) → IsMade (Ok z) (made_behind_looks n m s r) (λ d j. R j)
-    late_posted z None some R made = absurd (cc)
-    late_posted z (Some seen) some R made = rw late_next (made_of (Some seen) (tried_step k s) _ (Ok z) (λ v p. (v ≡ p.0) × R p.1) (λ d j. R j) made by)
-      where
-        by : (p : Option Seen × Making) → (Some seen ≡ p.0) × R p.1 → IsMade (Ok z) (unless_possible (option_and_then (λ j. made_behind_looks (n - (looks + 1)) j s r) (made_step p.1 (Look r))) p) (λ d j. R j)
-        by (None, j) h = absurd (cc)
-        by (Some v, j) h = h.1
+    late_posted z given2 some given4 made = grind (arith, late_next, made_of, option_and_then)
 
     -- the step isn't possible yet
     pub late_unseen : (R : Making → Type 0) (shown : Option Seen) → is_some shown ≡ false → IsMade (Ok shown) (tried_step k s) (λ v p. (v ≡ p.0) × R p.1) →
         (j : Making) × R j × (made_behind_looks n m s r ≡ option_and_then (λ i. made_behind_looks (n - (looks + 1)) i s r) (made_step j (Look r)))
-    late_unseen R (Some seen) none made = absurd (cc)
-    late_unseen R None none made =
-        let y = made_is None (tried_step k s) (λ v p. (v ≡ p.0) × R p.1) made in
-        by y.0 (late_next ∙ ap (λ o. option_and_then (λ p. unless_possible (option_and_then (λ j. made_behind_looks (n - (looks + 1)) j s r) (made_step p.1 (Look r))) p) o) y.1) y.2
-      where
-        by : (p : Option Seen × Making) → made_behind_looks n m s r ≡ unless_possible (option_and_then (λ j. made_behind_looks (n - (looks + 1)) j s r) (made_step p.1 (Look r))) p → (None ≡ p.0) × R p.1 →
-            (j : Making) × R j × (made_behind_looks n m s r ≡ option_and_then (λ i. made_behind_looks (n - (looks + 1)) i s r) (made_step j (Look r)))
-        by (None, j) e h = (j, h.1, e)
-        by (Some v, j) e h = absurd (cc)
+    late_unseen given1 given2 none made = grind (arith, made_is, late_next, option_and_then)
 
     pub late_more : {Z : Type 0} (R : Making → Type 0) (z : Z) (j : Making) → made_behind_looks n m s r ≡ option_and_then (λ i. made_behind_looks (n - (looks + 1)) i s r) (made_step j (Look r)) →
         IsMade (Ok z) (made_step j (Look r)) (λ d i. R i) → (i : Making) × R i × (made_behind_looks n m s r ≡ made_behind_looks (n - (looks + 1)) i s r)
-    late_more R z j e made =
-        let y = made_is z (made_step j (Look r)) (λ d i. R i) made in
-        (y.0, y.2, e ∙ ap (λ o. option_and_then (λ i. made_behind_looks (n - (looks + 1)) i s r) o) y.1)
+    late_more R z j e made = grind (arith, made_is, option_and_then)
 
   pub late_end : made_behind_looks n m s r ≡ made_behind_looks (n - looks) k s r → n ≤ looks → made_behind_looks n m s r ≡ made_step k s
   unfolding made_behind_looks
-  late_end so_far past =
-      let none : n - looks ≡ zero = omega (arith, past) in
-      so_far ∙ ap (λ d. made_behind_looks d k s r) none
+  late_end so_far past = grind arith
 
 -- ---- looks at each of many rings
 
@@ -132,14 +97,7 @@ module _ (m k : Making) (rings : List (Bor Ring)) (active : List Ring) (i : ℕ)
 
     pub each_more : (b : Bool) (R : Making → Type 0) (after : List Ring) → after ≡ with_active active ring.now b → IsMade (Ok b) (looked_at k ring.now) (λ a p. (a ≡ p.0) × R p.1) →
         (n : Making) × R n × (looked_at_each [] m (rings_at rings) ≡ looked_at_each after n (rings_at (drop (i + 1) rings)))
-    each_more b R after same made =
-        let y = made_is b (looked_at k ring.now) (λ a p. (a ≡ p.0) × R p.1) made in (
-          y.0.1,
-          y.2.1,
-          each_next ∙ ap (λ o. option_and_then (λ p. looked_at_each (with_active active ring.now p.0) p.1 (rings_at (drop (i + 1) rings))) o) y.1
-              ∙ ap (λ c. looked_at_each (with_active active ring.now c) y.0.1 (rings_at (drop (i + 1) rings))) (sym y.2.0)
-              ∙ ap (λ l. looked_at_each l y.0.1 (rings_at (drop (i + 1) rings))) (sym same),
-        )
+    each_more b R after same made = grind (arith, made_is, each_next, option_and_then)
 
   pub each_end : {Z : Type 0} (so_far : looked_at_each [] m (rings_at rings) ≡ looked_at_each active k (rings_at (drop i rings))) (z : Z) (view : Z → List Ring) (R : Making → Type 0) → view z ≡ active → length rings ≤ i → R k →
       IsMade (Ok z) (looked_at_each [] m (rings_at rings)) (λ a p. (view a ≡ p.0) × R p.1)
@@ -150,5 +108,4 @@ module _ (m k : Making) (rings : List (Bor Ring)) (active : List Ring) (i : ℕ)
 
 pub not_read : (m : Making) (row : Row) (late : Option Ring) → ((b : Block) → row ≡ Read b → ⊥) → made_before m row late ≡ Some m
 unfolding made_before
-not_read m (Read b) late other = absurd (other b refl)
-not_read m row late other = refl
+not_read m row late other = grind arith

@@ -1,34 +1,18 @@
 -- Schedules that are made step by step
-use Rattle.std.proofs.lemmas.List.{drop_all}
-use Rattle.std.proofs.Common.{◌≡◌, ◌∙◌, ℕ, suc, zero, ◌+◌, ◌-◌, ◌<◌, ◌≤◌, le-leb, Bool, true, false, List, [], ◌∷◌, ◌++◌, drop, get_or, length, Option, Some, None, is_some, Result, Ok, Err, ap, sym, refl, subst, arith, option_and_then}
-use Rattle.std.proofs.lemmas.Bool.Decides.{nat_tests}
-use Rattle.std.proofs.lemmas.Grind.{common_steps}
-use Rattle.traces.specs.declared.step.Step.{Step}
-use Rattle.world_state.specs.Scenes.{Scene, step_made}
-use Rattle.controller_model.specs.declared.seen.Seen.{Seen}
-use Rattle.controller_model.specs.declared.fault.StepFault.{StepFault}
-use Rattle.controller_model.specs.declared.fault.StepFault.TheVariants.{NotPossible}
+use Rattle.replayer.proofs.Words.{drop_all, ◌≡◌, ◌∙◌, ℕ, ◌+◌, ◌<◌, ◌≤◌, le-leb, true, false, List, [], ◌∷◌, ◌++◌, drop, get_or, length, Option, Some, None, is_some, Result, Ok, Err, ap, subst, arith, option_and_then, nat_tests, common_steps, Step, Scene, step_made, Seen, NotPossible, shows, Unmade, Dropped, IsMade, Making, behind_step, if_possible, is_full, made_step, made_steps, tried_step}
 use Rattle.controller_model.specs.Following.{IsStep}
-use Rattle.controller_model.specs.Showing.{shows}
-use Rattle.replayer.specs.declared.scheduler.attempt.Unmade.{Unmade}
-use Rattle.replayer.specs.declared.scheduler.attempt.Unmade.TheVariants.{Dropped, Memory}
-use Rattle.replayer.specs.Schedules.Making.{IsMade, Making, behind_step, if_possible, is_full, made_step, made_steps, tried_step}
 
 -- where something isn't made, nothing is made of it
 pub unmade : {X Y Z W : Type 0} (e : Unmade) (o : Option Y) (f : Y → Option W) (P : X → Y → Type 0) (Q : Z → W → Type 0) → IsMade (Err e) o P → IsMade (Err e) (option_and_then f o) Q
-unmade Dropped None f P Q made = tt
-unmade Dropped (Some y) f P Q made = absurd made
-unmade Memory o f P Q made = tt
+unmade given1 o f given4 given5 made = grind arith
 
 -- what is made of what was made
 pub made_of : {X Y Z W : Type 0} (x : X) (o : Option Y) (f : Y → Option W) (r : Result Z Unmade) (P : X → Y → Type 0) (Q : Z → W → Type 0) → IsMade (Ok x) o P →
     ((y : Y) → P x y → IsMade r (f y) Q) → IsMade r (option_and_then f o) Q
-made_of x None f r P Q made next = absurd made
-made_of x (Some y) f r P Q made next = next y made
+made_of x given2 f r given5 given6 made next = grind arith
 
 pub made_is : {X Y : Type 0} (x : X) (o : Option Y) (P : X → Y → Type 0) → IsMade (Ok x) o P → (y : Y) × (o ≡ Some y) × P x y
-made_is x None P made = absurd made
-made_is x (Some y) P made = (y, refl, made)
+made_is x given2 given3 made = grind arith
 
 module _ (m : Making) (items : List Step) (n : ℕ) (same : items ≡ m.steps) (count : n ≡ length items) where
   pub full_is : 4194303 ≤ n → is_full m ≡ true

@@ -1,5 +1,5 @@
 -- The rows of a trace, checked and noted one by one
-use Rattle.replayer.proofs.Words.{◌≡◌, ℕ, ◌+◌, ◌<◌, ◌≤◌, List, [], ◌∷◌, ◌++◌, Some, ap, sym, ◌∙◌, arith, length, get_or, subst, Result, All, OnOk, map, reverse, take, drop, drop_all, take_all, append-nil, append_assoc, common_steps, most_lines, most_streamed_lines, Header, Row, Known, nothing, Refusal, learned, IsKept, header_now, known_now, restored, restored_on, ring_restored, fun_ext, DriverKeeps, IsTransferRing, TraceRecord, FollowsTrace, AreClean, IsLeastOfRow, IsRingPassed, trace_verdict, RingPass, kept_now, row_refused, kept_on, restored_learns, row_learns, Note, Next, Placed, any_notes, notes, placed_note, row_notes, AreNoted, MayBeRead, is_ring_row, header_driven, driven_after, false, RingRow, FreeRow, false≢true, refl}
+use Rattle.replayer.proofs.Words.{◌≡◌, ℕ, ◌+◌, ◌<◌, ◌≤◌, List, [], ◌∷◌, ◌++◌, Some, ap, sym, ◌∙◌, arith, length, get_or, subst, Result, All, OnOk, map, reverse, take, drop, drop_all, take_all, append-nil, append_assoc, common_steps, most_lines, most_streamed_lines, Header, Row, Known, nothing, Refusal, learned, IsKept, header_now, known_now, restored, restored_on, ring_restored, fun_ext, DriverKeeps, IsTransferRing, TraceRecord, FollowsTrace, AreClean, IsLeastOfRow, IsRingPassed, trace_verdict, RingPass, kept_now, row_refused, kept_on, restored_learns, row_learns, Note, Next, Placed, any_notes, notes, placed_note, row_notes, AreNoted, MayBeRead, is_ring_row, header_driven, driven_after, false, false≢true}
 
 pub on_any : {X E P : Type 0} (r : Result X E) → P → OnOk r P
 on_any r p = grind arith
@@ -7,9 +7,7 @@ on_any r p = grind arith
 -- the notes of a row by which no ring comes or goes are those of what the driver did or read
 pub any_driven : (h : Header) (k : Known) (row : Row) → is_ring_row row ≡ false → any_notes h k row ≡ row_notes h k row
 unfolding any_notes
-any_driven h k (RingRow ring) driven = absurd (false≢true (sym driven))
-any_driven h k (FreeRow id) driven = absurd (false≢true (sym driven))
-any_driven h k row driven = refl
+any_driven h k row driven = grind (arith, false≢true)
 
 left : (rows : List Row) (i : ℕ) (d : Row) → i < length rows → drop i rows ≡ get_or rows i d ∷ drop (i + 1) rows
 left rows i d h = grind (arith, common_steps, h)

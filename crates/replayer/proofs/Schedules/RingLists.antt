@@ -1,8 +1,5 @@
 -- Lists of the rings that are there
-use Rattle.std.proofs.Common.{◌≡◌, ◌==◌, ◌∷◌, [], ℕ, Bool, List, None, not, filter, ap, refl, arith, rules, Bor, Option}
-use Rattle.traces.specs.declared.ring.Ring.{Ring}
-use Rattle.replayer.specs.Schedules.Making.{rings_at}
-use Rattle.replayer.specs.Schedules.Eager.{is_late}
+use Rattle.replayer.proofs.Words.{◌≡◌, ◌==◌, ◌∷◌, [], ℕ, List, None, not, filter, ap, refl, arith, Bor, Ring, rings_at, is_late}
 
 -- those that references point to are kept as the references are
 pub rings_kept : (id : ℕ) (rings : List (Bor Ring)) → rings_at (filter (λ r. not (r.now.id == id)) rings) ≡ filter (λ r. not (r.id == id)) (rings_at rings)

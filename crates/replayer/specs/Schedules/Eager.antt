@@ -1,5 +1,5 @@
 -- The eager schedule, in which one ring may be late, and the schedules of a wide search
-use Rattle.std.specs.Prelude.{◌≡◌, ℕ, ◌+◌, ◌-◌, ◌<◌, ◌==◌, ◌++◌, Bool, true, false, not, if◌then◌else◌, List, [], ◌∷◌, filter, length, nat_le, take, Option, Some, None, option_and_then, option_map, option_to_list}
+use Rattle.std.specs.Prelude.{ℕ, ◌-◌, ◌==◌, ◌++◌, Bool, true, false, not, if◌then◌else◌, List, [], ◌∷◌, filter, length, nat_le, Option, Some, None, option_and_then, option_map, option_to_list}
 use Rattle.traces.specs.declared.header.Header.{Header}
 use Rattle.traces.specs.declared.ring.Ring.{Ring}
 use Rattle.traces.specs.Header.{is_event_kind}
@@ -43,16 +43,17 @@ nothing_made h rows = record { steps = []; scene = scene_before h rows }
 abbrev pub looked_at_last : Option Ring → Header → Making → Option (List Step)
 looked_at_last late h m = option_map (λ p. p.1.steps) (looked_at_each [] m (h.rings ++ option_to_list late))
 
+-- how many lines a schedule has; where there is none, as many as is said
+abbrev pub lines_of : Option (List Step) → ℕ → ℕ
+lines_of None otherwise = otherwise
+lines_of (Some steps) otherwise = length steps
+
 module _ (h : Header) (rows : List Row) where
   -- the eager schedule of the first rows: directly before each event that is read its post, behind each row looks at each active ring until it
   -- waits, and at the end looks at each ring that is there; one ring may be late
   unfoldable pub eager_schedule : List Row → Option Ring → Option (List Step)
   eager_schedule first late =
       option_and_then (λ p. looked_at_last late p.0 p.1) (eager_rows late (without_late h late) [] first (nothing_made h rows))
-
-  abbrev pub lines_of : Option (List Step) → ℕ → ℕ
-  lines_of None otherwise = otherwise
-  lines_of (Some steps) otherwise = length steps
 
   -- the eager schedules of the first rows in which one of these rings is late, ring by ring, until they have so many lines
   unfoldable pub late_schedules : List Row → ℕ → ℕ → List Ring → List (List Step)

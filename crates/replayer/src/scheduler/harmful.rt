@@ -1,6 +1,15 @@
 //! A schedule that does harm, beside a trace with a row that breaks a rule.
-ghost use Rattle.std.specs.Prelude.{◌≡◌, ◌+◌, ◌-◌, ◌<◌, ◌≤◌, All, length, IfOk, IfSome};
-ghost use Rattle.traces.specs.Limits.{most_lines};
+ghost use Rattle.std.specs.Prelude.{◌≡◌, ◌≢◌, ◌+◌, ◌-◌, ◌*◌, ◌<◌, ◌≤◌, ℕ, All, List, Option, length, option_map, reverse, slice_get, take, IfErr, IfNone, IfOk, IfSome};
+ghost use Rattle.traces.specs.Limits.{most_lines, most_schedule_lines};
+ghost use Rattle.traces.specs.declared.step.Step.{Step as StepValue};
+ghost use Rattle.ownership_checker.specs.RingPasses.Clean.{AreClean};
+ghost use Rattle.replayer.specs.declared.scheduler.attempt.Unmade.TheVariants.{Dropped};
+ghost use Rattle.replayer.specs.declared.scheduler.harmful.Search.TheVariants.{Brief};
+ghost use Rattle.traces.specs.declared.header.Header.{Header as HeaderValue};
+ghost use Rattle.replayer.specs.Schedules.Making.{IsMade, Making, rings_at};
+ghost use Rattle.replayer.specs.Schedules.Attempts.{HasMade};
+ghost use Rattle.replayer.specs.Schedules.Eager.{eager_row, eager_schedule, late_schedules};
+ghost use Rattle.replayer.specs.Schedules.Tried.{IsNoRead, IsTame, NoneDoesHarm, lazy_behind};
 ghost use Rattle.traces.specs.TraceRows.{IsTraceRow};
 ghost use Rattle.world_state.specs.declared.harm.Harm.{Harm as HarmValue};
 ghost use Rattle.world_state.specs.Steps.{Harmful};
@@ -48,6 +57,8 @@ pub fn harmful_schedule(
     requires few { trace.now.first + length trace.now.rows ≤ most_lines + 1 }
     ensures harm { IfOk result (λ found. IfSome found (λ schedule.
         (harm : HarmValue) × DoesHarm trace.now.header trace.now.rows (row - trace.now.first + 1) schedule.steps harm)) }
+    ensures none { IfOk result (λ found. IfNone found ((refused : ℕ) → row ≡ trace.now.first + refused →
+        IfSome (slice_get trace.now.rows refused) (λ r. IsNoRead r → NoneDoesHarm trace.now.header trace.now.rows refused Brief))) }
 {
     match harmful_run(alloc, trace, row, Search::Brief)? {
         Some(run) => Ok(Some(run.schedule)),
@@ -55,9 +66,10 @@ pub fn harmful_schedule(
     }
 }
 
-/// A run that does harm beside a trace, of which `check` tells that the row with this line number is the first that breaks a rule: the eager schedule of the rows up to that one, or else the lazy one, with looks at each ring behind it, up to the first step
-/// after which the world isn't safe. That is told by the replay of what was made. A wide search tries more, where neither does harm. None
-/// where no schedule that was tried does, which doesn't say that no run does, and where the trace has no such row.
+/// A run that does harm beside a trace, of which `check` tells that the row with this line number is the first that breaks a rule: the
+/// eager schedule of the rows up to that one, or else the lazy one, with looks at each ring behind it, up to the first step after which
+/// the world isn't safe. That is told by the replay of what was made. A wide search tries more, where neither does harm. None where no
+/// schedule that was tried does, which doesn't say that no run does, and where the trace has no such row, or it reads an event.
 pub fn harmful_run(
     alloc: Global,
     trace: &Trace,
@@ -67,6 +79,8 @@ pub fn harmful_run(
     requires few { trace.now.first + length trace.now.rows ≤ most_lines + 1 }
     ensures harm { IfOk result (λ found. IfSome found (λ run.
         DoesHarm trace.now.header trace.now.rows (row - trace.now.first + 1) run.schedule.steps run.harm)) }
+    ensures none { IfOk result (λ found. IfNone found ((refused : ℕ) → row ≡ trace.now.first + refused →
+        IfSome (slice_get trace.now.rows refused) (λ r. IsNoRead r → NoneDoesHarm trace.now.header trace.now.rows refused search))) }
 {
     if row < trace.first || (row - trace.first) as usize >= trace.rows.as_slice().len() {
         return Ok(None);
@@ -90,7 +104,10 @@ pub fn harmful_run(
 }
 
 /// How many lines a schedule has; where none was made, as many as is said.
-fn lines_of(made: &Result<Schedule, Unmade>, otherwise: usize) -> usize {
+fn lines_of(made: &Result<Schedule, Unmade>, otherwise: usize) -> usize
+    ensures made { IfOk made.now (λ schedule. result ≡ length schedule.steps) }
+    ensures dropped { IfErr made.now (λ why. result ≡ otherwise) }
+{
     match made {
         Ok(schedule) => schedule.steps.as_slice().len(),
         Err(_) => otherwise,
@@ -104,8 +121,11 @@ fn harm_with_a_late_ring(
     first: &[Row],
     lines: usize,
 ) -> Result<Option<HarmfulRun>, AllocError>
-    requires { All IsTraceRow first.now }
-    ensures { IfOk result (λ found. IfSome found (λ run. DoesHarm trace.now.header trace.now.rows (length first.now) run.schedule.steps run.harm)) }
+    requires fitting { All IsTraceRow first.now }
+    requires few { lines ≤ most_schedule_lines }
+    ensures harm { IfOk result (λ found. IfSome found (λ run. DoesHarm trace.now.header trace.now.rows (length first.now) run.schedule.steps run.harm)) }
+    ensures none { IfOk result (λ found. IfNone found (All (IsTame trace.now.header trace.now.rows (length first.now))
+        (late_schedules trace.now.header trace.now.rows first.now lines (10 * lines) trace.now.header.rings))) }
 {
     let mut left = lines.saturating_mul(MOST_TIMES);
     for ring in trace.header.rings.as_slice() {
@@ -135,14 +155,13 @@ fn eager_schedule(
     late: Option<&Ring>,
 ) -> Result<Schedule, Unmade>
     requires { All IsTraceRow first.now }
+    ensures { IsMade result (eager_schedule trace.now.header trace.now.rows first.now (option_map (λ ring. ring.now) late.entry)) (λ schedule steps. schedule.steps ≡ steps) }
 {
     let mut attempt = Attempt::new(alloc, trace)?;
     let mut prompt = prompt_rings(alloc, &trace.header, late)?;
     let mut active = Vec::new(alloc);
     for row in first {
-        attempt.post_before(row, late)?;
-        attempt.make(Step::NextRow)?;
-        active = attempt.look_at_each(alloc, looked_rings(&prompt, &active, row))?;
+        active = eager_row(alloc, &mut attempt, &prompt, &active, row, late)?;
         follow_rings(&mut prompt, row)?;
     }
     if let Some(ring) = late {
@@ -152,11 +171,31 @@ fn eager_schedule(
     Ok(attempt.into_schedule())
 }
 
+/// The eager steps of a row: the post of the event that it reads, the row, and looks; the rings that may be active then.
+fn eager_row<'r>(
+    alloc: Global,
+    attempt: &mut Attempt,
+    prompt: &[&'r Ring],
+    active: &[&'r Ring],
+    row: &Row,
+    late: Option<&Ring>,
+) -> Result<Vec<&'r Ring>, Unmade>
+    requires { IsTraceRow row.now }
+    ensures { (g : HeaderValue) (m : Making) → rings_at prompt.now ≡ g.rings → HasMade attempt.old m →
+        IsMade result (eager_row (option_map (λ ring. ring.now) late.entry) g (rings_at active.now) row.now m) (λ rings p. (rings_at rings.items ≡ p.0) × HasMade attempt.new p.1) }
+{
+    attempt.post_before(row, late)?;
+    attempt.make(Step::NextRow)?;
+    attempt.look_at_each(alloc, looked_rings(prompt, active, row))
+}
+
 /// A run that does harm by the lazy schedule of the rows before the refused one.
 fn lazy_run(alloc: Global, trace: &Trace, refused: usize) -> Result<Option<HarmfulRun>, AllocError>
     requires few { length trace.now.rows ≤ most_lines }
     requires inside { refused < length trace.now.rows }
-    ensures { IfOk result (λ found. IfSome found (λ run. DoesHarm trace.now.header trace.now.rows (refused + 1) run.schedule.steps run.harm)) }
+    ensures harm { IfOk result (λ found. IfSome found (λ run. DoesHarm trace.now.header trace.now.rows (refused + 1) run.schedule.steps run.harm)) }
+    ensures none { IfOk result (λ found. IfNone found (AreClean trace.now.header (reverse (take refused trace.now.rows)) →
+        IfSome (lazy_behind trace.now.header trace.now.rows (take refused trace.now.rows)) (IsTame trace.now.header trace.now.rows (refused + 1)))) }
 {
     let lazy = lazy_schedule_behind(alloc, trace, &trace.rows.as_slice()[..refused]);
     harm_of(alloc, trace, refused + 1, lazy)
@@ -167,6 +206,8 @@ fn lazy_run(alloc: Global, trace: &Trace, refused: usize) -> Result<Option<Harmf
 fn lazy_schedule_behind(alloc: Global, trace: &Trace, before: &[Row]) -> Result<Schedule, Unmade>
     requires few { length before.now ≤ most_lines }
     requires fitting { All IsTraceRow before.now }
+    ensures { AreClean trace.now.header (reverse before.now) →
+        IsMade result (lazy_behind trace.now.header trace.now.rows before.now) (λ schedule steps. schedule.steps ≡ steps) }
 {
     let memory = SparseMemory::new(alloc);
     let steps = match steps_of(alloc, &trace.header, 1, before, memory) {
@@ -189,7 +230,10 @@ fn harm_of(
     most_rows: usize,
     made: Result<Schedule, Unmade>,
 ) -> Result<Option<HarmfulRun>, AllocError>
-    ensures { IfOk result (λ found. IfSome found (λ run. DoesHarm trace.now.header trace.now.rows most_rows run.schedule.steps run.harm)) }
+    ensures harm { IfOk result (λ found. IfSome found (λ run. DoesHarm trace.now.header trace.now.rows most_rows run.schedule.steps run.harm)) }
+    ensures none { IfOk result (λ found. IfNone found ((o : Option (List StepValue)) → IsMade made o (λ schedule steps. schedule.steps ≡ steps) →
+        IfSome o (IsTame trace.now.header trace.now.rows most_rows))) }
+    ensures made { IfOk result (λ found. IfErr made (λ why. why ≡ Dropped)) }
 {
     match made {
         Ok(schedule) => up_to_harm(alloc, trace, most_rows, &schedule),
@@ -206,7 +250,8 @@ fn up_to_harm(
     most_rows: usize,
     schedule: &Schedule,
 ) -> Result<Option<HarmfulRun>, AllocError>
-    ensures { IfOk result (λ found. IfSome found (λ run. DoesHarm trace.now.header trace.now.rows most_rows run.schedule.steps run.harm)) }
+    ensures harm { IfOk result (λ found. IfSome found (λ run. DoesHarm trace.now.header trace.now.rows most_rows run.schedule.steps run.harm)) }
+    ensures none { IfOk result (λ found. IfNone found (IsTame trace.now.header trace.now.rows most_rows schedule.now.steps)) }
 {
     let Some(found) = first_harm(alloc, trace, schedule)? else {
         return Ok(None);
@@ -235,7 +280,8 @@ fn first_harm(
     trace: &Trace,
     schedule: &Schedule,
 ) -> Result<Option<FirstHarm>, AllocError>
-    ensures { IfOk result (λ found. IfSome found (λ first. (scene_replayed trace.now.header trace.now.rows schedule.now.steps).ending ≡ Harmful first.step first.harm)) }
+    ensures harm { IfOk result (λ found. IfSome found (λ first. (scene_replayed trace.now.header trace.now.rows schedule.now.steps).ending ≡ Harmful first.step first.harm)) }
+    ensures none { IfOk result (λ found. IfNone found ((step : ℕ) (harm : HarmValue) → (scene_replayed trace.now.header trace.now.rows schedule.now.steps).ending ≢ Harmful step harm)) }
 {
     match replay(alloc, trace, schedule) {
         Ok(_) | Err(ReplayFault::NotPossible { .. }) => Ok(None),

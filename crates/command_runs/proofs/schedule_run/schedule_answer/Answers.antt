@@ -1,4 +1,4 @@
-use Rattle.command_runs.proofs.Laws.{inr, text_of}
+use Rattle.command_runs.proofs.Words.{inr, text_of}
 use Rattle.command_runs.proofs.schedule_run.schedule_answer.Goals as goal
 
 pub scheduled_answer-requires : goal.scheduled_answer-requires

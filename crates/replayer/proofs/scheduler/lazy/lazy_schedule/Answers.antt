@@ -1,7 +1,4 @@
-use Rattle.replayer.proofs.MiddleLaws.{◌≡◌, ◌∙◌, ◌+◌, ◌*◌, ◌≤◌, List, arith, headline, length, reverse, All, Header, Step, Row, IsHeader, AreSteps, IsTraceRow, scene_replayed, NoHarm, AreKept, IsRow, AreClean, kept_now, IsTimely, lazy_steps, ContainsAll, all_are_read, few_steps, lazy_steps_are, rows_fit, without_harm}
-use Rattle.replayer.proofs.Schedules.Floors.{stands_at_floors}
-use Rattle.replayer.specs.Schedules.Floors.{StandsAtFloors}
-use Rattle.replayer.proofs.Schedules.Fitting.{rows_of_fit}
+use Rattle.replayer.proofs.MiddleLaws.{◌≡◌, ◌∙◌, ◌+◌, ◌*◌, ◌≤◌, List, arith, headline, length, reverse, All, Header, Step, Row, IsHeader, AreSteps, IsTraceRow, scene_replayed, NoHarm, AreKept, IsRow, AreClean, kept_now, IsTimely, lazy_steps, ContainsAll, all_are_read, few_steps, lazy_steps_are, rows_fit, without_harm, stands_at_floors, StandsAtFloors, rows_of_fit}
 use Rattle.replayer.proofs.scheduler.lazy.lazy_schedule.Goals as goal
 
 module _ (h : Header) (headed : IsHeader h) (rows slice : List Row) (fitting : All IsTraceRow rows) (value : slice ≡ rows) (clean : AreClean h (reverse slice)) (steps made : List Step) (new : steps ≡ made) (lazy : made ≡ lazy_steps h slice) where

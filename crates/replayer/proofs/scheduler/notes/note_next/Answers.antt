@@ -1,5 +1,4 @@
-use Rattle.replayer.proofs.MiddleLaws.{◌∙◌, ◌++◌, ap, sym, header_now, known_now, any_notes, driven_by, nothing_more, on_any, row_notes, on_more}
-use Rattle.replayer.proofs.Schedules.Noting.{any_driven}
+use Rattle.replayer.proofs.MiddleLaws.{◌∙◌, ◌++◌, ap, sym, header_now, known_now, any_notes, driven_by, nothing_more, on_any, row_notes, on_more, any_driven}
 use Rattle.replayer.proofs.scheduler.notes.note_next.Goals as goal
 
 pub returns-in-Nop-clause-noted : goal.returns-in-Nop-clause-noted

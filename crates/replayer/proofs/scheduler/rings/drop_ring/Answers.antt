@@ -1,8 +1,4 @@
-use Rattle.std.proofs.Common.{◌≡◌, ◌==◌, ◌∙◌, ap, filter, not, rules, Bor}
-use Rattle.std.proofs.lemmas.Fn.{filter_same}
-use Rattle.traces.specs.declared.ring.Ring.{Ring}
-use Rattle.replayer.specs.Schedules.Making.{rings_at}
-use Rattle.replayer.proofs.Schedules.RingLists.{rings_kept}
+use Rattle.replayer.proofs.MiddleLaws.{◌≡◌, ◌==◌, ◌∙◌, ap, filter, not, rules, Bor, filter_same, Ring, rings_at, rings_kept}
 use Rattle.replayer.proofs.scheduler.rings.drop_ring.Goals as goal
 
 pub returns : goal.returns

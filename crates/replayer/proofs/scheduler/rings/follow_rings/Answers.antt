@@ -1,5 +1,4 @@
-use Rattle.std.proofs.Common.{◌∙◌, refl}
-use Rattle.traces.specs.LivingRings.{with_ring, without_ring}
+use Rattle.replayer.proofs.Words.{◌∙◌, refl, with_ring, without_ring}
 use Rattle.replayer.proofs.scheduler.rings.follow_rings.Goals as goal
 
 pub returns-in_ok-add_ring-in-Ring : goal.returns-in_ok-add_ring-in-Ring

@@ -1,6 +1,4 @@
-use Rattle.std.proofs.Common.{◌≡◌, filter, not, option_map, take}
-use Rattle.replayer.specs.Schedules.Making.{rings_at}
-use Rattle.replayer.specs.Schedules.Eager.{is_late}
+use Rattle.replayer.proofs.Words.{◌≡◌, filter, not, option_map, take, rings_at, is_late}
 use Rattle.replayer.proofs.scheduler.rings.prompt_rings.Given as goal
 
 abbrev pub invariant-loop-ring : goal.invariant-loop-ring

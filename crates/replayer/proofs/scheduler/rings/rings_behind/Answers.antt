@@ -1,5 +1,4 @@
-use Rattle.std.proofs.Common.{◌∙◌}
-use Rattle.replayer.proofs.Schedules.RingLists.{all_prompt}
+use Rattle.replayer.proofs.MiddleLaws.{◌∙◌, all_prompt}
 use Rattle.replayer.proofs.scheduler.rings.rings_behind.Goals as goal
 
 pub loop-row-init : goal.loop-row-init

@@ -1,6 +1,4 @@
-use Rattle.std.proofs.Common.{◌≡◌, reverse, take}
-use Rattle.replayer.specs.Schedules.Making.{rings_at}
-use Rattle.ring_knowledge.specs.Histories.{header_now}
+use Rattle.replayer.proofs.Words.{◌≡◌, reverse, take, rings_at, header_now}
 use Rattle.replayer.proofs.scheduler.rings.rings_behind.Given as goal
 
 -- the rings behind the rows so far

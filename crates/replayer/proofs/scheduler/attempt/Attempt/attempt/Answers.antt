@@ -1,5 +1,4 @@
-use Rattle.std.proofs.Common.{◌≡◌, ◌+◌, ◌∙◌, ◌∷◌, ◌++◌, [], ap, sym, arith, refl, rules, Some, Err}
-use Rattle.replayer.proofs.Schedules.Making.{full_is, room_is, tried_full, tried_made, tried_stuck}
+use Rattle.replayer.proofs.MiddleLaws.{◌≡◌, ◌∙◌, ◌∷◌, ◌++◌, [], ap, arith, refl, rules, Err, full_is, room_is, tried_full, tried_made, tried_stuck}
 use Rattle.replayer.proofs.scheduler.attempt.Attempt.attempt.Goals as goal
 
 pub returns-then-len-ge-MOST_STEPS : goal.returns-then-len-ge-MOST_STEPS

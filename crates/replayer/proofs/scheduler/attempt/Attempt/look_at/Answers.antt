@@ -1,8 +1,4 @@
-use Rattle.std.proofs.Common.{◌<◌, ◌+◌, ◌∙◌, arith, refl, sym}
-use Rattle.std.proofs.lemmas.Result.{err_from_is_err_and}
-use Rattle.replayer.specs.Schedules.Making.{blocks_of_ring}
-use Rattle.replayer.specs.Schedules.Attempts.{HasMade}
-use Rattle.replayer.proofs.Schedules.Looking.{any_before, look_end, look_failed, look_first, look_more, look_none, look_waited, none_before}
+use Rattle.replayer.proofs.MiddleLaws.{◌<◌, ◌∙◌, arith, sym, err_from_is_err_and, blocks_of_ring, HasMade, any_before, look_end, look_failed, look_first, look_more, look_none, look_waited, none_before}
 use Rattle.replayer.proofs.scheduler.attempt.Attempt.look_at.Goals as goal
 
 pub loop-looks-init : goal.loop-looks-init

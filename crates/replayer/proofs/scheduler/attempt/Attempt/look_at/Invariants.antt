@@ -1,7 +1,4 @@
-use Rattle.std.proofs.Common.{◌≡◌, ◌-◌, ◌||◌, nat_lt}
-use Rattle.replayer.specs.Schedules.Making.{Making, blocks_of_ring, looked_at, made_looks}
-use Rattle.traces.specs.Header.{is_command_kind}
-use Rattle.replayer.specs.Schedules.Attempts.{HasMade}
+use Rattle.replayer.proofs.Words.{◌≡◌, ◌-◌, ◌||◌, nat_lt, Making, blocks_of_ring, looked_at, made_looks, is_command_kind, HasMade}
 use Rattle.replayer.proofs.scheduler.attempt.Attempt.look_at.Given as goal
 
 -- with the looks that are left as much is made of what was made so far

@@ -1,10 +1,6 @@
-use Rattle.std.proofs.Common.{◌≡◌, arith, refl}
-use Rattle.std.proofs.lemmas.Result.{err_from_is_err_and}
-use Rattle.replayer.specs.Schedules.Making.{rings_at, with_active}
-use Rattle.replayer.specs.Schedules.Attempts.{HasMade}
-use Rattle.replayer.proofs.Schedules.Looking.{each_end, each_failed, each_more}
-use Rattle.replayer.proofs.scheduler.attempt.Attempt.look_at_each.Goals as goal
+use Rattle.replayer.proofs.MiddleLaws.{◌≡◌, arith, refl, err_from_is_err_and, rings_at, with_active, HasMade, each_end, each_failed, each_more}
 use Rattle.replayer.proofs.scheduler.attempt.Attempt.look_at_each.Goals.{then-branch+in_ok-add_ring, else-branch}
+use Rattle.replayer.proofs.scheduler.attempt.Attempt.look_at_each.Goals as goal
 
 pub returns-in_err-look_at : goal.returns-in_err-look_at
 returns-in_err-look_at c m has =

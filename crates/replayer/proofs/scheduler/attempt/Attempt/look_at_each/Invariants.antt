@@ -1,6 +1,4 @@
-use Rattle.std.proofs.Common.{◌≡◌, [], drop}
-use Rattle.replayer.specs.Schedules.Making.{Making, looked_at_each, rings_at}
-use Rattle.replayer.specs.Schedules.Attempts.{HasMade}
+use Rattle.replayer.proofs.Words.{◌≡◌, [], drop, Making, looked_at_each, rings_at, HasMade}
 use Rattle.replayer.proofs.scheduler.attempt.Attempt.look_at_each.Given as goal
 
 -- with the rings that are left as much is made of what was made so far

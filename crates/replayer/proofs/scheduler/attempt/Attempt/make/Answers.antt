@@ -1,7 +1,4 @@
-use Rattle.std.proofs.Common.{refl}
-use Rattle.std.proofs.lemmas.Result.{err_from_is_err_and}
-use Rattle.replayer.specs.Schedules.Attempts.{HasMade}
-use Rattle.replayer.proofs.Schedules.Making.{step_is, step_isnt, step_unmade}
+use Rattle.replayer.proofs.MiddleLaws.{err_from_is_err_and, HasMade, step_is, step_isnt, step_unmade}
 use Rattle.replayer.proofs.scheduler.attempt.Attempt.make.Goals as goal
 
 pub returns-in_err-attempt : goal.returns-in_err-attempt

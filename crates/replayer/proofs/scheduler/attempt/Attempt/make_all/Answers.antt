@@ -1,7 +1,4 @@
-use Rattle.std.proofs.Common.{◌≡◌, ◌∙◌, ap, arith, refl, sym}
-use Rattle.std.proofs.lemmas.Result.{err_from_is_err_and}
-use Rattle.replayer.specs.Schedules.Attempts.{HasMade}
-use Rattle.replayer.proofs.Schedules.Making.{all_made, more_made, none_made}
+use Rattle.replayer.proofs.MiddleLaws.{arith, err_from_is_err_and, HasMade, all_made, more_made, none_made}
 use Rattle.replayer.proofs.scheduler.attempt.Attempt.make_all.Goals as goal
 
 pub loop-step-preserved : goal.loop-step-preserved

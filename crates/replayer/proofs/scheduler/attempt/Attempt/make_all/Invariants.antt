@@ -1,6 +1,4 @@
-use Rattle.std.proofs.Common.{◌≡◌, drop}
-use Rattle.replayer.specs.Schedules.Making.{Making, made_steps}
-use Rattle.replayer.specs.Schedules.Attempts.{HasMade}
+use Rattle.replayer.proofs.Words.{◌≡◌, drop, Making, made_steps, HasMade}
 use Rattle.replayer.proofs.scheduler.attempt.Attempt.make_all.Given as goal
 
 -- with the steps that are left as much is made of what was made so far

@@ -1,10 +1,4 @@
-use Rattle.std.proofs.Common.{◌≡◌, ◌<◌, ◌+◌, ◌∙◌, arith, is_some, true, false, refl, rules, sym}
-use Rattle.std.proofs.lemmas.Result.{err_from_is_err_and}
-use Rattle.replayer.specs.declared.scheduler.attempt.Unmade.TheVariants.{Dropped}
-use Rattle.replayer.specs.Schedules.Making.{blocks_of_ring}
-use Rattle.replayer.specs.Schedules.Attempts.{HasMade}
-use Rattle.replayer.proofs.Schedules.Making.{step_is_some, step_is_none, step_unmade, unmade}
-use Rattle.replayer.proofs.Schedules.Looking.{late_end, late_failed, late_more, late_posted, late_unseen}
+use Rattle.replayer.proofs.MiddleLaws.{◌≡◌, ◌<◌, arith, is_some, true, false, rules, err_from_is_err_and, Dropped, blocks_of_ring, HasMade, step_is_some, step_is_none, step_unmade, unmade, late_end, late_failed, late_more, late_posted, late_unseen}
 use Rattle.replayer.proofs.scheduler.attempt.Attempt.make_behind_looks.Goals as goal
 
 pub returns-in_err-attempt : goal.returns-in_err-attempt

@@ -1,6 +1,4 @@
-use Rattle.std.proofs.Common.{◌≡◌, ◌-◌}
-use Rattle.replayer.specs.Schedules.Making.{Making, blocks_of_ring, made_behind_looks}
-use Rattle.replayer.specs.Schedules.Attempts.{HasMade}
+use Rattle.replayer.proofs.Words.{◌≡◌, ◌-◌, Making, blocks_of_ring, made_behind_looks, HasMade}
 use Rattle.replayer.proofs.scheduler.attempt.Attempt.make_behind_looks.Given as goal
 
 -- with the looks that are left as much is made of what was made so far

@@ -1,5 +1,4 @@
-use Rattle.replayer.specs.Schedules.Making.{made_before, made_post}
-use Rattle.replayer.proofs.Schedules.Looking.{not_read}
+use Rattle.replayer.proofs.MiddleLaws.{made_before, made_post, not_read}
 use Rattle.replayer.proofs.scheduler.attempt.Attempt.post_before.Goals as goal
 
 pub returns-in-Read-Some : goal.returns-in-Read-Some
