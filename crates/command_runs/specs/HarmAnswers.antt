@@ -1,11 +1,13 @@
 -- What is right to answer of a row that breaks a rule, with a run that does harm or without
-use Rattle.std.specs.Prelude.{◌≡◌, ℕ, ◌+◌, ◌-◌, Bool, true, false, List, Option, Some, None, Ok}
+use Rattle.std.specs.Prelude.{◌≡◌, ℕ, ◌+◌, ◌-◌, Bool, true, false, List, Option, Some, None, Ok, IfSome, slice_get}
 use Rattle.traces.specs.declared.step.Step.{Step}
 use Rattle.trace_reader.specs.Schedules.{schedule_of}
 use Rattle.trace_reader.specs.ScheduleSpelling.{printed_schedule}
 use Rattle.trace_reader.specs.Reading.{TraceText}
 use Rattle.ownership_rules.specs.Rules.{trace_verdict}
 use Rattle.replayer.specs.Schedules.Harmful.{DoesHarm}
+use Rattle.replayer.specs.Schedules.Tried.{IsNoRead, NoneDoesHarm}
+use Rattle.replayer.specs.declared.scheduler.harmful.Search.TheVariants.{Brief}
 use Rattle.answers.specs.declared.answer.FoundHarm.{FoundHarm}
 use Rattle.answers.specs.declared.answer.Answer.{Answer}
 use Rattle.answers.specs.declared.answer.Answer.TheVariants.{Refused, HarmShown, Memory}
@@ -17,9 +19,11 @@ pub record IsHarmText (trace : TraceText) (row : ℕ) (found : FoundHarm) : Type
   pub reread : schedule_of found.schedule.items ≡ Ok steps
   pub harms : DoesHarm trace.header trace.rows (row - trace.first + 1) steps found.harm
 
--- that no harm was found says nothing
+-- the run that was found; where none was, and the row reads no event, none of the schedules that each search tries does harm
 abbrev pub IsHarmFound : TraceText → ℕ → Option FoundHarm → Type 0
-IsHarmFound trace row None = Unit {0}
+IsHarmFound trace row None =
+    (refused : ℕ) → row ≡ trace.first + refused →
+    IfSome (slice_get trace.rows refused) (λ r. IsNoRead r → NoneDoesHarm trace.header trace.rows refused Brief)
 IsHarmFound trace row (Some found) = IsHarmText trace row found
 
 -- the first row that breaks a rule, and the least rule that it breaks; with a run that does harm, where that was asked for; or that memory
