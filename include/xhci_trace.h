@@ -83,10 +83,12 @@
 #define XT_FIRST struct xt_state *xt,
 #define XT_ALONE struct xt_state *xt
 #define XT_SELF xt
+#define XT_UNUSED (void)xt
 #else
 #define XT_FIRST
 #define XT_ALONE void
 #define XT_SELF (&xt_state)
+#define XT_UNUSED (void)0
 #endif
 
 static inline uint32_t xt_le32(uint32_t value)
@@ -754,9 +756,6 @@ extern struct xt_state xt_states[XT_CONTROLLERS];
 #ifdef XHCI_TRACE_HERE
 struct xt_state xt_states[XT_CONTROLLERS];
 #endif
-#define XT_UNUSED (void)xt
-#else
-#define XT_UNUSED (void)0
 #endif
 
 static inline int xt_open(XT_FIRST const char *path, unsigned int context_bytes)

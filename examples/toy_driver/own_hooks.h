@@ -134,6 +134,8 @@ static void half_row(struct xt_state *xt, const char *name, unsigned int high, u
 #define xt_reg(xt, name, value, store) do { register_row(xt, name, value); store; } while (0)
 #define xt_reg_half(xt, name, high, value, store) do { half_row(xt, name, high, value); store; } while (0)
 #define xt_doorbell(xt, slot, target, store) do { row(xt, "db %02x %02x\n", slot, target); store; } while (0)
+#define xb_poll(xt) ((void)(xt))
+#define xb_wait(xt) 1
 #define xt_event(xt, word0, word1, word2, word3) row(xt, "ev %08x %08x %08x %08x\n", word0, word1, word2, word3)
 
 #endif

@@ -4,13 +4,14 @@ _xhcitrace() {
   local options
   COMPREPLY=()
   if [ "$COMP_CWORD" -eq 1 ]; then
-    mapfile -t COMPREPLY < <(compgen -W 'check verify schedule replay show write decode explain help --help --version -h -V' -- "$word")
+    mapfile -t COMPREPLY < <(compgen -W 'check verify schedule replay show write bench decode explain help --help --version -h -V' -- "$word")
     return
   fi
   case $command in
-    check) options='--cert --show --search --format --unjudged --summary --explain --color --help -h' ;;
+    check) options='--cert --show --search --follow --format --unjudged --summary --explain --color --help -h' ;;
     verify | replay | show) options='--format --explain --color --help -h' ;;
     schedule | write) options='--explain --color --help -h' ;;
+    bench) options='--seed --policy --errors --steps --out --help -h' ;;
     decode) options='--explain --help -h' ;;
     explain)
       [ "$before" = --format ] || mapfile -t COMPREPLY < <(compgen -W '10 11 12 13 14 15 16 17 18 19 20 21 22 23 24 25 32 33 34 35 WriteToOwned NotAsSubmitted NotDeclared NotWhole
@@ -19,7 +20,7 @@ _xhcitrace() {
         Device harm-1 harm-2 harm-3 harm-4 harm-5 harm-6 --format --help -h' -- "$word")
       [ "$before" = --format ] || return ;;
     help)
-      mapfile -t COMPREPLY < <(compgen -W 'check verify schedule replay show write decode explain help' -- "$word")
+      mapfile -t COMPREPLY < <(compgen -W 'check verify schedule replay show write bench decode explain help' -- "$word")
       return ;;
     *) return ;;
   esac
@@ -29,6 +30,10 @@ _xhcitrace() {
     mapfile -t COMPREPLY < <(compgen -W "$options" -- "$word")
   elif [ "$before" = --color ]; then
     mapfile -t COMPREPLY < <(compgen -W 'auto always never' -- "$word")
+  elif [ "$before" = --policy ]; then
+    mapfile -t COMPREPLY < <(compgen -W 'random eager lazy' -- "$word")
+  elif [ "$before" = --seed ] || [ "$before" = --errors ] || [ "$before" = --steps ]; then
+    return
   elif [ "$before" = --unjudged ]; then
     return
   elif [ "$before" != --cert ] && [ "${word#-}" != "$word" ]; then

@@ -9,6 +9,7 @@ complete -c xhcitrace -n __fish_use_subcommand -a schedule -d 'Writes the lazy s
 complete -c xhcitrace -n __fish_use_subcommand -a replay -d 'Replays a schedule beside a trace'
 complete -c xhcitrace -n __fish_use_subcommand -a show -d 'Shows who owns what before a row'
 complete -c xhcitrace -n __fish_use_subcommand -a write -d 'Writes the trace of a plan'
+complete -c xhcitrace -n __fish_use_subcommand -a bench -d 'Runs a driver beside a model of the controller'
 complete -c xhcitrace -n __fish_use_subcommand -a decode -d 'Tells what a block (TRB) of four words says'
 complete -c xhcitrace -n __fish_use_subcommand -a explain -d 'Explains a rule, or another number that is printed'
 complete -c xhcitrace -n __fish_use_subcommand -a help -d 'Prints help'
@@ -22,10 +23,17 @@ complete -c xhcitrace -n '__fish_seen_subcommand_from check' -l format -x -a 'te
 complete -c xhcitrace -n '__fish_seen_subcommand_from check' -l cert -r -F -d 'writes the certificate of an accepted trace'
 complete -c xhcitrace -n '__fish_seen_subcommand_from check' -l show -d 'prints a schedule that does harm'
 complete -c xhcitrace -n '__fish_seen_subcommand_from check' -l search -d 'tries more schedules for --show'
+complete -c xhcitrace -n '__fish_seen_subcommand_from check' -l follow -d 'tells the first row that breaks a rule at once'
 complete -c xhcitrace -n '__fish_seen_subcommand_from check' -l unjudged -x -d 'the status of a row that is not judged'
 complete -c xhcitrace -n '__fish_seen_subcommand_from check' -l summary -d 'prints last how many traces had which answer'
 
-complete -c xhcitrace -n '__fish_seen_subcommand_from help' -a 'check verify schedule replay show write decode explain help'
+complete -c xhcitrace -n '__fish_seen_subcommand_from bench' -l seed -x -d 'the number by which the controller is drawn'
+complete -c xhcitrace -n '__fish_seen_subcommand_from bench' -l policy -x -a 'random eager lazy' -d 'when the controller does what it may'
+complete -c xhcitrace -n '__fish_seen_subcommand_from bench' -l errors -x -d 'how many in a hundred events are errors'
+complete -c xhcitrace -n '__fish_seen_subcommand_from bench' -l steps -x -d 'how many steps it makes at most'
+complete -c xhcitrace -n '__fish_seen_subcommand_from bench' -l out -r -F -d 'where the trace and the schedule are kept'
+
+complete -c xhcitrace -n '__fish_seen_subcommand_from help' -a 'check verify schedule replay show write bench decode explain help'
 complete -c xhcitrace -n '__fish_seen_subcommand_from explain' -a 10 -d WriteToOwned
 complete -c xhcitrace -n '__fish_seen_subcommand_from explain' -a 11 -d NotAsSubmitted
 complete -c xhcitrace -n '__fish_seen_subcommand_from explain' -a 12 -d NotDeclared

@@ -39,6 +39,10 @@ With --show a schedule stands behind `row R: C Name`: a run of a controller that
 last step, as `replay` tells; or `no harmful schedule found`, which doesn't say that there is none. With --search beside it more
 are tried: ring by ring, runs in which the controller is late on this ring.
 
+With --follow a trace is judged as it comes, a log or a pipe that is still written to: the first row that breaks a rule is told at
+once, and nothing is read behind it. Without it the lines behind that row are read too, and a bad one is told in its place. At the
+end of input an accepted trace is told as without. There is no --cert and no --show beside it.
+
 Of several traces each is checked, in order, and `FILE: ` stands before each answer; the status is that of the worst one. There is
 no certificate of several traces, and no --show.
 
@@ -53,7 +57,8 @@ Examples:
   xhcitrace check --explain examples/written_to_owned.xtrace
   xhcitrace check --show examples/write_after_the_doorbell.xtrace
   xhcitrace check --cert leases examples/two_descriptors.xtrace
-  xhcitrace check --summary --unjudged 0 traces/*.xtrace";
+  xhcitrace check --summary --unjudged 0 traces/*.xtrace
+  tail -n +1 -f driver.xtrace | xhcitrace check --follow -";
 
 const WRITE: &str = "\
 Prints the trace, status 0, or the first line that can't be followed as `line L: C Name`, status 1; on standard error the
@@ -100,6 +105,16 @@ is under lease with the row that gave it. Errors are those of `check`; a row tha
 Example:
   xhcitrace show examples/write_after_the_doorbell.xtrace";
 
+const BENCH: &str = "\
+A driver speaks on standard input and is answered on standard output: its rows as in a trace; `?` where it looks at memory, answered
+by lines `w ADDR WORD`, a word that the controller wrote since, and `.`; `wait` where it waits for an event, answered likewise, or by
+`idle` in place of `.` where none will come. Last comes a line, on standard error too: `no harm`, status 0; `row R: C Name`, the first
+row that broke a rule (told on standard error at once), `harm K at step S`, or `step S: 27 NotPossible`, a row that reads an event which
+the controller hasn't posted, status 1; of a bad line `xhcitrace: line L: C Name`, status 2; else status 3.
+
+Example:
+  mkfifo answers && ./driver <answers | xhcitrace bench --seed 7 --errors 20 --out run >answers";
+
 const DECODE: &str = "\
 Prints one line, status 0; on standard error that a word isn't 8 hex digits, status 2; else status 3.
 
@@ -129,6 +144,7 @@ pub fn command<'a>(alloc: Global) -> Result<Command<'a>, AllocError> {
         .subcommand(replay(alloc)?)?
         .subcommand(show(alloc)?)?
         .subcommand(write(alloc)?)?
+        .subcommand(bench(alloc)?)?
         .subcommand(decode(alloc)?)?
         .subcommand(tell_page(alloc)?)
 }
@@ -141,6 +157,7 @@ fn check<'a>(alloc: Global) -> Result<Command<'a>, AllocError> {
         .arg(certificate(alloc))?
         .arg(shown(alloc))?
         .arg(searched(alloc)?)?
+        .arg(followed(alloc))?
         .arg(report_format(alloc)?)?
         .arg(unjudged(alloc))?
         .arg(summary(alloc))?
@@ -219,6 +236,17 @@ fn show<'a>(alloc: Global) -> Result<Command<'a>, AllocError> {
         .arg(object_format(alloc)?)?
         .arg(explain(alloc))?
         .arg(color(alloc))
+}
+
+fn bench<'a>(alloc: Global) -> Result<Command<'a>, AllocError> {
+    Command::new(alloc, "bench")
+        .about("Runs a driver, live, beside the controller's model")
+        .after_help(BENCH)
+        .arg(seed(alloc))?
+        .arg(policy(alloc)?)?
+        .arg(errors(alloc))?
+        .arg(steps(alloc))?
+        .arg(out(alloc))
 }
 
 fn decode<'a>(alloc: Global) -> Result<Command<'a>, AllocError> {
@@ -308,6 +336,13 @@ pub fn over_the_trace(alloc: Global) -> Result<Error, AllocError> {
     )
 }
 
+/// What is told where several traces are to be judged as they come, or a certificate or a schedule of such a trace is asked for.
+pub fn one_followed(alloc: Global) -> Result<Error, AllocError> {
+    let words =
+        "--follow judges one trace as it comes: several traces, --cert and --show don't go with it";
+    command(alloc)?.error(ErrorKind::ArgumentConflict, words)
+}
+
 fn file<'a>(alloc: Global, name: &'a str, help: &'a str) -> Arg<'a> {
     Arg::new(alloc, name).help(help)
 }
@@ -379,6 +414,16 @@ fn searched<'a>(alloc: Global) -> Result<Arg<'a>, AllocError> {
         .requires_arg("show")
 }
 
+/// Whether a trace is judged as it comes.
+fn followed<'a>(alloc: Global) -> Arg<'a> {
+    Arg::new(alloc, "follow")
+        .long("follow")
+        .action(ArgAction::SetTrue)
+        .help(
+            "Tells the first row that breaks a rule as soon as its line comes, and reads no further",
+        )
+}
+
 /// With which status a row ends that isn't judged.
 fn unjudged<'a>(alloc: Global) -> Arg<'a> {
     Arg::new(alloc, "unjudged")
@@ -414,6 +459,52 @@ fn row<'a>(alloc: Global) -> Arg<'a> {
     Arg::new(alloc, "ROW")
         .value_parser(clap::value_parser!(u32))
         .help("The row, by its line from 1; none: the first that breaks a rule, or the end")
+}
+
+/// By which number the controller's steps are drawn.
+fn seed<'a>(alloc: Global) -> Arg<'a> {
+    Arg::new(alloc, "seed")
+        .long("seed")
+        .value_name("S")
+        .value_parser(clap::value_parser!(u64))
+        .help("The number by which it is drawn what the controller does; without it 1")
+}
+
+/// When the controller does what it may do.
+fn policy<'a>(alloc: Global) -> Result<Arg<'a>, AllocError> {
+    Ok(
+        Arg::new(alloc, "policy")
+            .long("policy")
+            .value_name("WHEN")
+            .value_parser(["random", "eager", "lazy"].as_slice())
+            .help("The controller does what it can as it is drawn, as soon as it can, or as late"),
+    )
+}
+
+/// How often the controller tells of errors.
+fn errors<'a>(alloc: Global) -> Arg<'a> {
+    Arg::new(alloc, "errors")
+        .long("errors")
+        .value_name("PERCENT")
+        .value_parser(clap::value_parser!(u8))
+        .help("How many in a hundred events are errors, or from elsewhere; without it 0")
+}
+
+/// How many steps the controller makes at most.
+fn steps<'a>(alloc: Global) -> Arg<'a> {
+    Arg::new(alloc, "steps")
+        .long("steps")
+        .value_name("N")
+        .value_parser(clap::value_parser!(u64))
+        .help("The controller makes no more steps than these; without it 1000000")
+}
+
+/// Where a run on the bench is kept.
+fn out<'a>(alloc: Global) -> Arg<'a> {
+    Arg::new(alloc, "out")
+        .long("out")
+        .value_name("NAME")
+        .help("Writes the trace to NAME.xtrace and the schedule to NAME.xsched")
 }
 
 /// A word of the block that is to be decoded.

@@ -11,14 +11,19 @@ pub struct FileOnWrite<'a> {
 }
 
 impl<'a> FileOnWrite<'a> {
-    /// The file of a path, which isn't touched yet; of none there is no file.
-    pub fn named(rt: &'a HostRuntime, path: Option<&'a str>) -> Option<FileOnWrite<'a>> {
-        let path = path?;
-        Some(FileOnWrite {
+    /// The file of a path, which isn't touched yet.
+    pub fn at(rt: &'a HostRuntime, path: &'a str) -> FileOnWrite<'a> {
+        FileOnWrite {
             rt,
             path,
             file: None,
-        })
+        }
+    }
+
+    /// The file of a path, which isn't touched yet; of none there is no file.
+    pub fn named(rt: &'a HostRuntime, path: Option<&'a str>) -> Option<FileOnWrite<'a>> {
+        let path = path?;
+        Some(FileOnWrite::at(rt, path))
     }
 }
 

@@ -6,6 +6,7 @@ mod file_on_write;
 mod formats;
 mod inputs;
 mod manner;
+mod on_bench;
 mod progress;
 mod streams;
 
@@ -14,8 +15,8 @@ use arguments::wrong_arguments;
 use clap::ArgMatches;
 use command_line::{Format, block_words, format_of, path, paths, subject};
 use command_runs::{
-    Outcome, Tally, run_check, run_check_named, run_replay, run_schedule, run_show, run_verify,
-    run_write, tell_summary,
+    Outcome, Tally, run_check, run_check_named, run_follow, run_replay, run_schedule, run_show,
+    run_verify, run_write, tell_summary,
 };
 use file_on_write::FileOnWrite;
 use formats::{
@@ -23,6 +24,7 @@ use formats::{
 };
 use inputs::{Input, called};
 use manner::{explains, manner, manner_of_check, tell_waiting, unasked};
+use on_bench::bench_at;
 use progress::Watched;
 use replayer::Search;
 use rule_pages::Subject;
@@ -169,6 +171,12 @@ fn status_in_text(rt: &HostRuntime, matches: &ArgMatches) -> Status {
     if let Some(schedule) = matches.subcommand_matches("schedule") {
         return schedule_at(rt, schedule, &manner(rt, schedule));
     }
+    if let Some(bench) = matches.subcommand_matches("bench") {
+        return match bench_at(rt, bench) {
+            Ok(status) => status,
+            Err(error) => failed(rt, "the bench", error),
+        };
+    }
     tell_waiting(rt, "trace");
     check_at(rt, None, None, None, &unasked(rt)).status
 }
@@ -207,6 +215,10 @@ fn check_as_text(rt: &HostRuntime, check: &ArgMatches, tally: &mut Tally) -> io:
     let asked = manner_of_check(rt, check);
     if paths.len() > 1 {
         return check_each(rt, paths, &asked, tally);
+    }
+    if check.get_flag("follow") {
+        tally.add(follow_at(rt, path(check, "TRACE"), &asked));
+        return Ok(());
     }
     tally.add(check_at(
         rt,
@@ -269,6 +281,17 @@ fn check_at(
         shows,
         Watched::open(rt, path),
         &mut kept,
+        &mut rt.stdout(),
+        &mut rt.stderr(),
+    )
+}
+
+/// Checks the trace in a file, or on standard input, as it comes.
+fn follow_at(rt: &HostRuntime, path: Option<&str>, asked: &Asked) -> Outcome {
+    run_follow(
+        rt.alloc(),
+        &asked.of(called(path)),
+        Watched::open(rt, path),
         &mut rt.stdout(),
         &mut rt.stderr(),
     )

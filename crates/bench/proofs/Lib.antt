@@ -1,0 +1,2 @@
+pub mod RowsBeside
+pub mod FourWords

@@ -1,0 +1,8 @@
+use Rattle.std.proofs.Common.{All}
+use Rattle.std.specs.Prelude.{drop}
+use Rattle.traces.specs.Rows.{IsStep}
+use Rattle.bench.proofs.stepped.are_steps.Given as goal
+
+-- where the steps that are left can be said, all can
+abbrev pub invariant-loop-step : goal.invariant-loop-step
+invariant-loop-step l = All IsStep (drop l.step-index l.steps) → All IsStep l.steps

@@ -1,0 +1,2 @@
+pub mod Benches
+pub mod Lives

@@ -1,0 +1,150 @@
+//! Steps that a controller may make, as it shows itself (xHCI 4.6, 4.9, 4.10).
+use crate::drawn::Dice;
+use crate::events::{completion_event, other_event, transfer_event};
+use commands::Command;
+use controller_model::Controller;
+use guest_memory::{Addr, WordMemory};
+use std::collections::VecDeque;
+use traces::Step;
+use trb::BlockKind;
+
+/// Events of the controller's own that a driver may meet.
+const OTHERS: [BlockKind; 4] = [
+    BlockKind::PortStatusChange,
+    BlockKind::HostController,
+    BlockKind::DeviceNotification,
+    BlockKind::MfindexWrap,
+];
+
+/// A look at a ring, where the controller may look there.
+pub(crate) fn looked<M: WordMemory + Drop>(controller: &Controller<M>, ring: u8) -> Option<Step> {
+    if controller.is_active(ring) {
+        Some(Step::Look { ring })
+    } else {
+        None
+    }
+}
+
+/// Interrupt On Completion, in a TRB's control word (6.4.1.1).
+pub(crate) const IOC: u32 = 0x20;
+
+/// Interrupt On Short Packet.
+pub(crate) const ISP: u32 = 4;
+
+/// Which of these TRBs is the oldest that has one of these flags.
+pub(crate) fn oldest_with<M: WordMemory>(
+    memory: &M,
+    takes: &VecDeque<u64>,
+    flags: u32,
+) -> Option<usize> {
+    takes.iter().position(|at| has_flag(memory, *at, flags))
+}
+
+fn has_flag<M: WordMemory>(memory: &M, at: u64, flags: u32) -> bool {
+    match Addr::new(at | 12) {
+        Some(word) => memory.word(word) & flags != 0,
+        None => false,
+    }
+}
+
+/// No TRB before the last that was taken asks for an event.
+pub(crate) fn is_alone(asked: Option<usize>, takes: usize) -> bool {
+    match asked {
+        None => true,
+        Some(asked) => asked.saturating_add(1) == takes,
+    }
+}
+
+/// The Stopped event of an endpoint of which a Stop Endpoint is under way: at the TRB that was taken last, or where the ring goes on
+/// (4.6.9).
+pub(crate) fn stopped<M: WordMemory + Drop>(
+    controller: &Controller<M>,
+    ring: u8,
+    slot: u8,
+    endpoint: u8,
+) -> Option<Step> {
+    let pending = controller.under_way()?;
+    let is_stop = match Command::read(&pending.block) {
+        Ok(Command::StopEndpoint {
+            slot: stopped,
+            endpoint: index,
+        }) => stopped == slot && index == endpoint,
+        _ => false,
+    };
+    if !is_stop || pending.has_stopped {
+        return None;
+    }
+    let (at, code) = match controller.unreported(ring).back() {
+        Some(at) => (*at, 26),
+        None => (controller.pointer(ring), 27),
+    };
+    let cycle = controller.event_cycle();
+    Some(Step::Report {
+        event: transfer_event(at, code, 0, slot, endpoint, cycle),
+    })
+}
+
+/// The completion of the command at an address; `free` is the slot that an Enable Slot gives.
+pub(crate) fn finished<M: WordMemory + Drop>(
+    controller: &Controller<M>,
+    dice: &mut Dice,
+    at: u64,
+    command: Option<Command>,
+    free: u8,
+    fails: bool,
+) -> Step {
+    let slot = match command {
+        Some(Command::EnableSlot) if fails => 0,
+        Some(Command::EnableSlot) => free,
+        Some(command) => command.slot().unwrap_or(0),
+        None => 0,
+    };
+    let code = if fails {
+        failure(dice, command)
+    } else {
+        1
+    };
+    Step::Finish {
+        event: completion_event(at, code, slot, controller.event_cycle()),
+    }
+}
+
+/// A completion code with which a command may fail (4.6, 6.4.5).
+fn failure(dice: &mut Dice, command: Option<Command>) -> u8 {
+    match command {
+        Some(Command::EnableSlot) => 9,
+        Some(Command::AddressDevice { .. }) => dice.one_of(&[4, 17, 22]),
+        Some(Command::ConfigureEndpoint { .. }) => dice.one_of(&[7, 8, 17, 35]),
+        Some(Command::DisableSlot { .. }) => 11,
+        Some(_) => 19,
+        None => 5,
+    }
+}
+
+/// An event of the controller's own, or a word of a device context.
+pub(crate) fn oddity<M: WordMemory + Drop>(
+    controller: &Controller<M>,
+    dice: &mut Dice,
+) -> Option<Step> {
+    if dice.below(2) == 0 {
+        return scribbled(controller, dice);
+    }
+    if !controller.has_event_room() {
+        return None;
+    }
+    let kind = OTHERS[dice.below(4) as usize];
+    let port = 1 + dice.below(4) as u8;
+    Some(Step::Other {
+        event: other_event(kind, port, controller.event_cycle()),
+    })
+}
+
+/// A word of the device context of one of the first slots.
+fn scribbled<M: WordMemory + Drop>(controller: &Controller<M>, dice: &mut Dice) -> Option<Step> {
+    let slot = 1 + dice.below(8) as u8;
+    let base = controller.device_context(slot)?;
+    let offset = 4 * u64::from(dice.below(8 * controller.live().context_size.bytes() as u32));
+    let at = Addr::new(base.checked_add(offset)?)?;
+    let word = dice.word();
+    Some(Step::Scribble { at, word })
+}

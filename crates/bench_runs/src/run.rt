@@ -1,0 +1,122 @@
+use crate::course::{Course, is_question};
+use crate::end::Ended;
+use crate::header::{HeaderText, read_header};
+use crate::lines::Lines;
+use answers::Status;
+use bench::{Adversary, Live, Profile};
+use guest_memory::SparseMemory;
+use std::alloc::Global;
+use std::io::{self, ErrorKind, Read, Write};
+use trace_reader::{Counted, RowReader, StreamFault, print_schedule};
+use traces::Schedule;
+
+/// What is asked of a run.
+#[derive(Clone, Copy, Debug)]
+pub struct Asked {
+    /// What the controller does is drawn by this number.
+    pub seed: u64,
+    pub profile: Profile,
+}
+
+/// How a run ended, and what it leaves.
+#[derive(Drop)]
+pub struct Left {
+    pub ended: Ended,
+    /// The text of the trace, as the driver said it.
+    pub trace: Vec<u8>,
+    /// The steps that were made, the rows among them.
+    pub schedule: Option<Schedule>,
+}
+
+/// Runs the driver that speaks on `input` beside the controller's model, and answers it on `out`. The first row that breaks a rule is told
+/// on `err` at once.
+pub fn run_bench<R: Read + Drop, O: Write, E: Write>(
+    alloc: Global,
+    asked: &Asked,
+    input: R,
+    out: &mut O,
+    err: &mut E,
+) -> io::Result<Left> {
+    let mut lines = Lines::new(alloc, input);
+    let header = read_header(alloc, &mut lines, out)?;
+    let mut source = Counted::new(header.text.as_slice());
+    match RowReader::open(alloc, false, &mut source) {
+        Ok(reader) => run_behind(alloc, asked, reader, header, &mut lines, out, err),
+        Err(StreamFault::Line { line, fault }) => Ok(Left {
+            ended: Ended::BadLine { line, fault },
+            trace: header.text,
+            schedule: None,
+        }),
+        Err(StreamFault::Device | StreamFault::Memory) => Err(ErrorKind::OutOfMemory.into()),
+    }
+}
+
+/// The same behind the lines of a header; the first row's line has been read with them, where there is one.
+fn run_behind<R: Read + Drop, O: Write, E: Write>(
+    alloc: Global,
+    asked: &Asked,
+    reader: RowReader,
+    header: HeaderText,
+    lines: &mut Lines<R>,
+    out: &mut O,
+    err: &mut E,
+) -> io::Result<Left> {
+    let adversary = Adversary::new(asked.seed, asked.profile);
+    let memory = SparseMemory::new(alloc);
+    let known = SparseMemory::new(alloc);
+    let mut live = Live::new(alloc, reader, adversary, memory, known)?;
+    let mut course = Course::new(alloc, header.text);
+    if header.has_row {
+        course.hear_row(&mut live, &[], err)?;
+    }
+    for _ in 0..u64::MAX {
+        let Some(line) = lines.next_line()? else {
+            break;
+        };
+        // behind the end of a run the driver is heard, and not answered, until it asks: it may be writing still
+        if course.ended.is_none() {
+            course.hear(&mut live, &line, out, err)?;
+        }
+        if course.ended.is_some() && is_question(&line) {
+            break;
+        }
+    }
+    let ended = course.ended.or(course.refused).unwrap_or(Ended::NoHarm);
+    Ok(Left {
+        ended,
+        trace: course.said,
+        schedule: live.into_schedule(),
+    })
+}
+
+/// Writes what a run ended with where the driver reads it, and to `err` too. A driver that reads no more is no failure.
+pub fn tell_end<O: Write, E: Write>(
+    alloc: Global,
+    ended: Ended,
+    out: &mut O,
+    err: &mut E,
+) -> io::Result<Status> {
+    let line = ended.line(alloc)?;
+    err.write_all(line.as_bytes())?;
+    match out.write_all(line.as_bytes()).and_then(|_| out.flush()) {
+        Err(error) if error.kind() != ErrorKind::BrokenPipe => Err(error),
+        _ => Ok(ended.status()),
+    }
+}
+
+/// Writes the trace and the schedule that a run left.
+pub fn keep<T: Write, S: Write>(
+    alloc: Global,
+    left: &Left,
+    trace: &mut T,
+    schedule: &mut S,
+) -> io::Result<()> {
+    trace.write_all(&left.trace)?;
+    trace.flush()?;
+    if let Some(steps) = &left.schedule {
+        let text = print_schedule(alloc, steps)?;
+        schedule.write_all(&text)?;
+        schedule.flush()?;
+    }
+    Ok(())
+}
