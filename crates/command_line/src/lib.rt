@@ -501,10 +501,9 @@ fn steps<'a>(alloc: Global) -> Arg<'a> {
 
 /// Where a run on the bench is kept.
 fn out<'a>(alloc: Global) -> Arg<'a> {
-    Arg::new(alloc, "out")
-        .long("out")
-        .value_name("NAME")
-        .help("Writes the trace to NAME.xtrace and the schedule to NAME.xsched")
+    Arg::new(alloc, "out").long("out").value_name("NAME").help(
+        "Writes the trace to NAME.xtrace and the schedule to NAME.xsched",
+    )
 }
 
 /// A word of the block that is to be decoded.
