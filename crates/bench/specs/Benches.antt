@@ -60,6 +60,10 @@ IsRowJudged h past row (Some c) = AreClean h past × IsLeastOfRow (header_now h 
 abbrev pub with_row : Scene → Row → Scene
 with_row x row = record x { rows = row ∷ [] }
 
--- some rows and steps
+-- it stands for these rows and some steps
+abbrev pub IsBenchOf : {M : Type 0} → (M → ℕ → ℕ) → Header → List Row → Bench M → Type 0
+IsBenchOf words h past b = (steps : List Step) × (told : List Written) × (x : Scene) × IsBench words h past steps told x b
+
+-- it stands for some rows
 abbrev pub HasBench : {M : Type 0} → (M → ℕ → ℕ) → Bench M → Type 0
-HasBench words b = (h : Header) × (past : List Row) × (steps : List Step) × (told : List Written) × (x : Scene) × IsBench words h past steps told x b
+HasBench words b = (h : Header) × (past : List Row) × IsBenchOf words h past b

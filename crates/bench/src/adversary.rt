@@ -52,9 +52,16 @@ pub enum Moment {
 enum Plan {
     Nothing,
     /// So many drawn steps; up to an event, and then a sweep, where it is waited for.
-    Draws { left: u32, waits: bool },
+    Draws {
+        left: u32,
+        waits: bool,
+    },
     /// All that it may do is gone through from a place on, again where something was done; up to an event, where that is enough.
-    Sweep { at: usize, goes_on: bool, waits: bool },
+    Sweep {
+        at: usize,
+        goes_on: bool,
+        waits: bool,
+    },
 }
 
 /// Chooses steps by a seed and a profile.
@@ -159,7 +166,9 @@ impl Adversary {
         match &mut self.plan {
             Plan::Draws { waits: true, .. } if is_event => self.plan = Plan::Nothing,
             Plan::Sweep { waits: true, .. } if is_event => self.plan = Plan::Nothing,
-            Plan::Sweep { goes_on, .. } => *goes_on = *goes_on || is_work || (self.was_finish && self.fails),
+            Plan::Sweep { goes_on, .. } => *goes_on = *goes_on
+                || is_work
+                || (self.was_finish && self.fails),
             _ => {}
         }
     }
@@ -332,7 +341,14 @@ impl Adversary {
         let command = Command::read(&pending.block).ok();
         let fails = self.fails || (!pending.has_stopped && self.dice.chance(self.profile.errors));
         let slot = self.free_slot();
-        let step = finished(controller, &mut self.dice, pending.address, command, slot, fails);
+        let step = finished(
+            controller,
+            &mut self.dice,
+            pending.address,
+            command,
+            slot,
+            fails,
+        );
         if let (Some(command), false) = (command, fails) {
             self.note_success(command, slot);
         }

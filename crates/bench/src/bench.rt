@@ -1,4 +1,4 @@
-ghost use Rattle.std.specs.Prelude.{◌≡◌, ◌≤◌, ℕ, Bool, [], ◌∷◌, ◌++◌, true, false, List, Option, Some, None, Ok, Err, IfOk, OnOk, length, nat_lt, reverse, ◌≢◌};
+ghost use Rattle.std.specs.Prelude.{◌≡◌, ◌≤◌, ℕ, Bool, [], ◌∷◌, ◌++◌, true, false, List, Option, Some, None, Ok, Err, IfOk, IfSome, OnOk, length, nat_lt, reverse, ◌≢◌};
 ghost use Rattle.std.specs.Result.{result_err};
 ghost use Rattle.traces.specs.Header.{IsHeader};
 ghost use Rattle.traces.specs.Limits.{most_streamed_lines};
@@ -136,12 +136,7 @@ fn add_step(steps: &mut Vec<Step>, step: Step) -> Result<(), AllocError>
 
 impl<M: WordMemory + Drop> Bench<M> {
     /// Before the first row, with two memories in which no word was written: the controller's, and what is known of it to the judge.
-    pub fn new(
-        alloc: Global,
-        header: &Header,
-        memory: M,
-        known: M,
-    ) -> Result<Bench<M>, AllocError>
+    pub fn new(alloc: Global, header: &Header, memory: M, known: M) -> Result<Bench<M>, AllocError>
         requires headed { IsHeader header.now }
         requires zero { (a : ℕ) → M.words memory a ≡ 0 }
         requires unknown { (a : ℕ) → M.words known a ≡ 0 }
@@ -251,7 +246,10 @@ impl<M: WordMemory + Drop> Bench<M> {
     }
 
     /// The schedule of all steps so far; none where it would have more lines than a schedule has.
-    pub fn into_schedule(self) -> Option<Schedule> {
+    pub fn into_schedule(self) -> Option<Schedule>
+        ensures { (h : HeaderValue) (past : List RowValue) (steps : List StepValue) (told : List WrittenValue) (x : Scene) → IsBench M.words h past steps told x self →
+            IfSome result (λ schedule. schedule.steps ≡ reverse steps) }
+    {
         schedule_of(self.steps)
     }
 

@@ -65,10 +65,12 @@ pub(crate) fn stopped<M: WordMemory + Drop>(
 ) -> Option<Step> {
     let pending = controller.under_way()?;
     let is_stop = match Command::read(&pending.block) {
-        Ok(Command::StopEndpoint {
-            slot: stopped,
-            endpoint: index,
-        }) => stopped == slot && index == endpoint,
+        Ok(
+            Command::StopEndpoint {
+                slot: stopped,
+                endpoint: index,
+            },
+        ) => stopped == slot && index == endpoint,
         _ => false,
     };
     if !is_stop || pending.has_stopped {
@@ -99,11 +101,7 @@ pub(crate) fn finished<M: WordMemory + Drop>(
         Some(command) => command.slot().unwrap_or(0),
         None => 0,
     };
-    let code = if fails {
-        failure(dice, command)
-    } else {
-        1
-    };
+    let code = if fails { failure(dice, command) } else { 1 };
     Step::Finish {
         event: completion_event(at, code, slot, controller.event_cycle()),
     }

@@ -1,5 +1,7 @@
-ghost use Rattle.std.specs.Prelude.{OnOk};
-ghost use Rattle.bench.specs.Benches.{HasBench};
+ghost use Rattle.std.specs.Prelude.{List, OnOk};
+ghost use Rattle.traces.specs.declared.header.Header.{Header};
+ghost use Rattle.traces.specs.declared.row.Row.{Row};
+ghost use Rattle.bench.specs.Benches.{HasBench, IsBenchOf, IsJudging};
 
 use crate::adversary::{Adversary, Moment};
 use crate::bench::Bench;
@@ -16,7 +18,8 @@ pub fn go_on<M: WordMemory + Drop>(
     moment: Moment,
 ) -> Result<(), BenchFault>
     requires so_far { HasBench M.words bench.old }
-    ensures so_far { OnOk result (HasBench M.words bench.new) }
+    ensures rows { (h : Header) (past : List Row) → IsBenchOf M.words h past bench.old → OnOk result (IsBenchOf M.words h past bench.new) }
+    ensures judging { IsJudging bench.old → OnOk result (IsJudging bench.new) }
 {
     adversary.begin(moment);
     for _ in 0..MOST_TRIES {

@@ -42,8 +42,16 @@ pub struct Live<M: WordMemory> {
 }
 
 impl<M: WordMemory + Drop> Live<M> {
-    ghost use Rattle.std.specs.Prelude.{◌≡◌, ℕ, IfOk, OnOk};
-    ghost use Rattle.bench.specs.Lives.{IsLive};
+    ghost use Rattle.std.specs.Prelude.{◌≡◌, ◌≢◌, ℕ, List, [], None, IfErr, IfOk, IfSome, OnOk, length, reverse};
+    ghost use Rattle.std.specs.Result.{result_err};
+    ghost use Rattle.traces.specs.declared.header.Header.{Header as HeaderValue};
+    ghost use Rattle.traces.specs.declared.row.Row.{Row as RowValue};
+    ghost use Rattle.traces.specs.declared.step.Step.{Step as StepValue};
+    ghost use Rattle.world_state.specs.Harms.{harm_of};
+    ghost use Rattle.world_state.specs.Scenes.{Scene};
+    ghost use Rattle.bench.specs.Benches.{IsBench};
+    ghost use Rattle.bench.specs.declared.written.Written.{Written as WrittenValue};
+    ghost use Rattle.bench.specs.Lives.{IsLive, IsLiveOf, IsRowSaid, JudgesNext};
 
     /// Behind the header of a trace, which a reader has read.
     pub fn new(
@@ -55,7 +63,8 @@ impl<M: WordMemory + Drop> Live<M> {
     ) -> Result<Live<M>, AllocError>
         requires zero { (a : ℕ) → M.words memory a ≡ 0 }
         requires unknown { (a : ℕ) → M.words known a ≡ 0 }
-        ensures { IfOk result (IsLive M.words) }
+        ensures begins { IfOk result (λ live. (h : HeaderValue) × IsLiveOf M.words h [] live) }
+        ensures judging { IfOk result JudgesNext }
     {
         let bench = Bench::new(alloc, reader.header(), memory, known)?;
         Ok(Live {
@@ -70,7 +79,10 @@ impl<M: WordMemory + Drop> Live<M> {
     /// least rule that it breaks, where those before it broke none.
     pub fn row(&mut self, line: &[u8]) -> Result<(u32, Option<Refusal>), LiveFault>
         requires so_far { IsLive M.words self.old }
-        ensures so_far { OnOk result (IsLive M.words self.new) }
+        ensures said { (h : HeaderValue) (past : List RowValue) → IsLiveOf M.words h past self.old → IfOk result (λ told. IsRowSaid M.words h past self.old told.1 self.new) }
+        ensures judging { JudgesNext self.old → IfOk result (λ told. told.1 ≡ None → JudgesNext self.new) }
+        ensures kept { (h : HeaderValue) (past : List RowValue) (steps : List StepValue) (told : List WrittenValue) (x : Scene) → IsBench M.words h past steps told x self.old.bench →
+            IfErr result (λ fault. fault ≢ LiveFault.Memory → IsBench M.words h past steps told x self.new.bench) }
     {
         let mut source = Counted::new(line);
         let Some((number, row)) = self.reader.next_row(&mut source)? else {
@@ -97,7 +109,8 @@ impl<M: WordMemory + Drop> Live<M> {
     /// The driver looks at memory, or waits for an event: what the controller wrote since it was told last, and whether an event is among it.
     pub fn words(&mut self, waits: bool) -> Result<(Vec<Written>, bool), LiveFault>
         requires so_far { IsLive M.words self.old }
-        ensures so_far { OnOk result (IsLive M.words self.new) }
+        ensures rows { (h : HeaderValue) (past : List RowValue) → IsLiveOf M.words h past self.old → OnOk result (IsLiveOf M.words h past self.new) }
+        ensures judging { JudgesNext self.old → OnOk result (JudgesNext self.new) }
     {
         self.let_go_on(if waits { Moment::Wait } else { Moment::Look })?;
         let posted = self.adversary.posted();
@@ -109,7 +122,8 @@ impl<M: WordMemory + Drop> Live<M> {
     /// The controller does what its adversary chooses.
     fn let_go_on(&mut self, moment: Moment) -> Result<(), LiveFault>
         requires so_far { IsLive M.words self.old }
-        ensures so_far { OnOk result (IsLive M.words self.new) }
+        ensures rows { (h : HeaderValue) (past : List RowValue) → IsLiveOf M.words h past self.old → OnOk result (IsLiveOf M.words h past self.new) }
+        ensures judging { JudgesNext self.old → OnOk result (JudgesNext self.new) }
     {
         match go_on(&mut self.bench, &mut self.adversary, moment) {
             Ok(()) => Ok(()),
@@ -118,17 +132,26 @@ impl<M: WordMemory + Drop> Live<M> {
     }
 
     /// The least harm so far.
-    pub fn safe(&self) -> Result<(), Harm> {
+    pub fn safe(&self) -> Result<(), Harm>
+        ensures { (h : HeaderValue) (past : List RowValue) (steps : List StepValue) (told : List WrittenValue) (x : Scene) → IsBench M.words h past steps told x self.now.bench →
+            result_err result ≡ harm_of x.header x.world }
+    {
         self.bench.safe()
     }
 
     /// How many steps were made, the rows among them.
-    pub fn steps(&self) -> usize {
+    pub fn steps(&self) -> usize
+        ensures { (h : HeaderValue) (past : List RowValue) (steps : List StepValue) (told : List WrittenValue) (x : Scene) → IsBench M.words h past steps told x self.now.bench →
+            result ≡ length steps }
+    {
         self.bench.schedule().len()
     }
 
     /// The schedule of all steps, the rows among them; none where it would have more lines than a schedule has.
-    pub fn into_schedule(self) -> Option<Schedule> {
+    pub fn into_schedule(self) -> Option<Schedule>
+        ensures { (h : HeaderValue) (past : List RowValue) (steps : List StepValue) (told : List WrittenValue) (x : Scene) → IsBench M.words h past steps told x self.bench →
+            IfSome result (λ schedule. schedule.steps ≡ reverse steps) }
+    {
         self.bench.into_schedule()
     }
 }

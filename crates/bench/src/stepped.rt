@@ -1,4 +1,4 @@
-ghost use Rattle.std.specs.Prelude.{◌≡◌, true, All, [], ◌∷◌};
+ghost use Rattle.std.specs.Prelude.{◌≡◌, true, All, IfSome, [], ◌∷◌};
 ghost use Rattle.trb.specs.Block.{IsBlock};
 ghost use Rattle.traces.specs.Rows.{IsStep};
 
@@ -9,7 +9,9 @@ use trb::Block;
 const MOST_LINES: usize = 4_194_304;
 
 /// The schedule of these steps; none of more than a schedule has.
-pub(crate) fn schedule_of(steps: Vec<Step>) -> Option<Schedule> {
+pub(crate) fn schedule_of(steps: Vec<Step>) -> Option<Schedule>
+    ensures { IfSome result (λ schedule. schedule.steps ≡ steps.items) }
+{
     if steps.len() < MOST_LINES && are_steps(steps.as_slice()) {
         Some(Schedule {
             steps: Steps::new(steps),

@@ -1,34 +1,56 @@
 //! What a driver says on the bench, line by line, and what it is answered.
-use crate::end::{Ended, refused_line};
+ghost use Rattle.std.specs.Prelude.{◌≡◌, ◌≢◌, List, [], None, OnOk, is_some, length};
+ghost use Rattle.traces.specs.declared.header.Header.{Header as HeaderValue};
+ghost use Rattle.traces.specs.declared.row.Row.{Row as RowValue};
+ghost use Rattle.traces.specs.declared.step.Step.{Step as StepValue};
+ghost use Rattle.world_state.specs.Harms.{harm_of};
+ghost use Rattle.world_state.specs.Scenes.{Scene};
+ghost use Rattle.bench.specs.Benches.{IsBench};
+ghost use Rattle.bench.specs.Lives.{IsLiveOf, JudgesNext};
+ghost use Rattle.bench.specs.declared.written.Written.{Written as WrittenValue};
+ghost use Rattle.bench_runs.specs.Runs.{IsCourse, IsOver, IsRun, end_of, ended_with, noted_with};
+
+use crate::end::{Ended, RefusedRow, refused_line};
+use crate::run::Left;
 use bench::{Live, LiveFault, Written};
 use guest_memory::WordMemory;
 use ownership_rules::Refusal;
 use std::alloc::Global;
-use std::io::{self, Write};
+use std::io::{self, ErrorKind, Write};
 
 /// Where a run stands: what the driver said of its trace, and how the run ends.
 #[derive(Drop)]
 pub struct Course {
     alloc: Global,
     /// The trace so far.
-    pub said: Vec<u8>,
+    said: Vec<u8>,
     /// The first row that broke a rule.
-    pub refused: Option<Ended>,
-    pub ended: Option<Ended>,
+    refused: Option<RefusedRow>,
+    ended: Option<Ended>,
 }
 
 impl Course {
-    ghost use Rattle.std.specs.Prelude.{◌≡◌, ◌≢◌, None, OnOk};
-    ghost use Rattle.bench.specs.Lives.{IsLive};
-
     /// Behind a header.
-    pub fn new(alloc: Global, said: Vec<u8>) -> Course {
-        Course {
+    pub fn new<M: WordMemory + Drop>(alloc: Global, said: Vec<u8>, live: &Live<M>) -> Course
+        requires begins { (h : HeaderValue) × IsLiveOf M.words h [] live.now }
+        requires judging { JudgesNext live.now }
+        ensures course { IsCourse M.words result live.now }
+    {
+        let mut course = Course {
             alloc,
             said,
             refused: None,
             ended: None,
-        }
+        };
+        course.note_harm(live);
+        course
+    }
+
+    /// The run is over.
+    pub fn is_over(&self) -> bool
+        ensures { result ≡ is_some self.now.ended }
+    {
+        self.ended.is_some()
     }
 
     /// The driver says a line: a row, or that it looks or waits.
@@ -39,9 +61,12 @@ impl Course {
         out: &mut O,
         err: &mut E,
     ) -> io::Result<()>
-        requires so_far { IsLive M.words live.old }
-        ensures so_far { OnOk result (self.new.ended ≡ None → IsLive M.words live.new) }
+        requires so_far { IsCourse M.words self.old live.old }
+        ensures so_far { OnOk result (IsCourse M.words self.new live.new) }
     {
+        if self.is_over() {
+            return Ok(());
+        }
         if is_question(line) {
             return self.answer(live, line == b"wait\n".as_slice(), out);
         }
@@ -56,9 +81,12 @@ impl Course {
         line: &[u8],
         err: &mut E,
     ) -> io::Result<()>
-        requires so_far { IsLive M.words live.old }
-        ensures so_far { OnOk result (self.new.ended ≡ None → IsLive M.words live.new) }
+        requires so_far { IsCourse M.words self.old live.old }
+        ensures so_far { OnOk result (IsCourse M.words self.new live.new) }
     {
+        if self.is_over() {
+            return Ok(());
+        }
         match live.row(line) {
             Ok((row, refusal)) => {
                 self.note_refusal(row, refusal, err)?;
@@ -76,25 +104,28 @@ impl Course {
         waits: bool,
         out: &mut O,
     ) -> io::Result<()>
-        requires so_far { IsLive M.words live.old }
-        ensures so_far { OnOk result (self.new.ended ≡ None → IsLive M.words live.new) }
+        requires so_far { IsCourse M.words self.old live.old }
+        requires going { self.old.ended ≡ None }
+        ensures so_far { OnOk result (IsCourse M.words self.new live.new) }
     {
         match live.words(waits) {
             Ok((words, has_event)) => {
-                let text = self.told(&words)?;
-                out.write_all(text.as_bytes())?;
                 self.note_harm(live);
-                if self.ended.is_none() {
-                    let end = if waits && !has_event { "idle\n" } else { ".\n" };
-                    out.write_all(end.as_bytes())?;
-                }
-                out.flush()
+                self.tell(&words, waits && !has_event, out)
             }
-            Err(_) => {
-                self.ended = Some(Ended::Memory);
-                Ok(())
-            }
+            Err(_) => Err(ErrorKind::OutOfMemory.into()),
         }
+    }
+
+    /// Tells words that the controller wrote, and how the answer ends, unless the run is over.
+    fn tell<O: Write>(&self, words: &[Written], is_idle: bool, out: &mut O) -> io::Result<()> {
+        let text = self.told(words)?;
+        out.write_all(text.as_bytes())?;
+        if !self.is_over() {
+            let end = if is_idle { "idle\n" } else { ".\n" };
+            out.write_all(end.as_bytes())?;
+        }
+        out.flush()
     }
 
     /// The lines of words that the controller wrote.
@@ -107,27 +138,30 @@ impl Course {
         Ok(text)
     }
 
-    /// Notes the rule that a row breaks, and tells it at once.
+    /// Notes the first row that breaks a rule, and tells it at once.
     fn note_refusal<E: Write>(
         &mut self,
         row: u32,
         refusal: Option<Refusal>,
         err: &mut E,
     ) -> io::Result<()>
-        ensures { OnOk result (self.new.ended ≡ self.old.ended) }
+        ensures ended { OnOk result (self.new.ended ≡ self.old.ended) }
+        ensures noted { OnOk result (self.new.refused ≡ noted_with self.old.refused row refusal) }
     {
-        let Some(refusal) = refusal else {
-            return Ok(());
-        };
-        self.refused = Some(Ended::Refused { row, refusal });
-        let line = refused_line(self.alloc, row, refusal)?;
-        err.write_all(line.as_bytes())?;
-        err.flush()
+        match (self.refused, refusal) {
+            (None, Some(refusal)) => {
+                self.refused = Some(RefusedRow { row, refusal });
+                tell_refusal(self.alloc, row, refusal, err)
+            }
+            _ => Ok(()),
+        }
     }
 
     /// Ends the run where there is harm.
     fn note_harm<M: WordMemory + Drop>(&mut self, live: &Live<M>)
-        ensures { self.new.ended ≡ None → self.old.ended ≡ None }
+        ensures ended { (h : HeaderValue) (past : List RowValue) (steps : List StepValue) (told : List WrittenValue) (x : Scene) → IsBench M.words h past steps told x live.now.bench →
+            self.new.ended ≡ ended_with self.old.ended (harm_of x.header x.world) (length steps) }
+        ensures noted { self.new.refused ≡ self.old.refused }
     {
         if let Err(harm) = live.safe() {
             self.ended = Some(Ended::Harm {
@@ -139,7 +173,8 @@ impl Course {
 
     /// Ends the run at a line that can't be followed.
     fn end<E: Write>(&mut self, steps: usize, fault: LiveFault, err: &mut E) -> io::Result<()>
-        ensures { OnOk result (self.new.ended ≢ None) }
+        ensures ended { OnOk result (IsOver self.new.ended) }
+        ensures memory { OnOk result (fault ≢ LiveFault.Memory) }
     {
         let ended = match fault {
             LiveFault::Line { line, fault } => Ended::BadLine { line, fault },
@@ -149,11 +184,46 @@ impl Course {
                     step: steps.saturating_add(1),
                 }
             }
-            LiveFault::Memory => Ended::Memory,
+            LiveFault::Memory => return Err(ErrorKind::OutOfMemory.into()),
         };
         self.ended = Some(ended);
         Ok(())
     }
+
+    /// What is left of the run.
+    pub fn into_left<M: WordMemory + Drop>(self, live: Live<M>) -> Left
+        requires so_far { IsCourse M.words self live }
+        ensures run { IsRun result }
+    {
+        Left {
+            ended: ended_as(self.ended, self.refused),
+            trace: self.said,
+            schedule: live.into_schedule(),
+        }
+    }
+}
+
+/// How a run ends that ended so, or in which this row alone is to be told.
+fn ended_as(ended: Option<Ended>, refused: Option<RefusedRow>) -> Ended
+    ensures { result ≡ end_of ended refused }
+{
+    match (ended, refused) {
+        (Some(ended), _) => ended,
+        (None, Some(row)) => Ended::Refused(row),
+        (None, None) => Ended::NoHarm,
+    }
+}
+
+/// Tells a row that breaks a rule.
+fn tell_refusal<E: Write>(
+    alloc: Global,
+    row: u32,
+    refusal: Refusal,
+    err: &mut E,
+) -> io::Result<()> {
+    let line = refused_line(alloc, row, refusal)?;
+    err.write_all(line.as_bytes())?;
+    err.flush()
 }
 
 /// The driver looks at memory, or waits for an event.

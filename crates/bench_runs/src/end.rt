@@ -5,21 +5,26 @@ use std::alloc::{AllocError, Global};
 use trace_reader::LineFault;
 use world_state::Harm;
 
+/// The first row that breaks a rule, by its line from 1, and the least rule that it breaks.
+#[derive(Clone, Copy, Debug, PartialEq, Eq)]
+pub struct RefusedRow {
+    pub row: u32,
+    pub refusal: Refusal,
+}
+
 /// How a run ends.
 #[derive(Clone, Copy, Debug, PartialEq, Eq)]
 pub enum Ended {
     /// No row broke a rule, and there was no harm.
     NoHarm,
-    /// This row, by its line from 1, was the first that broke a rule, and there was no harm.
-    Refused { row: u32, refusal: Refusal },
+    /// This row broke a rule, and there was no harm.
+    Refused(RefusedRow),
     /// Behind this step, from 1, there is harm.
     Harm { harm: Harm, step: usize },
     /// The row that would be this step reads an event that the controller hasn't posted.
     NotPossible { step: usize },
     /// A line, from 1, says no row.
     BadLine { line: u32, fault: LineFault },
-    /// Memory is wanted.
-    Memory,
 }
 
 impl Ended {
@@ -27,11 +32,8 @@ impl Ended {
     pub fn status(self) -> Status {
         match self {
             Ended::NoHarm => Status::Clean,
-            Ended::Refused { .. } | Ended::Harm { .. } | Ended::NotPossible { .. } => {
-                Status::Unclean
-            }
+            Ended::Refused(_) | Ended::Harm { .. } | Ended::NotPossible { .. } => Status::Unclean,
             Ended::BadLine { .. } => Status::Unreadable,
-            Ended::Memory => Status::Unanswered,
         }
     }
 
@@ -39,15 +41,18 @@ impl Ended {
     pub fn line(self, alloc: Global) -> Result<String, AllocError> {
         match self {
             Ended::NoHarm => format!(in alloc; "no harm\n"),
-            Ended::Refused { row, refusal } => refused_line(alloc, row, refusal),
+            Ended::Refused(refused) => refused_line(alloc, refused.row, refused.refusal),
             Ended::Harm { harm, step } => {
                 format!(in alloc; "harm {} at step {step}\n", harm.number())
             }
             Ended::NotPossible { step } => format!(in alloc; "step {step}: 27 NotPossible\n"),
             Ended::BadLine { line, fault } => {
-                format!(in alloc; "xhcitrace: line {line}: {} {}\n", fault.number(), fault.name())
+                format!(in alloc;
+                    "xhcitrace: line {line}: {} {}\n",
+                    fault.number(),
+                    fault.name()
+                )
             }
-            Ended::Memory => format!(in alloc; "xhcitrace: 30 Memory\n"),
         }
     }
 }

@@ -7,5 +7,5 @@ mod header;
 mod lines;
 mod run;
 
-pub use end::Ended;
+pub use end::{Ended, RefusedRow};
 pub use run::{Asked, Left, keep, run_bench, tell_end};

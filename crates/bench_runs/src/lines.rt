@@ -59,7 +59,11 @@ impl<R: Read + Drop> Lines<R> {
             line.extend_from_slice(left)?;
         }
         self.from = self.bytes.len();
-        if line.is_empty() { Ok(None) } else { Ok(Some(line)) }
+        if line.is_empty() {
+            Ok(None)
+        } else {
+            Ok(Some(line))
+        }
     }
 
     /// Reads one piece more; whether there was one.

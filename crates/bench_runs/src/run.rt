@@ -1,3 +1,6 @@
+ghost use Rattle.std.specs.Prelude.{IfOk};
+ghost use Rattle.bench_runs.specs.Runs.{IsRun};
+
 use crate::course::{Course, is_question};
 use crate::end::Ended;
 use crate::header::{HeaderText, read_header};
@@ -36,7 +39,9 @@ pub fn run_bench<R: Read + Drop, O: Write, E: Write>(
     input: R,
     out: &mut O,
     err: &mut E,
-) -> io::Result<Left> {
+) -> io::Result<Left>
+    ensures run { IfOk result IsRun }
+{
     let mut lines = Lines::new(alloc, input);
     let header = read_header(alloc, &mut lines, out)?;
     let mut source = Counted::new(header.text.as_slice());
@@ -60,12 +65,14 @@ fn run_behind<R: Read + Drop, O: Write, E: Write>(
     lines: &mut Lines<R>,
     out: &mut O,
     err: &mut E,
-) -> io::Result<Left> {
+) -> io::Result<Left>
+    ensures run { IfOk result IsRun }
+{
     let adversary = Adversary::new(asked.seed, asked.profile);
     let memory = SparseMemory::new(alloc);
     let known = SparseMemory::new(alloc);
     let mut live = Live::new(alloc, reader, adversary, memory, known)?;
-    let mut course = Course::new(alloc, header.text);
+    let mut course = Course::new(alloc, header.text, &live);
     if header.has_row {
         course.hear_row(&mut live, &[], err)?;
     }
@@ -73,20 +80,13 @@ fn run_behind<R: Read + Drop, O: Write, E: Write>(
         let Some(line) = lines.next_line()? else {
             break;
         };
-        // behind the end of a run the driver is heard, and not answered, until it asks: it may be writing still
-        if course.ended.is_none() {
-            course.hear(&mut live, &line, out, err)?;
-        }
-        if course.ended.is_some() && is_question(&line) {
+        course.hear(&mut live, &line, out, err)?;
+        // behind its end the driver is heard until it asks: it may be writing still
+        if course.is_over() && is_question(&line) {
             break;
         }
     }
-    let ended = course.ended.or(course.refused).unwrap_or(Ended::NoHarm);
-    Ok(Left {
-        ended,
-        trace: course.said,
-        schedule: live.into_schedule(),
-    })
+    Ok(course.into_left(live))
 }
 
 /// Writes what a run ended with where the driver reads it, and to `err` too. A driver that reads no more is no failure.
