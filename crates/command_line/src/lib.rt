@@ -115,6 +115,10 @@ the controller hasn't posted, status 1; of a bad line `xhcitrace: line L: C Name
 Example:
   mkfifo answers && ./driver <answers | xhcitrace bench --seed 7 --errors 20 --out run >answers";
 
+const SEED_HELP: &str = "The number by which it is drawn what the controller does; without it 1";
+
+const STEPS_HELP: &str = "The controller makes no more steps than these; without it 1000000";
+
 const DECODE: &str = "\
 Prints one line, status 0; on standard error that a word isn't 8 hex digits, status 2; else status 3.
 
@@ -242,10 +246,10 @@ fn bench<'a>(alloc: Global) -> Result<Command<'a>, AllocError> {
     Command::new(alloc, "bench")
         .about("Runs a driver, live, beside the controller's model")
         .after_help(BENCH)
-        .arg(seed(alloc))?
+        .arg(number(alloc, "seed", "S", SEED_HELP))?
         .arg(policy(alloc)?)?
         .arg(errors(alloc))?
-        .arg(steps(alloc))?
+        .arg(number(alloc, "steps", "N", STEPS_HELP))?
         .arg(out(alloc))
 }
 
@@ -461,13 +465,13 @@ fn row<'a>(alloc: Global) -> Arg<'a> {
         .help("The row, by its line from 1; none: the first that breaks a rule, or the end")
 }
 
-/// By which number the controller's steps are drawn.
-fn seed<'a>(alloc: Global) -> Arg<'a> {
-    Arg::new(alloc, "seed")
-        .long("seed")
-        .value_name("S")
+/// A number that may be given.
+fn number<'a>(alloc: Global, name: &'a str, value: &'a str, help: &'a str) -> Arg<'a> {
+    Arg::new(alloc, name)
+        .long(name)
+        .value_name(value)
         .value_parser(clap::value_parser!(u64))
-        .help("The number by which it is drawn what the controller does; without it 1")
+        .help(help)
 }
 
 /// When the controller does what it may do.
@@ -488,15 +492,6 @@ fn errors<'a>(alloc: Global) -> Arg<'a> {
         .value_name("PERCENT")
         .value_parser(clap::value_parser!(u8))
         .help("How many in a hundred events are errors, or from elsewhere; without it 0")
-}
-
-/// How many steps the controller makes at most.
-fn steps<'a>(alloc: Global) -> Arg<'a> {
-    Arg::new(alloc, "steps")
-        .long("steps")
-        .value_name("N")
-        .value_parser(clap::value_parser!(u64))
-        .help("The controller makes no more steps than these; without it 1000000")
 }
 
 /// Where a run on the bench is kept.
