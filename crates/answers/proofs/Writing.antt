@@ -1,12 +1,15 @@
 -- What the bytes of a stream are behind one write after another
-use Rattle.std.proofs.Common.{rules}
-use Rattle.answers.proofs.Words.{◌≡◌, ◌∙◌, ℕ, ◌+◌, ◌-◌, ◌≤◌, List, [], ◌++◌, take, drop, length, true, false, Option, Some, None, Result, Ok, Err, ap, sym, subst, arith, append_assoc, length-drop, drop-take, take-append-drop, take-take, take_all, take-length, common_steps, Appends, Keeps, IfOk, IsOk, device_line, Begins}
+use Rattle.answers.proofs.Words.{◌≡◌, ◌∙◌, ℕ, ◌+◌, ◌-◌, ◌≤◌, List, [], ◌++◌, take, drop, length, Bool, true, false, Option, Some, None, Result, Ok, Err, ap, sym, subst, arith, append_assoc, length-drop, drop-take, take-append-drop, take-take, take_all, take-length, common_steps, Appends, Keeps, IfOk, IsOk, device_line, Begins}
 
 pub appends_nothing : (known : Option (List ℕ)) → Appends known known []
-appends_nothing given1 = search rules
+appends_nothing None = tt
+appends_nothing (Some xs) = grind (arith, common_steps)
 
 pub kept : (a b c : Option (List ℕ)) (bs : List ℕ) → Appends a b bs → Keeps b c → Appends a c bs
-kept given1 b c bs h k = grind arith
+kept None b c bs h k = tt
+kept (Some xs) None c bs h k = absurd h
+kept (Some xs) (Some ys) None bs h k = absurd k
+kept (Some xs) (Some ys) (Some zs) bs h k = k ∙ h
 
 pub joined : (a b c : Option (List ℕ)) (bs cs : List ℕ) → Appends a b bs → Appends b c cs → Appends a c (bs ++ cs)
 joined None b c bs cs h k = tt
@@ -55,4 +58,8 @@ nothing_begun known text = (0, appends_nothing known)
 -- what is told with the explanation that could be had
 pub told_note : {N F : Type 0} (bytes : N → List ℕ) (IsRight : List ℕ → Type 0) (note : Result N F) (text errs : List ℕ) → IsOk note → IfOk note (λ n. IsRight (bytes n)) →
     IfOk note (λ n. errs ≡ text ++ bytes n) → (x : List ℕ) × IsRight x × (errs ≡ text ++ x)
-told_note bytes given2 given3 text errs ok plain is = grind arith
+told_note bytes IsRight (Ok n) text errs ok plain is = (bytes n, plain, is)
+told_note bytes IsRight (Err e) text errs ok plain is = absurd (never ok)
+  where
+    never : false ≡ true → ⊥
+    never e = cc

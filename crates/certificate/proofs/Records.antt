@@ -1,5 +1,5 @@
 -- Records one after another: what is written is read, and what is read is what was written
-use Rattle.certificate.proofs.Words.{◌≡◌, ◌+◌, ◌*◌, ◌<◌, ◌≤◌, ◌∷◌, ◌++◌, ◌∙◌, ℕ, suc, zero, true, List, [], length, take, drop, All, arith, sym, ap, refl, add-one, drop-drop, length-drop, get_or-take, get_or-drop, length-take-le, get_or, get_or_past, All-head, All-tail, and_from, cases_lt, le_bytes_4, le_bytes_8, Lease, FitsLease, has_lease_fields, lease_bytes, lease_in, leases_in, flat_map, list_all, take-add, little_bytes, little_number}
+use Rattle.certificate.proofs.Words.{◌≡◌, ◌+◌, ◌*◌, ◌<◌, ◌≤◌, ◌∷◌, ◌++◌, ◌∙◌, ℕ, suc, zero, true, List, [], length, take, drop, All, arith, sym, ap, refl, add-one, inl, inr, drop-drop, length-drop, get_or-take, get_or-drop, length-take-le, get_or, get_or_past, All-head, All-tail, and_from, cases_lt, le_bytes_4, le_bytes_8, Lease, FitsLease, has_lease_fields, lease_bytes, lease_in, leases_in, flat_map, list_all, take-add, little_bytes, little_number}
 
 -- one record more
 pub leases_in-push : (bytes : List ℕ) (n : ℕ) → leases_in bytes (n + 1) ≡ leases_in bytes n ++ lease_in (drop (24 * n) bytes) ∷ []
@@ -10,10 +10,14 @@ leases_in-push bytes (suc n) =
     let later : drop (24 * n) (drop 24 bytes) ≡ drop (24 * suc n) bytes = drop-drop (24 * n) 24 bytes ∙ ap (λ m. drop m bytes) next in
     grind (arith, add-one, leases_in-push (drop 24 bytes) n)
 
+same_lease : (k r p f t a b c d e : ℕ) → k ≡ a → r ≡ b → p ≡ c → f ≡ d → t ≡ e →
+    ◌≡◌ {A = Lease} (record { kind = k; ring = r; pos = p; from = f; to = t }) (record { kind = a; ring = b; pos = c; from = d; to = e })
+same_lease k r p f t a b c d e g h i j l = cc
+
 -- the first record is the first lease
 first_read : (l : Lease) (rest : List ℕ) → FitsLease l → lease_in (lease_bytes l ++ rest) ≡ l
 unfolding lease_in lease_bytes
-first_read l rest fits = grind arith
+first_read l rest fits = grind (arith, same_lease)
 
 rest_read : (l : Lease) (rest : List ℕ) → drop 24 (lease_bytes l ++ rest) ≡ rest
 unfolding lease_bytes
@@ -44,7 +48,11 @@ pub dropped : (n : ℕ) (bytes : List ℕ) → AreBytes bytes → AreBytes (drop
 dropped n bytes fit i = rw (get_or-drop n bytes i 0) (fit (n + i))
 
 kept : (n : ℕ) (bytes : List ℕ) → n ≤ length bytes → AreBytes bytes → AreBytes (take n bytes)
-kept n bytes long fit i = grind (arith, cases_lt, get_or-take, length-take-le, get_or_past)
+kept n bytes long fit i =
+    elim (cases_lt i n) [
+      | inl inside ↦ rw (get_or-take n bytes i 0 inside) (fit i)
+      | inr past ↦ let size = length-take-le n bytes long in rw (get_or_past (take n bytes) i 0 (omega arith)) (omega arith)
+    ]
 
 field4 : (bytes : List ℕ) → 4 ≤ length bytes → AreBytes bytes → little_bytes 4 (little_number 4 bytes) ≡ take 4 bytes
 field4 bytes long fit =
@@ -66,6 +74,9 @@ field8 bytes long fit =
     let h = get_or-take 8 bytes 7 0 (omega arith) in
     le_bytes_8 (take 8 bytes) (little_number 8 bytes) (length-take-le 8 bytes long) (kept 8 bytes long fit) (omega (arith, a, b, c, d, e, f, g, h))
 
+cut : (bytes : List ℕ) → take 24 bytes ≡ take 4 bytes ++ take 4 (drop 4 bytes) ++ take 8 (drop 8 bytes) ++ take 4 (drop 16 bytes) ++ take 4 (drop 20 bytes)
+cut bytes = grind (arith, take-add)
+
 long_from : (n m : ℕ) (bytes : List ℕ) → n + m ≤ length bytes → m ≤ length (drop n bytes)
 long_from n m bytes long = let size = length-drop n bytes in omega arith
 
@@ -81,7 +92,7 @@ first_spelled bytes long fit =
     (field8 (drop 8 bytes) (long_from 8 8 bytes (omega arith)) (dropped 8 bytes fit))
     (field4 (drop 16 bytes) (long_from 16 4 bytes (omega arith)) (dropped 16 bytes fit))
     (field4 (drop 20 bytes) (long_from 20 4 bytes (omega arith)) (dropped 20 bytes fit))
-    ∙ sym ((grind (arith, take-add)))
+    ∙ sym (cut bytes)
   where
     joined : (a b c d e p q r s t : List ℕ) → a ≡ p → b ≡ q → c ≡ r → d ≡ s → e ≡ t → (a ++ b ++ c ++ d ++ e) ≡ (p ++ q ++ r ++ s ++ t)
     joined a b c d e p q r s t h i j k l = rw (h, i, j, k, l) refl

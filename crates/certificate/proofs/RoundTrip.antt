@@ -18,6 +18,9 @@ reread ls fits = records_reread ls fits
 taken : {E : Type 0} (b : Bool) (x : Result (List Lease) E) (e : E) (ls : List Lease) → cond b x (Err e) ≡ Ok ls → (b ≡ true) × (x ≡ Ok ls)
 taken b x e ls h = grind arith
 
+same_list : (xs ls : List Lease) → ◌≡◌ {A = Result (List Lease) CertFault} (Ok xs) (Ok ls) → xs ≡ ls
+same_list xs ls h = cc
+
 records_spelled : (records : List ℕ) (ls : List Lease) → AreBytes records → records_of records ≡ Ok ls → flat_map lease_bytes ls ≡ records
 unfolding records_of
 records_spelled records ls fit read =
@@ -27,7 +30,7 @@ records_spelled records ls fit read =
           let divided : length records % 24 ≡ 0 = grind (arith, nat_tests, whole) in
           let size : 24 * n ≡ length records = omega arith in
           let inner = taken (list_all has_lease_fields (leases_in records n)) (Ok (leases_in records n)) Field ls (rw whole at read) in
-          let is : leases_in records n ≡ ls = (cc) in
+          let is : leases_in records n ≡ ls = same_list (leases_in records n) ls inner.1 in
           ap (λ xs. flat_map lease_bytes xs) (sym is) ∙ all_spelled records n (omega arith) fit ∙ ap (λ m. take m records) size ∙ take_all (length records) records (omega arith)
       | inr parted ↦ absurd (no_list ls (rw parted at read))
     ]
