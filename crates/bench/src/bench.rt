@@ -195,7 +195,7 @@ impl<M: WordMemory + Drop> Bench<M> {
         ensures made { (h : HeaderValue) (past : List RowValue) (steps : List StepValue) (told : List WrittenValue) (x : Scene) → IsBench M.words h past steps told x self.old →
             IfOk result (λ seen. (y : Scene) × (step_made x step.now ≡ Some y) × (seen ≡ shows x.header x.world step.now) ×
             IsBench M.words h past (step.now ∷ steps) (told ++ words_told x step.now) y self.new) }
-        ensures judging { IsJudging self.old → OnOk result (IsJudging self.new) }
+        ensures judging { IsJudging self.old → IsJudging self.new }
         ensures impossible { (refusal : Option RefusalValue) (h : HeaderValue) (past : List RowValue) (steps : List StepValue) (told : List WrittenValue) (x : Scene) →
             result ≡ Err (BenchFault.NotPossible refusal) → IsBench M.words h past steps told x self.old →
             (step_made x step.now ≡ None) × IsBench M.words h past steps told x self.new }

@@ -93,9 +93,7 @@ impl<M: WordMemory + Drop> Live<M> {
         };
         match self.bench.row(&row) {
             Ok(refusal) => {
-                if self.bench.safe().is_ok() {
-                    self.let_go_on(Moment::BehindRow)?;
-                }
+                self.let_go_on(Moment::BehindRow)?;
                 Ok((number, refusal))
             }
             Err(BenchFault::NotPossible { refusal }) => Err(LiveFault::NotPossible {
@@ -124,6 +122,7 @@ impl<M: WordMemory + Drop> Live<M> {
         requires so_far { IsLive M.words self.old }
         ensures rows { (h : HeaderValue) (past : List RowValue) → IsLiveOf M.words h past self.old → OnOk result (IsLiveOf M.words h past self.new) }
         ensures judging { JudgesNext self.old → OnOk result (JudgesNext self.new) }
+        ensures memory { IfErr result (λ fault. fault ≡ LiveFault.Memory) }
     {
         match go_on(&mut self.bench, &mut self.adversary, moment) {
             Ok(()) => Ok(()),

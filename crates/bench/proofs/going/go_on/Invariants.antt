@@ -1,0 +1,12 @@
+use Rattle.std.specs.Prelude.{List}
+use Rattle.traces.specs.declared.header.Header.{Header}
+use Rattle.traces.specs.declared.row.Row.{Row}
+use Rattle.bench.specs.Benches.{HasBench, IsBenchOf, IsJudging}
+use Rattle.bench.proofs.going.go_on.Given as goal
+
+-- the bench stands for the same rows, and judges the next where it did
+abbrev pub invariant-loop : goal.invariant-loop
+invariant-loop g l = record {
+  rows : (h : Header) (past : List Row) → IsBenchOf g.M.WordMemory.words h past l.fn.bench → IsBenchOf g.M.WordMemory.words h past l.bench;
+  judging : IsJudging l.fn.bench → IsJudging l.bench;
+}
