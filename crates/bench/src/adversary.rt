@@ -1,7 +1,9 @@
 //! Who chooses the controller's steps. Nothing rests on it: what it chooses is a step of the model, or isn't made.
 ghost use Rattle.std.specs.Prelude.{◌<◌};
 
-use crate::candidates::{IOC, ISP, finished, is_alone, looked, oddity, oldest_with, stopped};
+use crate::candidates::{
+    IOC, ISP, bytes_in, finished, is_alone, looked, oddity, oldest_with, stopped,
+};
 use crate::drawn::Dice;
 use crate::events::transfer_event;
 use commands::{Command, EndpointState};
@@ -292,15 +294,31 @@ impl Adversary {
             }
         }
         let cycle = controller.event_cycle();
-        let is_short = endpoint % 2 == 1 && self.dice.chance(self.profile.errors);
-        let event = if is_short {
-            let cut = oldest_with(controller.memory(), takes, IOC | ISP);
-            let left = 1 + self.dice.below(512);
-            transfer_event(*takes.get(cut?)?, 13, left, slot, endpoint, cycle)
-        } else {
-            transfer_event(*takes.get(asked?)?, 1, 0, slot, endpoint, cycle)
+        let event = match self.cut_short(controller, ring, endpoint) {
+            Some((at, left)) => transfer_event(at, 13, left, slot, endpoint, cycle),
+            None => transfer_event(*takes.get(asked?)?, 1, 0, slot, endpoint, cycle),
         };
         Some(Step::Report { event })
+    }
+
+    /// A Short Packet, if one is drawn: the oldest TRB that asks for an event of it, and how many of its bytes don't come (6.4.2.1).
+    fn cut_short<M: WordMemory + Drop>(
+        &mut self,
+        controller: &Controller<M>,
+        ring: u8,
+        endpoint: u8,
+    ) -> Option<(u64, u32)> {
+        if endpoint % 2 == 0 || !self.dice.chance(self.profile.errors) {
+            return None;
+        }
+        let takes = controller.unreported(ring);
+        let cut = oldest_with(controller.memory(), takes, IOC | ISP)?;
+        let at = *takes.get(cut)?;
+        let bytes = bytes_in(controller.memory(), at);
+        if bytes == 0 {
+            return None;
+        }
+        Some((at, self.dice.below(bytes).saturating_add(1)))
     }
 
     /// How an endpoint stops at the TRB that was taken last: a Stop Endpoint is under way, or an error is drawn.

@@ -31,6 +31,27 @@ pub(crate) const IOC: u32 = 0x20;
 /// Interrupt On Short Packet.
 pub(crate) const ISP: u32 = 4;
 
+/// The direction of a Data Stage TRB: IN (6.4.1.2.2).
+const IN: u32 = 0x10000;
+
+/// How many bytes a TRB at an address brings in at most: a Normal TRB, or a Data Stage TRB from the device; 0 of another.
+pub(crate) fn bytes_in<M: WordMemory>(memory: &M, at: u64) -> u32 {
+    let (Some(status), Some(control)) = (Addr::new(at | 8), Addr::new(at | 12)) else {
+        return 0;
+    };
+    let word = memory.word(control);
+    let is_in = match (word >> 10) % 64 {
+        1 => true,
+        3 => word & IN != 0,
+        _ => false,
+    };
+    if is_in {
+        memory.word(status) % (1 << 17)
+    } else {
+        0
+    }
+}
+
 /// Which of these TRBs is the oldest that has one of these flags.
 pub(crate) fn oldest_with<M: WordMemory>(
     memory: &M,
