@@ -2,7 +2,7 @@
 ghost use Rattle.std.specs.Prelude.{◌<◌};
 
 use crate::candidates::{
-    IOC, ISP, bytes_in, finished, is_alone, looked, oddity, oldest_with, stopped,
+    IOC, ISP, bytes_in, finished, is_alone, looked, oddity, oldest_with, stopped, stopped_at,
 };
 use crate::drawn::Dice;
 use crate::events::transfer_event;
@@ -225,7 +225,7 @@ impl Adversary {
         let ring = rings.get(self.dice.below(count) as usize)?.id;
         match self.dice.below(4) {
             0 => self.report(controller, ring),
-            1 => self.finish(controller),
+            1 => self.stop_or_finish(controller),
             _ => looked(controller, ring),
         }
     }
@@ -348,6 +348,19 @@ impl Adversary {
         Some(Step::Report {
             event: transfer_event(at, code, 0, slot, endpoint, cycle),
         })
+    }
+
+    /// The completion of the command under way; in half the cases where its endpoint stops comes first, if it is a Stop Endpoint (4.6.9).
+    fn stop_or_finish<M: WordMemory + Drop>(&mut self, controller: &Controller<M>) -> Option<Step> {
+        if self.dice.below(2) == 0 {
+            for ring in controller.live().rings.as_slice() {
+                let stops = stopped_at(controller, ring.id);
+                if stops.is_some() {
+                    return stops;
+                }
+            }
+        }
+        self.finish(controller)
     }
 
     /// The completion of the command under way: it succeeds where it can, unless a failure is drawn.

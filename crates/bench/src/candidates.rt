@@ -1,7 +1,7 @@
 //! Steps that a controller may make, as it shows itself (xHCI 4.6, 4.9, 4.10).
 use crate::drawn::Dice;
 use crate::events::{completion_event, other_event, transfer_event};
-use commands::Command;
+use commands::{Command, EndpointState};
 use controller_model::Controller;
 use guest_memory::{Addr, WordMemory};
 use std::collections::VecDeque;
@@ -105,6 +105,19 @@ pub(crate) fn stopped<M: WordMemory + Drop>(
     Some(Step::Report {
         event: transfer_event(at, code, 0, slot, endpoint, cycle),
     })
+}
+
+/// The Stopped event of a ring's endpoint that runs, where a Stop Endpoint of it is under way.
+pub(crate) fn stopped_at<M: WordMemory + Drop>(
+    controller: &Controller<M>,
+    ring: u8,
+) -> Option<Step> {
+    let (slot, endpoint) = controller.holder(ring)?;
+    let state = controller.endpoint_state(slot, endpoint);
+    if state != EndpointState::Running || !controller.is_active(ring) {
+        return None;
+    }
+    stopped(controller, ring, slot, endpoint)
 }
 
 /// The completion of the command at an address; `free` is the slot that an Enable Slot gives.
