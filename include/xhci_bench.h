@@ -5,7 +5,7 @@
  *
  *	#define XHCI_BENCH		without it this is xhci_trace.h: xb_poll() is nothing, and xb_wait() is 1
  *	#define XHCI_TRACE_HERE		in exactly one file of the driver, as for xhci_trace.h
- *	#define XB_WORD(bus) (&memory[(bus) / 4])	where the driver has the word at a bus address; 0 where it has none there
+ *	#define XB_WORD(bus) (&memory[(bus) / 4])	in each file: where the driver has the word at a bus address; 0 where it has none there
  *	#include "xhci_bench.h"		in place of xhci_trace.h
  *
  *	xb_poll()	before the driver looks at memory that the controller writes: the Event Ring, a Device Context
@@ -24,8 +24,9 @@
  *
  * Where it comes back the bench is gone: xb_wait() answers 0 from then on, and no row is made.
  *
- * xt_open(path, 32) and xt_close() stand for xt_begin and the last flush, so that one source is traced and benched. Of several controllers
- * (XT_CONTROLLERS) one alone is on the bench: only its hooks may be called, and XB_WORD may use its state by the name xt.
+ * xt_open(path, 32) and xt_close() stand for xt_begin and the last flush, so that one source is traced and benched. A process has one run
+ * of the controller: a second xt_open is a bad line. Of several controllers (XT_CONTROLLERS) one alone is on the bench: only its hooks may
+ * be called, and XB_WORD may use its state by the name xt.
  */
 #ifndef XHCI_BENCH_H
 #define XHCI_BENCH_H

@@ -485,7 +485,7 @@ static void handle_event(struct controller *c, const uint32_t event[4])
 	}
 }
 
-/* The Cycle bit tells that an event is there. Words 0 to 2 are read behind it, and a read barrier, where loads may pass one another */
+/* The Cycle bit tells that an event is there. Words 0 to 2 are read behind it: where loads may pass one another, behind a barrier */
 static int read_event(struct controller *c, uint32_t event[4])
 {
 	uint64_t bus = next_trb(&c->events);
@@ -836,6 +836,7 @@ static void write_register(struct controller *c, const char *name, enum hc_regis
 	xt_reg(c->trace, name, value, hc_write(c->hc, reg, value));
 }
 
+/* A driver of hardware resets the controller, waits until it is ready, and enables interrupts (USBCMD.INTE, IMAN.IE) too */
 static int start(struct controller *c)
 {
 	make_ring(c, &c->commands, &new_command_ring, "cmd");

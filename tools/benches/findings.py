@@ -47,6 +47,9 @@ def other_of(run):
     """What a run has found where its rows break no rule and no harm was done."""
     if run.is_late:
         return 'timeout'
+    # a driver that dies while it is answered ends the bench too; SIGPIPE is of one that spoke on when the bench was over
+    if run.status != 1 and run.driver_status < 0 and run.driver_status != -signal.SIGPIPE:
+        return f'driver killed by {signal_name(-run.driver_status)}'
     if run.status not in (0, 1):
         return run.told[-1] if run.told else f'the bench ended with status {run.status}'
     if run.status == 1:

@@ -1,7 +1,9 @@
 //! Who chooses the controller's steps. Nothing rests on it: what it chooses is a step of the model, or isn't made.
 ghost use Rattle.std.specs.Prelude.{◌<◌};
 
-use crate::candidates::{IOC, ISP, finished, is_alone, looked, oddity, oldest_with, stopped};
+use crate::candidates::{
+    IOC, ISP, bytes_in, finished, is_alone, looked, oddity, oldest_with, stopped, stopped_at,
+};
 use crate::drawn::Dice;
 use crate::events::transfer_event;
 use commands::{Command, EndpointState};
@@ -223,7 +225,7 @@ impl Adversary {
         let ring = rings.get(self.dice.below(count) as usize)?.id;
         match self.dice.below(4) {
             0 => self.report(controller, ring),
-            1 => self.finish(controller),
+            1 => self.stop_or_finish(controller),
             _ => looked(controller, ring),
         }
     }
@@ -292,15 +294,31 @@ impl Adversary {
             }
         }
         let cycle = controller.event_cycle();
-        let is_short = endpoint % 2 == 1 && self.dice.chance(self.profile.errors);
-        let event = if is_short {
-            let cut = oldest_with(controller.memory(), takes, IOC | ISP);
-            let left = 1 + self.dice.below(512);
-            transfer_event(*takes.get(cut?)?, 13, left, slot, endpoint, cycle)
-        } else {
-            transfer_event(*takes.get(asked?)?, 1, 0, slot, endpoint, cycle)
+        let event = match self.cut_short(controller, ring, endpoint) {
+            Some((at, left)) => transfer_event(at, 13, left, slot, endpoint, cycle),
+            None => transfer_event(*takes.get(asked?)?, 1, 0, slot, endpoint, cycle),
         };
         Some(Step::Report { event })
+    }
+
+    /// A Short Packet, if one is drawn: the oldest TRB that asks for an event of it, and how many of its bytes don't come (6.4.2.1).
+    fn cut_short<M: WordMemory + Drop>(
+        &mut self,
+        controller: &Controller<M>,
+        ring: u8,
+        endpoint: u8,
+    ) -> Option<(u64, u32)> {
+        if endpoint % 2 == 0 || !self.dice.chance(self.profile.errors) {
+            return None;
+        }
+        let takes = controller.unreported(ring);
+        let cut = oldest_with(controller.memory(), takes, IOC | ISP)?;
+        let at = *takes.get(cut)?;
+        let bytes = bytes_in(controller.memory(), at);
+        if bytes == 0 {
+            return None;
+        }
+        Some((at, self.dice.below(bytes).saturating_add(1)))
     }
 
     /// How an endpoint stops at the TRB that was taken last: a Stop Endpoint is under way, or an error is drawn.
@@ -330,6 +348,19 @@ impl Adversary {
         Some(Step::Report {
             event: transfer_event(at, code, 0, slot, endpoint, cycle),
         })
+    }
+
+    /// The completion of the command under way; in half the cases where its endpoint stops comes first, if it is a Stop Endpoint (4.6.9).
+    fn stop_or_finish<M: WordMemory + Drop>(&mut self, controller: &Controller<M>) -> Option<Step> {
+        if self.dice.below(2) == 0 {
+            for ring in controller.live().rings.as_slice() {
+                let stops = stopped_at(controller, ring.id);
+                if stops.is_some() {
+                    return stops;
+                }
+            }
+        }
+        self.finish(controller)
     }
 
     /// The completion of the command under way: it succeeds where it can, unless a failure is drawn.

@@ -1,7 +1,7 @@
 //! Steps that a controller may make, as it shows itself (xHCI 4.6, 4.9, 4.10).
 use crate::drawn::Dice;
 use crate::events::{completion_event, other_event, transfer_event};
-use commands::Command;
+use commands::{Command, EndpointState};
 use controller_model::Controller;
 use guest_memory::{Addr, WordMemory};
 use std::collections::VecDeque;
@@ -30,6 +30,27 @@ pub(crate) const IOC: u32 = 0x20;
 
 /// Interrupt On Short Packet.
 pub(crate) const ISP: u32 = 4;
+
+/// The direction of a Data Stage TRB: IN (6.4.1.2.2).
+const IN: u32 = 0x10000;
+
+/// How many bytes a TRB at an address brings in at most: a Normal TRB, or a Data Stage TRB from the device; 0 of another.
+pub(crate) fn bytes_in<M: WordMemory>(memory: &M, at: u64) -> u32 {
+    let (Some(status), Some(control)) = (Addr::new(at | 8), Addr::new(at | 12)) else {
+        return 0;
+    };
+    let word = memory.word(control);
+    let is_in = match (word >> 10) % 64 {
+        1 => true,
+        3 => word & IN != 0,
+        _ => false,
+    };
+    if is_in {
+        memory.word(status) % (1 << 17)
+    } else {
+        0
+    }
+}
 
 /// Which of these TRBs is the oldest that has one of these flags.
 pub(crate) fn oldest_with<M: WordMemory>(
@@ -84,6 +105,19 @@ pub(crate) fn stopped<M: WordMemory + Drop>(
     Some(Step::Report {
         event: transfer_event(at, code, 0, slot, endpoint, cycle),
     })
+}
+
+/// The Stopped event of a ring's endpoint that runs, where a Stop Endpoint of it is under way.
+pub(crate) fn stopped_at<M: WordMemory + Drop>(
+    controller: &Controller<M>,
+    ring: u8,
+) -> Option<Step> {
+    let (slot, endpoint) = controller.holder(ring)?;
+    let state = controller.endpoint_state(slot, endpoint);
+    if state != EndpointState::Running || !controller.is_active(ring) {
+        return None;
+    }
+    stopped(controller, ring, slot, endpoint)
 }
 
 /// The completion of the command at an address; `free` is the slot that an Enable Slot gives.
