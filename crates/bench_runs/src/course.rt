@@ -11,6 +11,7 @@ ghost use Rattle.bench.specs.declared.written.Written.{Written as WrittenValue};
 ghost use Rattle.bench_runs.specs.Runs.{IsCourse, IsOver, IsRun, end_of, ended_with, noted_with};
 
 use crate::end::{Ended, RefusedRow, refused_line};
+use crate::lines::say;
 use crate::run::Left;
 use bench::{Live, LiveFault, Written};
 use guest_memory::WordMemory;
@@ -119,13 +120,11 @@ impl Course {
 
     /// Tells words that the controller wrote, and how the answer ends, unless the run is over.
     fn tell<O: Write>(&self, words: &[Written], is_idle: bool, out: &mut O) -> io::Result<()> {
-        let text = self.told(words)?;
-        out.write_all(text.as_bytes())?;
+        let mut text = self.told(words)?;
         if !self.is_over() {
-            let end = if is_idle { "idle\n" } else { ".\n" };
-            out.write_all(end.as_bytes())?;
+            text.push_str(if is_idle { "idle\n" } else { ".\n" })?;
         }
-        out.flush()
+        say(&text, out)
     }
 
     /// The lines of words that the controller wrote.

@@ -1,5 +1,5 @@
 //! The lines of a header, and what a driver may ask between them.
-use crate::lines::Lines;
+use crate::lines::{Lines, say};
 use std::alloc::Global;
 use std::io::{self, Read, Write};
 
@@ -28,11 +28,9 @@ pub fn read_header<R: Read + Drop, O: Write>(
             return Ok(header);
         };
         if line.as_slice() == b"?\n".as_slice() {
-            out.write_all(b".\n")?;
-            out.flush()?;
+            say(".\n", out)?;
         } else if line.as_slice() == b"wait\n".as_slice() {
-            out.write_all(b"idle\n")?;
-            out.flush()?;
+            say("idle\n", out)?;
         } else {
             header.text.extend_from_slice(&line)?;
             if !is_of_header(&line) {

@@ -1,6 +1,14 @@
 //! Lines as they come: each is there once its line feed was read.
 use std::alloc::Global;
-use std::io::{self, ErrorKind, Read};
+use std::io::{self, ErrorKind, Read, Write};
+
+/// Tells the driver lines. That it reads no more is no failure: what it said then is heard still.
+pub(crate) fn say<O: Write>(text: &str, out: &mut O) -> io::Result<()> {
+    match out.write_all(text.as_bytes()).and_then(|_| out.flush()) {
+        Err(error) if error.kind() != ErrorKind::BrokenPipe => Err(error),
+        _ => Ok(()),
+    }
+}
 
 /// How many bytes are read at a time at most.
 const PIECE: usize = 4096;

@@ -4,7 +4,7 @@ ghost use Rattle.bench_runs.specs.Runs.{IsRun};
 use crate::course::{Course, is_question};
 use crate::end::Ended;
 use crate::header::{HeaderText, read_header};
-use crate::lines::Lines;
+use crate::lines::{Lines, say};
 use answers::Status;
 use bench::{Adversary, Live, Profile};
 use guest_memory::SparseMemory;
@@ -98,10 +98,8 @@ pub fn tell_end<O: Write, E: Write>(
 ) -> io::Result<Status> {
     let line = ended.line(alloc)?;
     err.write_all(line.as_bytes())?;
-    match out.write_all(line.as_bytes()).and_then(|_| out.flush()) {
-        Err(error) if error.kind() != ErrorKind::BrokenPipe => Err(error),
-        _ => Ok(ended.status()),
-    }
+    say(&line, out)?;
+    Ok(ended.status())
 }
 
 /// Writes the trace and the schedule that a run left.

@@ -490,7 +490,7 @@ fn errors<'a>(alloc: Global) -> Arg<'a> {
     Arg::new(alloc, "errors")
         .long("errors")
         .value_name("PERCENT")
-        .value_parser(ValueParser::Signed(0, 100))
+        .value_parser(clap::value_parser!(u8).range(..=100))
         .help("How many in a hundred events are errors, or from elsewhere; without it 0")
 }
 
