@@ -1,5 +1,4 @@
 pub mod CheckAnswers
-pub mod FollowAnswers
 pub mod HarmAnswers
 pub mod Outcomes
 pub mod PlanAnswers

@@ -5,7 +5,6 @@ pub mod Steps
 pub mod Logged
 pub mod Walks
 pub mod RowsFit
-pub mod Followed
 pub mod RowsRead
 pub mod FreeLeases
 pub mod KeptRows
