@@ -76,7 +76,9 @@ static inline void xb_take(struct xt_state *xt, const char *line)
 	volatile uint32_t *word = XB_WORD(xb_number(line + 2, 16));
 
 	(void)xt;
-	if (word)
+	if (!word)
+		fprintf(stderr, "xhci_bench.h: the controller writes at %.16s, where XB_WORD has no memory\n", line + 2);
+	else
 		*word = xt_le32((uint32_t)xb_number(line + 19, 8));
 }
 

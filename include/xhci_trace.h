@@ -845,7 +845,7 @@ static inline void xt_event(XT_FIRST uint32_t word0, uint32_t word1, uint32_t wo
 
 #endif
 
-/* A ring of one segment */
+/* A ring of one segment: trbs with its Link TRB; of an Event Ring at least 16. kind: "cmd", "evt" or "xfer" */
 static inline void xt_ring(XT_FIRST unsigned int id, const char *kind, uint64_t base, uint16_t trbs)
 {
 #if XT_CONTROLLERS > 1

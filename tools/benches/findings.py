@@ -56,7 +56,7 @@ def other_of(run):
         return re.sub(r'step \d+: ', '', run.told[-1]) if run.told else 'the bench ended with status 1'
     if run.driver_status < 0:
         return f'driver killed by {signal_name(-run.driver_status)}'
-    return f'hang: the driver ended with status {run.driver_status}' if run.driver_status > 0 else None
+    return f'the driver ended with status {run.driver_status}' if run.driver_status > 0 else None
 
 
 def finding_of(run):
