@@ -18,7 +18,7 @@ use Rattle.controller_model.specs.declared.controller.Controller.{Controller}
 use Rattle.controller_model.specs.declared.fault.StepFault.TheVariants.{NotPossible}
 use Rattle.controller_model.specs.declared.seen.Seen.{Seen}
 use Rattle.bench.specs.Benches.{with_row}
-use Rattle.world_state.specs.Scenes.{Scene, row_made, row_next, scene_before, scene_reached, step_made, with_coming, with_left, with_world}
+use Rattle.world_state.specs.Scenes.{Scene, row_made, row_next, scene_reached, step_made, with_coming, with_left, with_world}
 
 abbrev pub more : List Row → Scene → Scene
 more rest x = record x { rows = x.rows ++ rest }

@@ -1,5 +1,5 @@
 -- What a bench stands for: the rows that were made, and the controller's steps beside them
-use Rattle.std.specs.Prelude.{◌≡◌, ◌+◌, ◌%◌, ◌^◌, ◌++◌, ℕ, Bool, true, List, [], ◌∷◌, Option, Some, None, length, reverse}
+use Rattle.std.specs.Prelude.{◌≡◌, ◌+◌, ◌%◌, ◌^◌, ℕ, true, List, [], ◌∷◌, Option, Some, None, length, reverse}
 use Rattle.trb.specs.declared.block.Block.{Block}
 use Rattle.trb.specs.Block.{word}
 use Rattle.segments.specs.Places.{address_of}
@@ -8,7 +8,7 @@ use Rattle.traces.specs.declared.header.Header.{Header}
 use Rattle.traces.specs.declared.row.Row.{Row}
 use Rattle.traces.specs.declared.step.Step.{Step}
 use Rattle.traces.specs.declared.step.Step.TheVariants.{NextRow, Look, Report, Finish, Other, Scribble}
-use Rattle.world_state.specs.Scenes.{Scene, scene_reached, step_made}
+use Rattle.world_state.specs.Scenes.{Scene, scene_reached}
 use Rattle.controller_model.specs.Controllers.{IsBeside}
 use Rattle.ring_knowledge.specs.Histories.{header_now, known_now}
 use Rattle.ownership_rules.specs.declared.refusal.Refusal.{Refusal}

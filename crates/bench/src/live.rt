@@ -92,10 +92,10 @@ impl<M: WordMemory + Drop> Live<M> {
             });
         };
         match self.bench.row(&row) {
-            Ok(refusal) => {
-                self.let_go_on(Moment::BehindRow)?;
-                Ok((number, refusal))
-            }
+            Ok(refusal) => match self.let_go_on(Moment::BehindRow) {
+                Ok(()) => Ok((number, refusal)),
+                Err(_) => Err(LiveFault::Memory),
+            },
             Err(BenchFault::NotPossible { refusal }) => Err(LiveFault::NotPossible {
                 row: number,
                 refusal,
@@ -122,7 +122,6 @@ impl<M: WordMemory + Drop> Live<M> {
         requires so_far { IsLive M.words self.old }
         ensures rows { (h : HeaderValue) (past : List RowValue) → IsLiveOf M.words h past self.old → OnOk result (IsLiveOf M.words h past self.new) }
         ensures judging { JudgesNext self.old → OnOk result (JudgesNext self.new) }
-        ensures memory { IfErr result (λ fault. fault ≡ LiveFault.Memory) }
     {
         match go_on(&mut self.bench, &mut self.adversary, moment) {
             Ok(()) => Ok(()),

@@ -1,4 +1,5 @@
-use Rattle.std.proofs.Common.{refl}
+use Rattle.std.proofs.Common.{refl, subst, []}
+use Rattle.ownership_checker.specs.RingPasses.Passing.{IsRingPassed}
 use Rattle.bench.proofs.bench.Bench.new.Goals as goal
 
 pub returns-clause-bench : goal.returns-clause-bench
@@ -6,8 +7,8 @@ returns-clause-bench g c = record {
   reached = refl;
   none_left = refl;
   beside = c.in_ok-controller.ensures _;
-  scheduled = refl;
-  written = refl;
+  scheduled = c.new-4.ensures.items;
+  written = c.new-5.ensures.items;
   counted = refl;
-  judged = λ on. c.in_ok-judge.ensures.passed;
+  judged = λ on. subst (λ h. IsRingPassed g.M.WordMemory.words h [] c.in_ok-judge.judge) c.in_ok-copy.ensures c.in_ok-judge.ensures.passed;
 }
