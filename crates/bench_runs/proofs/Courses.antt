@@ -1,5 +1,7 @@
 -- What is noted of a run as it goes on, and what is told at its end
-use Rattle.std.proofs.Common.{◌≡◌, ◌×◌, ◌∷◌, ℕ, List, [], Option, Some, None, refl, ap, sym, length}
+use Rattle.std.proofs.Common.{◌≡◌, ◌∙◌, ◌∷◌, ℕ, false, List, [], Option, Some, None, Result, Ok, Err, OnOk, refl, ap, subst, sym, length}
+use Rattle.std.proofs.lemmas.Bool.{false≢true}
+use Rattle.std.specs.Prelude.{is_some}
 use Rattle.std.proofs.lemmas.Option.{none-some}
 use Rattle.traces.specs.declared.header.Header.{Header}
 use Rattle.traces.specs.declared.row.Row.{Row}
@@ -8,20 +10,41 @@ use Rattle.world_state.specs.Harms.{harm_of}
 use Rattle.world_state.specs.Scenes.{Scene}
 use Rattle.world_state.specs.declared.harm.Harm.{Harm}
 use Rattle.ownership_rules.specs.declared.refusal.Refusal.{Refusal}
-use Rattle.bench.specs.Benches.{IsRowJudged}
-use Rattle.bench_runs.specs.Runs.{IsEndAt, IsEndSoFar, IsFirstRefused, IsNoted, IsOver, end_of, ended_with, noted_with}
+use Rattle.bench.specs.Benches.{IsBench, IsRowJudged}
+use Rattle.bench.specs.Lives.{JudgesNext}
+use Rattle.bench.specs.declared.live.Live.{Live}
+use Rattle.bench.specs.declared.written.Written.{Written}
+use Rattle.bench_runs.specs.declared.course.Course.{Course}
+use Rattle.bench_runs.specs.Runs.{IsCourse, IsEndAt, IsEndSoFar, IsNoted, IsOver, end_of, ended_with, noted_with}
 use Rattle.bench_runs.specs.declared.end.Ended.{Ended}
-use Rattle.bench_runs.specs.declared.end.Ended.TheVariants.{NotPossible, BadLine}
+use Rattle.bench_runs.specs.declared.end.Ended.TheVariants.{NoHarm, Refused, Harm as HarmAt, NotPossible, BadLine}
 use Rattle.bench_runs.specs.declared.end.RefusedRow.{RefusedRow}
 
 -- where it hadn't ended, it ends where there is harm
-pub so_far : (h : Header) (past : List Row) (steps : List Step) (x : Scene) (harm : Option Harm) → harm ≡ harm_of x.header x.world →
+so_far : (h : Header) (past : List Row) (steps : List Step) (x : Scene) (harm : Option Harm) → harm ≡ harm_of x.header x.world →
     IsEndSoFar (ended_with None harm (length steps)) h past steps x
 so_far h past steps x None same = sym same
 so_far h past steps x (Some k) same = (sym same, refl)
 
-pub going : (before : Option Ended) (harm : Option Harm) (n : ℕ) → before ≡ None → ended_with before harm n ≡ ended_with None harm n
-going before harm n none = ap (λ b. ended_with b harm n) none
+pub course_of : {M : Type 0} (words : M → ℕ → ℕ) (h : Header) (past : List Row) (steps : List Step) (told : List Written) (x : Scene) (course : Course) (live : Live M)
+    (before : Option Ended) (noted : Option RefusedRow) → IsBench words h past steps told x live.bench → before ≡ None →
+    course.ended ≡ ended_with before (harm_of x.header x.world) (length steps) → course.refused ≡ noted → IsNoted h past noted → (noted ≡ None → JudgesNext live) →
+    IsCourse words course live
+course_of words h past steps told x course live before noted is none ended refused so judges = (
+  h,
+  past,
+  steps,
+  told,
+  x,
+  record {
+    bench = is;
+    ends =
+        subst (λ e. IsEndSoFar e h past steps x) (sym (ended ∙ ap (λ b. ended_with b (harm_of x.header x.world) (length steps)) none))
+        (so_far h past steps x (harm_of x.header x.world) refl);
+    noted = λ on. subst (IsNoted h past) (sym refused) so;
+    judges = λ on first. judges (sym refused ∙ first);
+  },
+)
 
 -- behind a row
 pub noted_behind : (h : Header) (past : List Row) (row : Row) (noted : Option RefusedRow) (n : ℕ) (told : Option Refusal) → IsNoted h past noted →
@@ -37,10 +60,16 @@ noted_none None n (Some c) at = absurd (none-some _ (sym at))
 noted_none (Some r) n told at = absurd (none-some _ (sym at))
 
 -- at a line that can't be followed
+pub over_some : (ended : Option Ended) → IsOver ended → ended ≡ None → ⊥
+over_some ended is at = subst IsOver at is
+
 pub over : (h : Header) (past : List Row) (steps : List Step) (x : Scene) (ended : Option Ended) → IsOver ended → harm_of x.header x.world ≡ None → IsEndSoFar ended h past steps x
 over h past steps x None is none = absurd is
+over h past steps x (Some NoHarm) is none = absurd is
+over h past steps x (Some (Refused row)) is none = absurd is
+over h past steps x (Some (HarmAt k n)) is none = absurd is
 over h past steps x (Some (NotPossible n)) is none = none
-over h past steps x (Some (BadLine line fault)) is none = ()
+over h past steps x (Some (BadLine line fault)) is none = tt
 
 -- at the end
 pub told_end : (h : Header) (past : List Row) (steps : List Step) (x : Scene) (ended : Option Ended) (noted : Option RefusedRow) → IsEndSoFar ended h past steps x →
@@ -48,3 +77,17 @@ pub told_end : (h : Header) (past : List Row) (steps : List Step) (x : Scene) (e
 told_end h past steps x (Some ended) noted so is = so
 told_end h past steps x None (Some row) so is = (is refl, so)
 told_end h past steps x None None so is = (is refl, so)
+
+-- ---- answers that may fail
+
+pub not_some : {A : Type 0} (o : Option A) → is_some o ≡ false → o ≡ None
+not_some None at = refl
+not_some (Some a) at = absurd (false≢true (sym at))
+
+pub whenever : {A E P : Type 0} (r : Result A E) → P → OnOk r P
+whenever (Ok a) p = p
+whenever (Err e) p = tt
+
+pub both : {A E P Q R : Type 0} (r : Result A E) → (P → Q → R) → OnOk r P → OnOk r Q → OnOk r R
+both (Ok a) f p q = f p q
+both (Err e) f p q = tt

@@ -1,5 +1,5 @@
 -- What is left of a driver's run on the bench
-use Rattle.std.specs.Prelude.{◌≡◌, ◌++◌, ◌∷◌, ℕ, Empty, Unit, List, Option, Some, None, IfSome, length, reverse}
+use Rattle.std.specs.Prelude.{◌≡◌, ◌++◌, ◌∷◌, ℕ, List, Option, Some, None, IfSome, length, reverse}
 use Rattle.traces.specs.declared.header.Header.{Header}
 use Rattle.traces.specs.declared.row.Row.{Row}
 use Rattle.traces.specs.declared.step.Step.{Step}
@@ -72,7 +72,7 @@ end_of None None = NoHarm
 abbrev pub IsOver : Option Ended → Type 0
 IsOver (Some (NotPossible step)) = Unit {0}
 IsOver (Some (BadLine line fault)) = Unit {0}
-IsOver _ = Empty {0}
+IsOver _ = ⊥
 
 -- as far as the run has come there is no harm, or it ended so
 abbrev pub IsEndSoFar : Option Ended → Header → List Row → List Step → Scene → Type 0

@@ -1,5 +1,5 @@
-ghost use Rattle.std.specs.Prelude.{IfOk};
-ghost use Rattle.bench_runs.specs.Runs.{IsRun};
+ghost use Rattle.std.specs.Prelude.{IfOk, OnOk};
+ghost use Rattle.bench_runs.specs.Runs.{IsCourse, IsRun};
 
 use crate::course::{Course, is_question};
 use crate::end::Ended;
@@ -7,7 +7,7 @@ use crate::header::{HeaderText, read_header};
 use crate::lines::{Lines, say};
 use answers::Status;
 use bench::{Adversary, Live, Profile};
-use guest_memory::SparseMemory;
+use guest_memory::{SparseMemory, WordMemory};
 use std::alloc::Global;
 use std::io::{self, ErrorKind, Read, Write};
 use trace_reader::{Counted, RowReader, StreamFault, print_schedule};
@@ -76,17 +76,31 @@ fn run_behind<R: Read + Drop, O: Write, E: Write>(
     if header.has_row {
         course.hear_row(&mut live, &[], err)?;
     }
+    hear_rest(lines, &mut live, &mut course, out, err)?;
+    Ok(course.into_left(live))
+}
+
+/// Hears the driver until it says no more. Behind the end of a run it is heard until it asks, since it may be writing still.
+fn hear_rest<R: Read + Drop, M: WordMemory + Drop, O: Write, E: Write>(
+    lines: &mut Lines<R>,
+    live: &mut Live<M>,
+    course: &mut Course,
+    out: &mut O,
+    err: &mut E,
+) -> io::Result<()>
+    requires so_far { IsCourse M.words course.old live.old }
+    ensures so_far { OnOk result (IsCourse M.words course.new live.new) }
+{
     for _ in 0..u64::MAX {
         let Some(line) = lines.next_line()? else {
-            break;
+            return Ok(());
         };
-        course.hear(&mut live, &line, out, err)?;
-        // behind its end the driver is heard until it asks: it may be writing still
+        course.hear(live, &line, out, err)?;
         if course.is_over() && is_question(&line) {
-            break;
+            return Ok(());
         }
     }
-    Ok(course.into_left(live))
+    Ok(())
 }
 
 /// Writes what a run ended with where the driver reads it, and to `err` too. A driver that reads no more is no failure.
