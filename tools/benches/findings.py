@@ -59,6 +59,17 @@ def other_of(run):
     return f'the driver ended with status {run.driver_status}' if run.driver_status > 0 else None
 
 
+def hint(finding):
+    """What most likely is the cause of a run that came to no verdict; None of others."""
+    if finding.other == 'timeout':
+        return 'is it built with -DXHCI_BENCH, and does each of its waits come to xb_wait(), and end where that is 0?'
+    if re.fullmatch(r'xhcitrace: line 1: .*', finding.other or ''):
+        return 'its first line is no header: is it built with -DXHCI_BENCH, is xt_open() called, and does it print to standard error alone?'
+    if re.fullmatch(r'xhcitrace: line \d+: .*', finding.other or ''):
+        return 'that line of its standard output is no row: does it print to standard error alone, and does xt_ring() come before the first store?'
+    return None
+
+
 def finding_of(run):
     """What a run has found; None where it was clean."""
     rule = next((found for line in run.told if (found := re.fullmatch(r'row (\d+): (\d+ \w+)', line))), None)
