@@ -314,11 +314,11 @@ fn note_bound(case: &mut Case, bound: Bound) {
     let Some((ring, known)) = ring_having(case, pointer) else {
         mark_context(case, bound);
         case.note(
-            "DCI {}: the Endpoint Context says {}; no `xfer` ring of the header has a TRB there",
+            "DCI {}: the Endpoint Context says {}; no `xfer` ring has a TRB there",
             &says,
         );
         return case.help(
-            "name the TRB where a ring stands, or declare that ring in the header",
+            "name the TRB where a ring stands, or declare that ring before (`ring`; by hooks `xt_ring()`)",
             &[],
         );
     };
@@ -453,7 +453,7 @@ fn note_between(case: &mut Case, ring: &Ring, floor: u64) {
 fn note_nowhere(case: &mut Case, bound: Bound) {
     mark_context(case, bound);
     case.note(
-        "DCI {}: the Endpoint Context says {}; no `xfer` ring of the header begins there",
+        "DCI {}: the Endpoint Context says {}; no `xfer` ring begins there",
         &[Small(bound.endpoint), Dequeue(bound.pointer, bound.cycle)],
     );
     if let Some((ring, known)) = ring_at(case, bound.pointer) {
@@ -466,7 +466,7 @@ fn note_nowhere(case: &mut Case, bound: Bound) {
         }
     }
     case.help(
-        "name the first TRB of a ring, or declare that ring in the header",
+        "name the first TRB of a ring, or declare that ring before (`ring`; by hooks `xt_ring()`)",
         &[],
     );
 }

@@ -207,7 +207,7 @@ pub fn not_declared(case: &mut Case, id: u8) {
     } else if ring_with(case.header.rings.as_slice(), id).is_some() {
         "ring {} is the Event Ring, which takes no TDs"
     } else {
-        "ring {} is not in the header"
+        "ring {} was not declared before"
     };
     case.here(here, &[Id(id)]);
     case.mark(gone, "this row took the ring away", &[]);
