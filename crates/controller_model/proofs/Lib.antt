@@ -35,7 +35,6 @@ pub mod DisabledRings
 pub mod AddedLemmas
 pub mod EffectLemmas
 pub mod TrialLemmas
-pub mod CommandLemmas
 pub mod SuccessLemmas
 pub mod FinishLemmas
 pub mod StepLemmas

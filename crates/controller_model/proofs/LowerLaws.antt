@@ -1,11 +1,13 @@
 -- Words and lemmas, passed on to the files above them
-pub use Rattle.controller_model.proofs.AddedLemmas.{adds_end, adds_next, all_made, first_of, none_left}
+pub use Rattle.controller_model.proofs.AddedLemmas.{all_made, first_of, none_left}
+pub use Rattle.world_state.proofs.AddedEndpoints.{adds_end, adds_next}
 pub use Rattle.controller_model.proofs.BellLemmas.{command_id-none, command_id-some, follows_same, found_by_id}
 pub use Rattle.controller_model.proofs.Borders.{is_border-append, is_border-end, is_border-past}
 pub use Rattle.controller_model.proofs.ChangeLemmas.{Made, made_of, none_of}
-pub use Rattle.controller_model.proofs.CommandLemmas.{command_well}
+pub use Rattle.world_state.proofs.PlacingCommands.{command_well}
 pub use Rattle.controller_model.proofs.EffectLemmas.{gone, one, onward}
-pub use Rattle.controller_model.proofs.EventPlaces.{dequeue_set, position_is}
+pub use Rattle.controller_model.proofs.EventPlaces.{dequeue_set}
+pub use Rattle.world_state.proofs.EventPlaces.{position_is}
 pub use Rattle.world_state.proofs.FirstFound.{first_at-found, first_at-nowhere}
 pub use Rattle.controller_model.proofs.HeldLemmas.{held_four}
 pub use Rattle.controller_model.proofs.HistoryLemmas.{KeepsRest, is_last-none, is_last-some, keeps_nothing, keeps_placed, keeps_took, shows_nothing, shows_placed, shows_took}

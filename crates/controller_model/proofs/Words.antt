@@ -15,7 +15,7 @@ pub use Rattle.contexts.specs.declared.size.ContextSize.{ContextSize}
 pub use Rattle.contexts.specs.declared.size.ContextSize.TheVariants.{Bytes32}
 pub use Rattle.controller_model.specs.Completions.{IsPart, completed}
 pub use Rattle.controller_model.specs.Declarations.{Declares, as_declared, blocks_of, entries, lone_no_op, withdrawn, withdrawn_from}
-pub use Rattle.controller_model.specs.Following.{Follows, FollowsEndpoints, FollowsHolder, FollowsRegisters, FollowsRing, FollowsRings, FollowsSlots, GoesOn, HasRoom, IsChange, IsEndpoint, IsStep, IsWell, KeepsRun, Lists, RingHeld, addressed, bound, freed, is_endpoint, is_holder, is_it, is_other, may_get, named_by, noted, noted_held, places_from, pointed, released, ring_held, taken_held, told, turned_off, under_way_of}
+pub use Rattle.controller_model.specs.Following.{Follows, FollowsEndpoints, FollowsHolder, FollowsRegisters, FollowsRing, FollowsRings, FollowsSlots, GoesOn, IsChange, IsEndpoint, IsStep, KeepsRun, Lists, RingHeld, addressed, bound, freed, is_endpoint, is_holder, is_it, is_other, may_get, named_by, noted, noted_held, pointed, released, ring_held, taken_held, told, turned_off, under_way_of}
 pub use Rattle.controller_model.specs.Held.{Held, changed_at, held, held_block, held_by, held_stored, written_at}
 pub use Rattle.controller_model.specs.Histories.{Keeps, ShowsHarms}
 unfoldable pub use Rattle.controller_model.specs.OnLiterals.{model_on_literals}
@@ -90,6 +90,7 @@ pub use Rattle.trb.specs.Block.{code, endpoint, slot}
 pub use Rattle.trb.specs.Kind.{is_command_completion, is_other_event, is_transfer_event}
 pub use Rattle.trb.specs.declared.kind.BlockKind.{BlockKind}
 pub use Rattle.trb.specs.declared.ring_kind.RingKind.TheVariants.{Cmd}
+pub use Rattle.world_state.specs.PlacingCommands.{HasRoom, IsWell, places_from}
 unfoldable pub use Rattle.world_state.specs.Bindings.{changed_by, changed_by_all, disabled, effect, has_one_of, in_state, inactive, is_had_by_another, placed, placed_on}
 unfoldable pub use Rattle.world_state.specs.DriverRows.{activated, bell_row, declared, endpoint_bell, event_read, register_row, row_done, run_or_stop, started_with, valued, with_dequeue}
 unfoldable pub use Rattle.world_state.specs.Finishes.{ended, ended_with, finished, finished_as, passes_end, succeeded}

@@ -248,25 +248,6 @@ named_by All i = true
 named_by AboveControl i = is_above_control i
 named_by (Dropped flags) i = nat_le 2 i && has_flag flags i
 
--- addresses and indices as a block has them: contexts and pointers on 16-byte boundaries, indices below 32
-abbrev pub IsWell : Command → Type 0
-IsWell (AddressDevice s bsr c) = c % 16 ≡ 0
-IsWell (ConfigureEndpoint s dc c) = c % 16 ≡ 0
-IsWell (ResetEndpoint s i) = i < 32
-IsWell (StopEndpoint s i) = i < 32
-IsWell (SetTrDequeue s i p c) = (i < 32) × (p % 16 ≡ 0)
-IsWell _ = Unit {0}
-
--- the input context that is read ends at or below 2^64
-abbrev pub HasRoom : ContextSize → Command → Type 0
-HasRoom size (AddressDevice s bsr c) = c + input_context_bytes size ≤ 2 ^ 64
-HasRoom size (ConfigureEndpoint s false c) = c + input_context_bytes size ≤ 2 ^ 64
-HasRoom size _ = Unit {0}
-
--- the endpoints from index i on get the rings that the input context at c adds
-abbrev pub places_from : ContextSize → (ℕ → ℕ) → ℕ → ℕ → ℕ → List Change
-places_from size memory s c i = map (placed_by_context size memory s c) (filter (input_add_flag memory c) (range_with_len i (32 - i)))
-
 -- some world of which both hold
 pub record GoesOn (P Q : World → Type 0) : Type 0 where
   pub world : World

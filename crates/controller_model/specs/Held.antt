@@ -1,18 +1,17 @@
 -- Memory with the steps in which its words were last changed and written, as the world has it
-use Rattle.std.specs.Prelude.{ℕ, ◌+◌, ◌==◌, if◌then◌else◌, unwrap_or}
-use Rattle.std.specs.Ordering.{nat_cmp}
-use Rattle.std.specs.BTreeMap.{get}
+use Rattle.std.specs.Prelude.{ℕ, ◌+◌, ◌==◌, if◌then◌else◌}
 use Rattle.guest_memory.specs.Memory.{put}
+use Rattle.guest_memory.specs.Page.{word_in}
 use Rattle.trb.specs.declared.block.Block.{Block}
 use Rattle.trb.specs.Block.{word}
 use Rattle.world_state.specs.World.{World}
 use Rattle.controller_model.specs.declared.stamps.Stamps.{Stamps}
 
 abbrev pub changed_at : Stamps → ℕ → ℕ
-changed_at s a = unwrap_or (get nat_cmp s.changed a) 0
+changed_at s a = word_in s.changed a
 
 abbrev pub written_at : Stamps → ℕ → ℕ
-written_at s a = unwrap_or (get nat_cmp s.written a) 0
+written_at s a = word_in s.written a
 
 pub record Held : Type 0 where
   pub memory : ℕ → ℕ

@@ -8,7 +8,8 @@ ghost use Rattle.traces.specs.declared.header.Header.{Header as HeaderValue};
 ghost use Rattle.traces.specs.Header.{ring_having};
 ghost use Rattle.world_state.specs.World.{World};
 ghost use Rattle.world_state.specs.Bindings.{changed_by_all, in_state, inactive, placed_on};
-ghost use Rattle.controller_model.specs.Following.{Follows, GoesOn, HasRoom, IsWell, KeepsRun, Lists, places_from};
+ghost use Rattle.controller_model.specs.Following.{Follows, GoesOn, KeepsRun, Lists};
+ghost use Rattle.world_state.specs.PlacingCommands.{HasRoom, IsWell, places_from};
 
 use crate::bindings::place;
 use crate::disabling::{Named, disable};
@@ -71,7 +72,7 @@ fn place_by_context<M: WordMemory>(
 }
 
 /// An endpoint gets its ring, where the input context adds it.
-#[tactic(auto, using(crate::proofs::AddedLemmas::adds_later))]
+#[tactic(auto, using(world_state::proofs::AddedEndpoints::adds_later))]
 fn place_added<M: WordMemory>(
     header: &Header,
     memory: &M,

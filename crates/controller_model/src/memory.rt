@@ -21,7 +21,7 @@ pub(crate) fn store<M: WordMemory>(
 {
     let is_changed = memory.word(at) != word;
     memory.set(at, word)?;
-    stamps.note(at.get(), is_changed, step)?;
+    stamps.note(at, is_changed, step)?;
     Ok(is_changed)
 }
 

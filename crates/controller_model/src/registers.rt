@@ -122,7 +122,7 @@ fn next_at(size: u64, place: u64, from: u64) -> Option<u64>
 }
 
 /// The event position that ERDP names is the next one at an address, where that is an event place (xHCI 5.5.2.3.3).
-#[tactic(auto, using(crate::proofs::EventPlaces::dequeue_kept, crate::proofs::EventPlaces::no_ring_place, crate::proofs::EventPlaces::no_place), unfolding(traces::specs::Header::event_shape))]
+#[tactic(auto, using(crate::proofs::EventPlaces::dequeue_kept, crate::proofs::EventPlaces::no_ring_place, world_state::proofs::EventPlaces::no_place), unfolding(traces::specs::Header::event_shape))]
 fn set_dequeue(header: &Header, kept: &mut Kept, address: u64) -> Result<(), AllocError>
     requires { address % 16 ≡ 0 }
     ensures { OnOk result ((words : ℕ → ℕ) (w : World) → Follows header.now words kept.old w →

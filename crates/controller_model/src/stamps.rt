@@ -1,27 +1,26 @@
-ghost use Rattle.std.specs.Prelude.{◌≡◌, ℕ, ◌≤◌, ◌^◌, Some, None, unwrap_or};
-ghost use Rattle.std.specs.BTreeMap.{get};
-ghost use Rattle.std.specs.Ordering.{nat_cmp};
+ghost use Rattle.std.specs.Prelude.{◌≡◌, ℕ, ◌≤◌, ◌^◌, Some};
+ghost use Rattle.guest_memory.specs.Page.{word_in};
 ghost use Rattle.controller_model.specs.Watches.{is_changed_behind};
 ghost use Rattle.controller_model.specs.declared.watches.Watch.{Watch};
 
 use crate::watches::Watch;
+use guest_memory::{Addr, SparseMemory, WordMemory};
 use std::alloc::{AllocError, Global};
-use std::collections::BTreeMap;
 
-/// For each word of memory the numbers of the steps in which it was last changed, and last written; 0 where it never was.
+/// For each word of memory the numbers of the steps in which it was last changed, and last written; 0 where it never was. They are kept as
+/// memory is, a step in the place of a word; so there is room for 2^32 steps.
 #[derive(Drop)]
 pub struct Stamps {
-    changed: BTreeMap<u64, u64>,
-    written: BTreeMap<u64, u64>,
+    changed: SparseMemory,
+    written: SparseMemory,
     /// No word was changed in a later step.
     last: u64,
     /// Words whose changes are followed write by write, so that they need not be gone through.
     watch: Option<Watch>,
-    ghost changed_below: { (a : ℕ) → 2 ^ 64 ≤ a → get nat_cmp changed a ≡ None },
-    ghost written_below: { (a : ℕ) → 2 ^ 64 ≤ a → get nat_cmp written a ≡ None },
-    ghost latest: { (a : ℕ) → unwrap_or (get nat_cmp changed a) 0 ≤ last },
-    ghost watched: { (w : Watch) → watch ≡ Some w →
-        w.is_changed ≡ is_changed_behind (λ a. unwrap_or (get nat_cmp changed a) 0) (λ a. unwrap_or (get nat_cmp written a) 0) w.block w.first w.words },
+    ghost changed_below: { (a : ℕ) → 2 ^ 64 ≤ a → word_in changed a ≡ 0 },
+    ghost written_below: { (a : ℕ) → 2 ^ 64 ≤ a → word_in written a ≡ 0 },
+    ghost latest: { (a : ℕ) → word_in changed a ≤ last },
+    ghost watched: { (w : Watch) → watch ≡ Some w → w.is_changed ≡ is_changed_behind (word_in changed) (word_in written) w.block w.first w.words },
 }
 
 impl Stamps {
@@ -36,8 +35,8 @@ impl Stamps {
         ensures written { (a : ℕ) → written_at result a ≡ 0 }
     {
         Stamps {
-            changed: BTreeMap::new(alloc),
-            written: BTreeMap::new(alloc),
+            changed: SparseMemory::new(alloc),
+            written: SparseMemory::new(alloc),
             last: 0,
             watch: None,
         }
@@ -47,14 +46,14 @@ impl Stamps {
     pub(crate) fn changed(&self, at: u64) -> u64
         ensures { result ≡ changed_at self.now at }
     {
-        self.changed.get(&at).copied().unwrap_or(0)
+        stamp_at(&self.changed, at)
     }
 
     /// The step in which the word at an address was last written.
     pub(crate) fn written(&self, at: u64) -> u64
         ensures { result ≡ written_at self.now at }
     {
-        self.written.get(&at).copied().unwrap_or(0)
+        stamp_at(&self.written, at)
     }
 
     /// The step in which the word so many bytes behind an address was last changed; no word lies beyond the last address.
@@ -131,33 +130,44 @@ impl Stamps {
     }
 
     /// Puts a step to a word that is written in it, and maybe changed; no words are watched from then on.
-    fn put(&mut self, at: u64, is_changed: bool, step: u64) -> Result<(), AllocError>
+    fn put(&mut self, at: Addr, is_changed: bool, step: u64) -> Result<(), AllocError>
         ensures changed { OnOk result ((a : ℕ) → changed_at self.new a ≡ (if is_changed then put (changed_at self.old) at step a else changed_at self.old a)) }
         ensures written { OnOk result ((a : ℕ) → written_at self.new a ≡ put (written_at self.old) at step a) }
     {
         self.watch = None;
+        let stamp = u32::try_from(step).map_err(|_| AllocError)?;
         if is_changed {
             self.last = self.last.max(step);
-            self.changed.insert(at, step)?;
+            self.changed.set(at, stamp)?;
         }
-        self.written.insert(at, step)?;
+        self.written.set(at, stamp)?;
         Ok(())
     }
 
     /// Notes that a word is written in this step, and whether it is changed.
-    pub(crate) fn note(&mut self, at: u64, is_changed: bool, step: u64) -> Result<(), AllocError>
+    pub(crate) fn note(&mut self, at: Addr, is_changed: bool, step: u64) -> Result<(), AllocError>
         ensures changed { OnOk result ((a : ℕ) → changed_at self.new a ≡ (if is_changed then put (changed_at self.old) at step a else changed_at self.old a)) }
         ensures written { OnOk result ((a : ℕ) → written_at self.new a ≡ put (written_at self.old) at step a) }
     {
         let watched = self.watch;
         self.put(at, is_changed, step)?;
         if let Some(watch) = watched {
-            if watch.may_be_touched(at, is_changed) {
+            if watch.may_be_touched(at.get(), is_changed) {
                 self.watch(watch.block, watch.first, watch.words);
             } else {
                 self.watch = watched;
             }
         }
         Ok(())
+    }
+}
+
+/// The step that is kept of the word at an address; no word begins between multiples of 4.
+fn stamp_at(steps: &SparseMemory, at: u64) -> u64
+    ensures { result ≡ word_in steps.now at }
+{
+    match Addr::new(at) {
+        None => 0,
+        Some(at) => u64::from(steps.word(at)),
     }
 }

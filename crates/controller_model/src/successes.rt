@@ -10,7 +10,8 @@ ghost use Rattle.traces.specs.Register.{register_or_zero};
 ghost use Rattle.world_state.specs.World.{World};
 ghost use Rattle.world_state.specs.Bindings.{changed_by_all};
 ghost use Rattle.world_state.specs.Finishes.{passes_end, succeeded};
-ghost use Rattle.controller_model.specs.Following.{Follows, HasRoom, IsWell, may_get};
+ghost use Rattle.controller_model.specs.Following.{Follows, may_get};
+ghost use Rattle.world_state.specs.PlacingCommands.{HasRoom, IsWell};
 
 use crate::bindings::can_place;
 use crate::endpoints::endpoint_of;

@@ -8,7 +8,8 @@ ghost use Rattle.traces.specs.Header.{is_ring};
 ghost use Rattle.world_state.specs.World.{World};
 ghost use Rattle.world_state.specs.Bindings.{changed_by_all, is_had_by_another};
 ghost use Rattle.controller_model.specs.Trials.{GoesOnAs, Sees, has_own, is_elsewhere, own_ring};
-ghost use Rattle.controller_model.specs.Following.{Follows, HasRoom, named_by, places_from};
+ghost use Rattle.controller_model.specs.Following.{Follows, named_by};
+ghost use Rattle.world_state.specs.PlacingCommands.{HasRoom, places_from};
 
 use crate::bindings::ring_having;
 use crate::disabling::{Named, is_named};
@@ -79,7 +80,7 @@ fn is_held(kept: &Kept, rings: &[Option<u8>], slot: u8, index: u8, ring: u8) -> 
 }
 
 /// An endpoint would get its ring, where the input context adds it; whether it can.
-#[tactic(auto, using(crate::proofs::AddedLemmas::adds_later, crate::proofs::AddedLemmas::adds_next), unfolding(world_state::specs::Bindings::changed_by, world_state::specs::Bindings::changed_by_all, world_state::specs::Bindings::placed_on))]
+#[tactic(auto, using(world_state::proofs::AddedEndpoints::adds_later, world_state::proofs::AddedEndpoints::adds_next), unfolding(world_state::specs::Bindings::changed_by, world_state::specs::Bindings::changed_by_all, world_state::specs::Bindings::placed_on))]
 fn try_added<M: WordMemory>(
     header: &Header,
     memory: &M,

@@ -1,7 +1,12 @@
 -- The words of std, of the crates below and of this crate's own definitions that its proofs cite, passed on by one file
 pub use Rattle.contexts.proofs.BitsOfWords.{above_control, flag_is, unchanged}
-pub use Rattle.controller_model.proofs.EventPlaces.{is_place, no_place}
-pub use Rattle.controller_model.proofs.Words.{Err, IfSome, Ok, Result, common_steps, length-remove, length-set, place_at-Data, remove, set, take}
+pub use Rattle.event_ring.proofs.Words.{place_at-Data}
+pub use Rattle.std.proofs.Common.{Err, IfSome, Ok, Result, set, take}
+pub use Rattle.std.proofs.Math.ListN.{length-set}
+pub use Rattle.std.proofs.lemmas.Grind.{common_steps}
+pub use Rattle.std.proofs.lemmas.List.Edits.{length-remove}
+pub use Rattle.std.specs.List.{remove}
+pub use Rattle.world_state.proofs.EventPlaces.{is_place, no_place}
 pub use Rattle.driver_rows.specs.ContextRules.Contents.{IsAligned, has_bad_content_by, is_left_out_by}
 unfoldable pub use Rattle.driver_rows.specs.ContextRules.Contents.{adds_bad, adds_left_out, is_bad_added_in, is_left_out_in, lacks_control}
 pub use Rattle.driver_rows.specs.ContextRules.Entries.{touches_event_segment, touches_segment}

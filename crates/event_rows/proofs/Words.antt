@@ -1,9 +1,11 @@
 -- The words of std, of the crates below and of this crate's own definitions that its proofs cite, passed on by one file
 pub use Rattle.commands.specs.Command.{IsSaid}
 pub use Rattle.contexts.specs.View.{View}
-pub use Rattle.controller_model.proofs.AddedLemmas.{adds_end, adds_next}
-pub use Rattle.controller_model.proofs.CommandLemmas.{command_well}
-pub use Rattle.controller_model.proofs.Words.{HasRoom, IfSome, IsWell, length-set, places_from}
+pub use Rattle.std.proofs.Common.{IfSome}
+pub use Rattle.std.proofs.Math.ListN.{length-set}
+pub use Rattle.world_state.proofs.AddedEndpoints.{adds_end, adds_next}
+pub use Rattle.world_state.proofs.PlacingCommands.{command_well}
+pub use Rattle.world_state.specs.PlacingCommands.{HasRoom, IsWell, places_from}
 pub use Rattle.driver_rows.proofs.ContextRules.FittingCommands.{aligned_at, good_fits}
 pub use Rattle.driver_rows.proofs.DoorbellRows.Followed.{AreOffAs, IsBeside, IsOnly, followed, has_record, none_found, put_on}
 pub use Rattle.driver_rows.specs.DoorbellRows.Numbers.{number_of}

@@ -6,6 +6,7 @@ pub mod DriverRows
 pub mod Looks
 pub mod Posts
 pub mod Bindings
+pub mod PlacingCommands
 pub mod Finishes
 pub mod Steps
 pub mod RingRows

@@ -8,7 +8,7 @@ use Rattle.commands.specs.declared.command.Command.{Command}
 use Rattle.commands.specs.Changes.{Change, SlotGoesOn, Disables, placed_by_context}
 use Rattle.contexts.specs.declared.size.ContextSize.{ContextSize}
 use Rattle.contexts.specs.Contexts.{is_dropped}
-use Rattle.controller_model.specs.Following.{places_from}
+use Rattle.world_state.specs.PlacingCommands.{places_from}
 use Rattle.traces.specs.declared.header.Header.{Header}
 use Rattle.traces.specs.Header.{shape_of, command_id}
 use Rattle.ring_knowledge.specs.declared.ring_record.RingRecord.{RingRecord}

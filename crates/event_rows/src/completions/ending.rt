@@ -9,7 +9,7 @@ ghost use Rattle.commands.specs.Changes.{changes};
 ghost use Rattle.commands.specs.Command.{named_context};
 ghost use Rattle.traces.specs.declared.header.Header.{Header as HeaderValue};
 ghost use Rattle.traces.specs.Header.{IsHeader, command_id, command_ring, shape_of};
-ghost use Rattle.controller_model.specs.Following.{HasRoom, IsWell};
+ghost use Rattle.world_state.specs.PlacingCommands.{HasRoom, IsWell};
 ghost use Rattle.ring_knowledge.specs.Completions.{completed, finished, stop_ended};
 ghost use Rattle.ring_knowledge.specs.Known.{Known};
 ghost use Rattle.ring_knowledge.specs.Rings.{command_at, next_command, on_ring};

@@ -5,7 +5,7 @@ ghost use Rattle.commands.specs.declared.command.Command.{Command as CommandValu
 ghost use Rattle.commands.specs.Changes.{DeviceLeft, Disables, SlotGoesOn, Stops, changes, is_above_control};
 ghost use Rattle.traces.specs.declared.header.Header.{Header as HeaderValue};
 ghost use Rattle.traces.specs.Header.{IsHeader};
-ghost use Rattle.controller_model.specs.Following.{HasRoom, IsWell};
+ghost use Rattle.world_state.specs.PlacingCommands.{HasRoom, IsWell};
 ghost use Rattle.ring_knowledge.specs.Completions.{changed_by, changed_by_all, succeeded};
 ghost use Rattle.ring_knowledge.specs.Known.{Known};
 ghost use Rattle.trace_record.specs.RingFinder.Finding.{IsFinder};

@@ -5,7 +5,7 @@ use Rattle.contexts.specs.Contexts.{context_pointer, input_add_flag}
 use Rattle.commands.specs.declared.command.Command.{Command}
 use Rattle.traces.specs.declared.header.Header.{Header}
 use Rattle.traces.specs.Header.{ring_having}
-use Rattle.controller_model.specs.Following.{HasRoom}
+use Rattle.world_state.specs.PlacingCommands.{HasRoom}
 use Rattle.ring_knowledge.specs.Known.{Known}
 use Rattle.safety.specs.Placings.{StillHolds}
 use Rattle.safety.specs.RingsKeep.{RingsKeep}

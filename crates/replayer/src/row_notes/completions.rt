@@ -4,7 +4,7 @@ ghost use Rattle.trb.specs.Block.{code, slot};
 ghost use Rattle.traces.specs.declared.header.Header.{Header as HeaderValue};
 ghost use Rattle.traces.specs.Header.{IsHeader, command_id, command_ring};
 ghost use Rattle.traces.specs.declared.step.Step.TheVariants.{Finish};
-ghost use Rattle.controller_model.specs.Following.{IsWell};
+ghost use Rattle.world_state.specs.PlacingCommands.{IsWell};
 ghost use Rattle.ring_knowledge.specs.Known.{Known};
 ghost use Rattle.ring_knowledge.specs.Rings.{command_at, next_command};
 ghost use Rattle.trace_record.specs.RingFinder.Finding.{IsFinder};

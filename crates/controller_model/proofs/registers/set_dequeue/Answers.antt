@@ -1,5 +1,5 @@
 use Rattle.controller_model.proofs.Laws.{◌≡◌, ◌∙◌, ◌+◌, ◌-◌, ◌%◌, Some, ap, sym, place_count, Evt, event_shape, shape_or, is_event_place, position_from, with_dequeue, follows_along, position_is, dequeue_set}
-use Rattle.controller_model.proofs.EventPlaces.{is_place}
+use Rattle.world_state.proofs.EventPlaces.{is_place}
 use Rattle.controller_model.proofs.registers.set_dequeue.Goals as goal
 
 pub returns : goal.returns

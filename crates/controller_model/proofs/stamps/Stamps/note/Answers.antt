@@ -5,7 +5,7 @@ pub invariant_of-self-clause-watched : goal.invariant_of-self-clause-watched
 invariant_of-self-clause-watched c = λ w e.
     let old = c.in-Some.watch in
     rw (same_Some old w e) at
-    (c.args.self.now.watched old c.in-Some.is ∙ still_watched old.block old.first old.words c.args.at c.args.is_changed (sym c.may_be_touched.ensures ∙ c.if-may_be_touched.false)
+    (c.args.self.now.watched old c.in-Some.is ∙ still_watched old.block old.first old.words c.args.at c.args.is_changed (rw c.get.ensures.same at (sym c.may_be_touched.ensures ∙ c.if-may_be_touched.false))
     (changed_at c.args.self.now) (written_at c.args.self.now) (changed_at c.put.new.self) (written_at c.put.new.self) c.args.step c.in_ok-put.ensures.changed c.in_ok-put.ensures.written)
 
 pub returns-then-may_be_touched-clause-changed : goal.returns-then-may_be_touched-clause-changed

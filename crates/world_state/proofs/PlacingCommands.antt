@@ -1,5 +1,10 @@
 -- A command that a block says is well: its addresses are on 16-byte boundaries, its indices below 32
-use Rattle.controller_model.proofs.Words.{rules, ◌≡◌, Some, None, subst, arith, Block, BlockKind, Command, command_by_kind, command_of, IsWell}
+use Rattle.commands.specs.Command.{command_by_kind, command_of}
+use Rattle.commands.specs.declared.command.Command.{Command}
+use Rattle.segments.proofs.Words.{Block}
+use Rattle.std.proofs.Common.{rules, ◌≡◌, Some, None, subst, arith}
+use Rattle.trb.specs.declared.kind.BlockKind.{BlockKind}
+use Rattle.world_state.specs.PlacingCommands.{IsWell}
 
 well : (d c : Command) → Some d ≡ Some c → IsWell d → IsWell c
 well d c e is = subst IsWell (cc) is
