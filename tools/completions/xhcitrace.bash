@@ -8,7 +8,7 @@ _xhcitrace() {
     return
   fi
   case $command in
-    check) options='--cert --show --search --format --unjudged --summary --explain --color --help -h' ;;
+    check) options='--cert --show --search --follow --format --unjudged --summary --explain --color --help -h' ;;
     verify | replay | show) options='--format --explain --color --help -h' ;;
     schedule | write) options='--explain --color --help -h' ;;
     bench) options='--seed --policy --errors --steps --out --help -h' ;;

@@ -23,6 +23,7 @@ complete -c xhcitrace -n '__fish_seen_subcommand_from check' -l format -x -a 'te
 complete -c xhcitrace -n '__fish_seen_subcommand_from check' -l cert -r -F -d 'writes the certificate of an accepted trace'
 complete -c xhcitrace -n '__fish_seen_subcommand_from check' -l show -d 'prints a schedule that does harm'
 complete -c xhcitrace -n '__fish_seen_subcommand_from check' -l search -d 'tries more schedules for --show'
+complete -c xhcitrace -n '__fish_seen_subcommand_from check' -l follow -d 'tells the first row that breaks a rule at once'
 complete -c xhcitrace -n '__fish_seen_subcommand_from check' -l unjudged -x -d 'the status of a row that is not judged'
 complete -c xhcitrace -n '__fish_seen_subcommand_from check' -l summary -d 'prints last how many traces had which answer'
 

@@ -39,6 +39,10 @@ With --show a schedule stands behind `row R: C Name`: a run of a controller that
 last step, as `replay` tells; or `no harmful schedule found`, which doesn't say that there is none. With --search beside it more
 are tried: ring by ring, runs in which the controller is late on this ring.
 
+With --follow a trace is judged as it comes, a log or a pipe that is still written to: the first row that breaks a rule is told at
+once, and nothing is read behind it. Without it the lines behind that row are read too, and a bad one is told in its place. At the
+end of input an accepted trace is told as without. There is no --cert and no --show beside it.
+
 Of several traces each is checked, in order, and `FILE: ` stands before each answer; the status is that of the worst one. There is
 no certificate of several traces, and no --show.
 
@@ -53,7 +57,8 @@ Examples:
   xhcitrace check --explain examples/written_to_owned.xtrace
   xhcitrace check --show examples/write_after_the_doorbell.xtrace
   xhcitrace check --cert leases examples/two_descriptors.xtrace
-  xhcitrace check --summary --unjudged 0 traces/*.xtrace";
+  xhcitrace check --summary --unjudged 0 traces/*.xtrace
+  tail -n +1 -f driver.xtrace | xhcitrace check --follow -";
 
 const WRITE: &str = "\
 Prints the trace, status 0, or the first line that can't be followed as `line L: C Name`, status 1; on standard error the
@@ -156,6 +161,7 @@ fn check<'a>(alloc: Global) -> Result<Command<'a>, AllocError> {
         .arg(certificate(alloc))?
         .arg(shown(alloc))?
         .arg(searched(alloc)?)?
+        .arg(followed(alloc))?
         .arg(report_format(alloc)?)?
         .arg(unjudged(alloc))?
         .arg(summary(alloc))?
@@ -334,6 +340,13 @@ pub fn over_the_trace(alloc: Global) -> Result<Error, AllocError> {
     )
 }
 
+/// What is told where several traces are to be judged as they come, or a certificate or a schedule of such a trace is asked for.
+pub fn one_followed(alloc: Global) -> Result<Error, AllocError> {
+    let words =
+        "--follow judges one trace as it comes: several traces, --cert and --show don't go with it";
+    command(alloc)?.error(ErrorKind::ArgumentConflict, words)
+}
+
 fn file<'a>(alloc: Global, name: &'a str, help: &'a str) -> Arg<'a> {
     Arg::new(alloc, name).help(help)
 }
@@ -403,6 +416,16 @@ fn searched<'a>(alloc: Global) -> Result<Arg<'a>, AllocError> {
         .action(ArgAction::SetTrue)
         .help("Tries more schedules for --show: in each of them the controller is late on one ring")
         .requires_arg("show")
+}
+
+/// Whether a trace is judged as it comes.
+fn followed<'a>(alloc: Global) -> Arg<'a> {
+    Arg::new(alloc, "follow")
+        .long("follow")
+        .action(ArgAction::SetTrue)
+        .help(
+            "Tells the first row that breaks a rule as soon as its line comes, and reads no further",
+        )
 }
 
 /// With which status a row ends that isn't judged.

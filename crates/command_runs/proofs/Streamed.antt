@@ -1,5 +1,5 @@
 -- That what is right of the text that a device gave, with what it still holds, is right of the input, of which nothing may be known
-use Rattle.command_runs.proofs.Words.{arith, Accepted, Answer, Bool, Err, FoundHarm, IfBadLineIn, IfErr, IfOk, IfRefusedIn, IsBadLine, IsCheckAnswer, IsFirstBad, IsHarmFound, IsHindered, IsKept, IsKeptInPart, IsSound, IsVerdictAlone, IsVerdictBeside, IsVerified, Lease, LineFault, List, OfStream, OfTrace, Ok, Option, Result, Some, StreamCheckFault, StreamFault, TraceText, Unread, Verified, answer_of_check_fault, answer_of_stream_fault, false, inl, inr, is_some, known_text, length, not, refl, trace_verdict, trace_of, true, ℕ, ◌≡◌, Line, NoDevice, NoMemory, IfBadLine, RefusedRow, IsTextOf, IsTraceAnswer, IsUnread}
+use Rattle.command_runs.proofs.Words.{arith, IsFollowAnswer, IsToldBad, IsToldOfBytes, IsToldSoFar, ToldSoFar, ap, told_as_it_comes, None, ◌∙◌, Accepted, Answer, Bool, Err, FoundHarm, IfBadLineIn, IfErr, IfOk, IfRefusedIn, IsBadLine, IsCheckAnswer, IsFirstBad, IsHarmFound, IsHindered, IsKept, IsKeptInPart, IsSound, IsVerdictAlone, IsVerdictBeside, IsVerified, Lease, LineFault, List, OfStream, OfTrace, Ok, Option, Result, Some, StreamCheckFault, StreamFault, TraceText, Unread, Verified, answer_of_check_fault, answer_of_stream_fault, false, inl, inr, is_some, known_text, length, not, refl, trace_verdict, trace_of, true, ℕ, ◌≡◌, Line, NoDevice, NoMemory, IfBadLine, RefusedRow, IsTextOf, IsTraceAnswer, IsUnread}
 
 text_known : (keeps : Bool) (known known' : Option (List ℕ)) (trace : TraceText) → OfStream known known' (λ text. trace_of keeps text ≡ Ok trace) → IsTextOf keeps known trace
 text_known keeps given2 known' trace read = grind (arith, known_text, trace_of)
@@ -29,6 +29,24 @@ unaccepted_right keeps known known' (Unread fault) refused bad = inl (unread_rig
 pub alone_right : {C : Type 0} (keeps : Bool) (contents : C → Option (List ℕ)) (before : Option C) (known : Option (List ℕ)) (a : Answer) → is_some before ≡ not true → IsTraceAnswer keeps IsVerdictAlone known a →
     IsCheckAnswer keeps false contents before before known a
 alone_right keeps contents given3 known a none right = grind arith
+
+-- ---- where a trace is judged as it comes
+
+told_known : (known known' : Option (List ℕ)) (told : ToldSoFar) → IsToldSoFar false known known' told → IsToldOfBytes known told
+told_known None known' told so = tt
+told_known (Some bytes) None told (came, used, all) = absurd used
+told_known (Some bytes) (Some left) told (came, used, all) = ap (told_as_it_comes false) used ∙ all left
+
+bad_told_known : (known known' : Option (List ℕ)) (line : ℕ) (fault : LineFault) → IsToldBad false known known' line fault → IsToldOfBytes known (Err (line, fault))
+bad_told_known None known' line fault so = tt
+bad_told_known (Some bytes) known' line fault so = known_text bytes known' (λ text. told_as_it_comes false text ≡ Err (line, fault)) so
+
+pub followed_right : (known known' : Option (List ℕ)) (fault : StreamCheckFault) → IfRefusedIn fault (λ row c. IsToldSoFar false known known' (Ok (Some (row, c)))) →
+    IfBadLineIn fault (IsBadLine false known known') → IfBadLineIn fault (IsToldBad false known known') → IsFollowAnswer known (answer_of_check_fault fault)
+followed_right known known' (RefusedRow row c) refused bad before = told_known known known' (Ok (Some (row, c))) refused
+followed_right known known' (Unread (Line line fault)) refused bad before = (bad_known false known known' line fault bad, bad_told_known known known' line fault before)
+followed_right known known' (Unread NoDevice) refused bad before = tt
+followed_right known known' (Unread NoMemory) refused bad before = tt
 
 -- ---- where one is asked for
 

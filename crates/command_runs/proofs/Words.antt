@@ -12,6 +12,7 @@ pub use Rattle.certificate.specs.Spelling.{certificate_of, spelling}
 pub use Rattle.certificate.specs.declared.fault.CertFault.{CertFault}
 pub use Rattle.certificate.specs.declared.fault.CertFault.TheVariants.{Memory as NoLeaseMemory}
 pub use Rattle.command_runs.specs.CheckAnswers.{IsCheckAnswer, IsHindered, IsVerdictAlone, answer_of_check_fault}
+pub use Rattle.command_runs.specs.FollowAnswers.{IsFollowAnswer, IsToldOfBytes}
 pub use Rattle.command_runs.specs.HarmAnswers.{IsHarmFound}
 pub use Rattle.command_runs.specs.PlanAnswers.{IsPlanAnswer}
 pub use Rattle.command_runs.specs.ReplayAnswers.{IsReplayBeside, IsReplayed}
@@ -21,6 +22,7 @@ pub use Rattle.command_runs.specs.TraceTexts.{IsFirstBad, IsTextOf, IsTraceAnswe
 pub use Rattle.command_runs.specs.VerifyAnswers.{IsCertificateOf, IsUncertified, IsVerdictBeside, IsVerified}
 pub use Rattle.command_runs.specs.VersionNotes.{in_version_three, is_behind}
 unfoldable pub use Rattle.command_runs.specs.VersionNotes.{breaks_no_rule_of_three}
+pub use Rattle.ownership_checker.specs.Following.{IsToldBad, IsToldSoFar, ToldSoFar, told_as_it_comes}
 pub use Rattle.ownership_checker.specs.RingPasses.Accepted.{IsSound}
 pub use Rattle.ownership_checker.specs.RingPasses.Reading.{OfTrace}
 pub use Rattle.ownership_checker.specs.Streams.{IfBadLineIn, IfRefusedIn}

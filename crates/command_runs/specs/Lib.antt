@@ -1,4 +1,5 @@
 pub mod CheckAnswers
+pub mod FollowAnswers
 pub mod HarmAnswers
 pub mod Outcomes
 pub mod PlanAnswers

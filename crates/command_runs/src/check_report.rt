@@ -5,6 +5,7 @@ use crate::found::{About, Found, found_failed, told_as_read};
 use crate::harm_run::check_answer;
 use crate::reading::bytes_of;
 use crate::recorded::Recorded;
+use crate::stream_answers::followed_answer;
 use crate::told::told_on_trace;
 use replayer::Search;
 use std::alloc::Global;
@@ -24,6 +25,22 @@ pub fn checked<R: Read + Seek + Drop, C: Write>(
             None => checked_as_read(alloc, input, certificate),
         },
         Err(error) => found_failed(alloc, About::Trace, error),
+    }
+}
+
+/// Judges the trace that an input holds as its lines come: nothing is read behind the first row that breaks a rule.
+pub fn checked_as_it_comes<R: Read + Seek + Drop>(alloc: Global, input: io::Result<R>) -> Found {
+    let input = match input {
+        Ok(input) => input,
+        Err(error) => return found_failed(alloc, About::Trace, error),
+    };
+    let mut source = Recorded::new(alloc, input, true);
+    let answer = followed_answer(alloc, &mut source);
+    let told = told_as_read(alloc, &[], source, &answer);
+    Found {
+        answer,
+        about: About::Trace,
+        told,
     }
 }
 

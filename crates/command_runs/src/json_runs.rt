@@ -1,5 +1,6 @@
 //! Runs whose answer is a JSON object on a line, which other programs read.
-use crate::check_report::checked;
+use crate::check_report::{checked, checked_as_it_comes};
+use crate::found::Found;
 use crate::outcome::Outcome;
 use crate::replay_report::replayed;
 use crate::reported::{check_report, page_report, replay_report, show_report, verify_report};
@@ -24,6 +25,26 @@ pub fn report_check<R: Read + Seek + Drop, C: Write, O: Write>(
     out: &mut O,
 ) -> io::Result<Outcome> {
     let found = checked(alloc, shows, input, certificate);
+    write_check(alloc, name, found, out)
+}
+
+/// Checks the trace that `input` holds as its lines come, which is called `name`, and writes a JSON object. An error is that `out` failed.
+pub fn report_follow<R: Read + Seek + Drop, O: Write>(
+    alloc: Global,
+    name: &str,
+    input: io::Result<R>,
+    out: &mut O,
+) -> io::Result<Outcome> {
+    write_check(alloc, name, checked_as_it_comes(alloc, input), out)
+}
+
+/// Writes the JSON object of a check, and says how it ends.
+fn write_check<O: Write>(
+    alloc: Global,
+    name: &str,
+    found: Found,
+    out: &mut O,
+) -> io::Result<Outcome> {
     let Outcome { status, class } = found.outcome();
     let status = write_report(alloc, status, check_report(alloc, name, found), out)?;
     Ok(Outcome { status, class })

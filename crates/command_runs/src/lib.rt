@@ -6,6 +6,7 @@
 
 mod check_report;
 mod check_run;
+mod follow_run;
 mod found;
 mod harm_run;
 mod json_runs;
@@ -33,10 +34,13 @@ mod version_note;
 mod waiting_note;
 mod why_no;
 
-pub use check_report::checked;
+pub use check_report::{checked, checked_as_it_comes};
 pub use check_run::run_check;
+pub use follow_run::run_follow;
 pub use found::{About, Found};
-pub use json_runs::{report_check, report_page, report_replay, report_show, report_verify};
+pub use json_runs::{
+    report_check, report_follow, report_page, report_replay, report_show, report_verify,
+};
 pub use outcome::{Outcome, Tally};
 pub use plan_run::run_write;
 pub use replay_run::run_replay;

@@ -3,6 +3,7 @@ ghost use Rattle.std.specs.Prelude.{◌≡◌, true, IfOk, string_bytes};
 ghost use Rattle.answers.specs.Telling.{IsNote};
 
 use crate::no_note::note_on_verdict;
+use crate::reading::through_line;
 use crate::recorded::{Recorded, Text};
 use crate::stream_answers::unaccepted;
 use answers::{Answer, Asked, broken, note_on_failure};
@@ -154,7 +155,8 @@ fn explained_text<R: Read + Seek + Drop>(
     lines: u32,
 ) -> Result<Option<Vec<u8>>, AllocError> {
     match input.into_text(alloc, lines)? {
-        Text::Kept(text) => Ok(Some(text)),
+        // where a trace is judged as it comes more may have been read, and end in mid-line
+        Text::Kept(text) => Ok(Some(through_line(text, lines))),
         Text::ReadAgain(text) => {
             // what is told of an accepted trace is told where it is that trace
             let same = matches!(answer, Answer::Accepted { .. })

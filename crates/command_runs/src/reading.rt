@@ -65,6 +65,14 @@ pub fn first_lines<R: Read>(alloc: Global, reader: &mut R, lines: u32) -> io::Re
     Err(ErrorKind::Interrupted.into())
 }
 
+/// A text as far as the line with this number.
+pub fn through_line(mut text: Vec<u8>, line: u32) -> Vec<u8> {
+    let mut left = line;
+    let end = end_of_lines(&text, &mut left);
+    text.truncate(end);
+    text
+}
+
 /// Where the lines end of which so many are left: behind the last one's line feed, or behind the piece.
 fn end_of_lines(piece: &[u8], left: &mut u32) -> usize
     ensures { result ≤ length piece.now }

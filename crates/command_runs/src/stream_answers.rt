@@ -1,12 +1,13 @@
 //! Answers to a trace that is judged as a device gives it.
 ghost use Rattle.std.specs.Prelude.{◌≡◌, false};
 ghost use Rattle.command_runs.specs.CheckAnswers.{IsVerdictAlone, answer_of_check_fault};
+ghost use Rattle.command_runs.specs.FollowAnswers.{IsFollowAnswer};
 ghost use Rattle.command_runs.specs.TraceTexts.{IsTraceAnswer};
 ghost use Rattle.command_runs.specs.VerifyAnswers.{IsVerdictBeside};
 
 use answers::Answer;
 use guest_memory::SparseMemory;
-use ownership_checker::{StreamCheckFault, count_stream};
+use ownership_checker::{StreamCheckFault, count_stream, follow_stream};
 use ring_knowledge::Lease;
 use std::alloc::Global;
 use trace_reader::Source;
@@ -19,6 +20,18 @@ pub fn counted_answer<S: Source>(alloc: Global, source: &mut S) -> Answer
     match count_stream(alloc, source, SparseMemory::new(alloc)) {
         Ok(leases) => Answer::Accepted {
             leases: leases as u64,
+        },
+        Err(fault) => unaccepted(fault),
+    }
+}
+
+/// The same of a trace that is judged as it comes: the first row that breaks a rule is the answer, and nothing is read behind it.
+pub fn followed_answer<S: Source>(alloc: Global, source: &mut S) -> Answer
+    ensures { IsFollowAnswer (S.held source.old) result }
+{
+    match follow_stream(alloc, source, SparseMemory::new(alloc)) {
+        Ok(count) => Answer::Accepted {
+            leases: count as u64,
         },
         Err(fault) => unaccepted(fault),
     }

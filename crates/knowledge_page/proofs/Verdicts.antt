@@ -1,5 +1,5 @@
 -- Where among rows the first stands that breaks a rule
-use Rattle.knowledge_page.proofs.BaseWords.{◌≡◌, ℕ, zero, suc, ◌+◌, ◌<◌, ◌≤◌, List, [], ◌∷◌, Option, Some, None, ◌⊎◌, inl, inr, refl, sym, subst, ap, arith, length, take, common_steps, same_Some, Row, Header, TraceText, Known, nothing, Refusal, first_or, header_after, known_after, trace_verdict, verdict_from, row_broken, IfNoRow, IsLast, IsNoRow, IsRange, verdict_on, ShowFault, NoRow, Memory}
+use Rattle.knowledge_page.proofs.BaseWords.{◌≡◌, ℕ, zero, suc, ◌+◌, ◌<◌, ◌≤◌, List, [], ◌∷◌, Option, Some, None, ◌⊎◌, refl, sym, subst, ap, arith, length, take, common_steps, same_Some, Row, Header, TraceText, Known, nothing, Refusal, first_or, header_after, known_after, trace_verdict, verdict_from, row_broken, IfNoRow, IsLast, IsNoRow, IsRange, verdict_on, ShowFault}
 
 -- it is this row, or one behind it
 here_or : (cs : List Refusal) (n row many : ℕ) (c : Refusal) (later : Option (ℕ × Refusal)) →
@@ -36,16 +36,11 @@ module _ (t : TraceText) where
   -- the last row that may be asked for is one of the rows, or the line before all
   last_below : (v : Option (ℕ × Refusal)) (last : ℕ) → verdict_on t ≡ v → IsLast v (t.first + length t.rows) last → last < t.first + length t.rows
   last_below None last e is = omega (arith, is)
-  last_below (Some first_broken) last e is =
-      let among = in_rows t.header nothing t.first t.rows first_broken.0 first_broken.1 e in
-      let right = among.1 in
-      omega (arith, is, right)
+  last_below (Some first_broken) last e is = grind (arith, in_rows, nothing, in_rows t.header nothing t.first t.rows first_broken.0 first_broken.1 e, (in_rows t.header nothing t.first t.rows first_broken.0 first_broken.1 e).1)
 
   -- a row before all or behind all is none of those that may be asked for
   pub not_there : (fault : ShowFault) (row : ℕ) → (row < t.first) ⊎ (t.first + length t.rows ≤ row) → IfNoRow fault (IsRange t) → IfNoRow fault (IsNoRow t (Some row))
-  not_there (NoRow first last) row (inl before) range = let begins = range.begins in record { range = range; outside = inl (omega (arith, before, begins)) }
-  not_there (NoRow first last) row (inr behind) range = let below = last_below (verdict_on t) last refl range.ends in record { range = range; outside = inr (omega (arith, behind, below)) }
-  not_there Memory row where_ range = tt
+  not_there given1 row where_ range = grind (arith, last_below, verdict_on)
 
   -- the range, by the verdict
   pub range_to : (row : ℕ) (c : Refusal) → verdict_on t ≡ Some (row, c) → IsRange t t.first row
@@ -54,22 +49,10 @@ module _ (t : TraceText) where
   pub range_of_all : (last : ℕ) → verdict_on t ≡ None → last + 1 ≡ t.first + length t.rows → IsRange t t.first last
   range_of_all last e is = record { begins = refl; ends = subst (λ (o : Option (ℕ × Refusal)). IsLast o (t.first + length t.rows) last) (sym e) is }
 
-  taken : (n : ℕ) (rows : List Row) → n ≤ length rows → length (take n rows) ≡ n
-  taken n rows few = grind (arith, common_steps, few)
-
   -- a row behind one that breaks a rule is none of them
   pub behind_broken : (n asked row : ℕ) (c : Refusal) → n ≤ length t.rows → asked ≡ t.first + n → trace_verdict t.header t.first (take n t.rows) ≡ Some (row, c) → IsNoRow t (Some asked) t.first row
-  behind_broken n asked row c few is e =
-      let among = in_rows t.header nothing t.first (take n t.rows) row c e in
-      let right = among.1 in
-      let many = taken n t.rows few in
-      record { range = range_to row c (of_all t.header nothing t.first n t.rows row c e); outside = inr (omega (arith, is, right, many)) }
+  behind_broken n asked row c few is e = grind (arith, in_rows, nothing, common_steps, range_to, of_all)
 
   -- the first row that breaks a rule is one of them
   pub is_there : (fault : ShowFault) (row : ℕ) (c : Refusal) (P : ℕ → ℕ → Type 0) → verdict_on t ≡ Some (row, c) → IfNoRow fault (IsNoRow t (Some row)) → IfNoRow fault P
-  is_there Memory row c P e none = tt
-  is_there (NoRow first last) row c P e none =
-      let left = (in_rows t.header nothing t.first t.rows row c e).0 in
-      let begins = none.range.begins in
-      let ends : last ≡ row = subst (λ (o : Option (ℕ × Refusal)). IsLast o (t.first + length t.rows) last) e none.range.ends in
-      elim none.outside [ inl before ↦ absurd (omega (arith, before, begins, left)) | inr behind ↦ absurd (omega (arith, behind, ends)) ]
+  is_there given1 row c given4 e none = grind (arith, in_rows, nothing)

@@ -1,7 +1,7 @@
 //! Traces that are checked and verified as they are read: the same at every cut of the bytes, and a failed read is told.
 use crate::sources::device_of;
 use guest_memory::SparseMemory;
-use ownership_checker::{StreamCheckFault, check_stream, count_stream};
+use ownership_checker::{StreamCheckFault, check_stream, count_stream, follow_stream};
 use ownership_rules::Refusal;
 use ring_knowledge::Lease;
 use std::io::ErrorKind;
@@ -137,4 +137,25 @@ fn each_failed_read_ends_the_pass(rt: HostRuntime) -> Result<(), Fail> {
         );
     }
     Ok(())
+}
+
+/// The same count of the text as it comes, a byte a read.
+fn followed(rt: &HostRuntime, text: &[u8], fails_at: u64) -> Result<usize, StreamCheckFault> {
+    let mut source = device_of(text, 1, fails_at, ErrorKind::Other);
+    follow_stream(rt.alloc(), &mut source, SparseMemory::new(rt.alloc()))
+}
+
+#[test]
+fn behind_a_followed_row_nothing_is_read(rt: HostRuntime) {
+    assert_eq!(rt; followed(&rt, ACCEPTED, u64::MAX), Ok(2));
+    let read = REFUSED.len() as u64;
+    assert_eq!(rt; followed(&rt, BAD_BEHIND, read), Err(NOT_AS_SUBMITTED));
+    assert_eq!(rt; followed(&rt, BAD_BEHIND, read - 1), Err(FAILED));
+    assert_eq!(rt;
+        followed(&rt, &BAD_BEHIND[1..], u64::MAX),
+        Err(StreamCheckFault::Unread(StreamFault::Line {
+            line: 1,
+            fault: LineFault::Header
+        }))
+    );
 }

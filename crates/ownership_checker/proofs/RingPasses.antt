@@ -5,6 +5,7 @@ pub mod Steps
 pub mod Logged
 pub mod Walks
 pub mod RowsFit
+pub mod Followed
 pub mod RowsRead
 pub mod FreeLeases
 pub mod KeptRows

@@ -33,6 +33,9 @@ pub use Rattle.leases.specs.LeaseRows.LeftBehind.{EntriesFit}
 pub use Rattle.leases.specs.RingLeases.Moving.{MovesRing}
 pub use Rattle.leases.specs.RingLeases.RingLents.{is_of_ring}
 pub use Rattle.leases.specs.declared.book.ranges.RangeIndexes.{RangeIndexes}
+pub use Rattle.line_text.specs.Lines.{TextLine, lines_of}
+pub use Rattle.ownership_checker.specs.Following.{EndsAt, IsToldBad, IsToldSoFar, told_behind, told_first, told_with}
+unfoldable pub use Rattle.ownership_checker.specs.Following.{told_as_it_comes}
 pub use Rattle.ownership_checker.specs.JudgedRows.Tracking.{IsLeastFrom, IsStepFrom, IsTracked}
 pub use Rattle.ownership_checker.specs.RingPasses.Accepted.{IsSound}
 pub use Rattle.ownership_checker.specs.RingPasses.Clean.{AreClean, IsLeastOfRow}
@@ -105,6 +108,7 @@ unfoldable pub use Rattle.segments.specs.Givings.{descriptor_length, is_not_rest
 pub use Rattle.segments.specs.Places.{cycle_of}
 pub use Rattle.segments.specs.RingView.{Restores, RingView, Withdraws as WithdrawsAt, due_positions, floor_number, positions_given}
 pub use Rattle.segments.specs.ShapeValue.{Shape}
+pub use Rattle.std.proofs.KnownBytes.{Consumes-trans}
 pub use Rattle.std.proofs.Common.{All, Bool, Err, List, None, Ok, Option, Result, Some, [], add-zero, ap, append-nil, append_assoc, arith, eqb-true, false, filter, get_or, inl, inr, length, lt-ltb, ltb, map, not, refl, rules, slice_get, slice_index, subst, suc, sym, true, zero, ℕ, ◌++◌, ◌+◌, ◌-◌, ◌<◌, ◌==◌, ◌^◌, ◌||◌, ◌∙◌, ◌∷◌, ◌≡◌, ◌≤◌}
 pub use Rattle.std.proofs.lemmas.Bool.{and_parts, cases_Bool, false≢true, not-false, or_parts}
 pub use Rattle.std.proofs.lemmas.Bool.Decides.{nat_tests}
@@ -117,16 +121,20 @@ pub use Rattle.std.specs.Bool.{OnTrue}
 pub use Rattle.std.specs.List.{list_any, position}
 pub use Rattle.std.specs.Option.{SomeIff}
 pub use Rattle.std.specs.Prelude.{IfErr, IfOk, OnOk, drop, if◌then◌else◌, is_some, option_map, reverse, take, ◌%◌, ◌&&◌}
-pub use Rattle.trace_reader.proofs.Streaming.CallsJoined.{calls_say_the_text}
+pub use Rattle.trace_reader.proofs.Streaming.Calls.{call_of}
+pub use Rattle.trace_reader.proofs.Streaming.CallsJoined.{calls_say_the_text, lines_left}
+pub use Rattle.trace_reader.proofs.Streaming.LineEnds.{ended_if_read}
 pub use Rattle.trace_reader.proofs.Streaming.RowsFit.{answer_fits}
 pub use Rattle.trace_reader.proofs.Streaming.Streams.{end_read, line_read_bad, opened_read, row_numbered, row_read}
-pub use Rattle.trace_reader.specs.Reading.{TraceText}
+pub use Rattle.trace_reader.specs.Reading.{State, TraceText}
 unfoldable pub use Rattle.trace_reader.specs.Reading.{trace_of}
-pub use Rattle.trace_reader.specs.Streaming.Ahead.{ahead_of}
+pub use Rattle.trace_reader.specs.Streaming.Ahead.{OfLater, OfText, ahead_of}
 pub use Rattle.trace_reader.specs.Streaming.Answers.{IsCall, has_ended}
 pub use Rattle.trace_reader.specs.Streaming.ReaderState.{IsOpened, IsSameTrace, progress_of}
 pub use Rattle.trace_reader.specs.Streaming.Streams.{HasRead, IfBadLine, IsBadLine, OfStream}
-pub use Rattle.trace_reader.specs.Streaming.WholeTexts.{joined_behind}
+pub use Rattle.trace_reader.specs.Streaming.RowByRow.{Call, Progress}
+unfoldable pub use Rattle.trace_reader.specs.Streaming.RowByRow.{next_row}
+pub use Rattle.trace_reader.specs.Streaming.WholeTexts.{GivenRows, answered, joined_behind, rows_given}
 pub use Rattle.trace_reader.specs.declared.fault.LineFault.{LineFault}
 pub use Rattle.trace_reader.specs.declared.row_reader.fault.StreamFault.{StreamFault}
 pub use Rattle.trace_reader.specs.declared.row_reader.fault.StreamFault.TheVariants.{Device, Line}

@@ -12,6 +12,6 @@ mod trace_check;
 pub use certificate::Certificate;
 pub use fault::{CheckFault, StreamCheckFault};
 pub use lease_count::LeaseCount;
-pub use pass::{Behind, Passed, RingPass, pass_kept, pass_rows};
-pub use stream_check::{check_stream, count_stream};
+pub use pass::{Behind, Passed, RingPass, pass_followed, pass_kept, pass_rows};
+pub use stream_check::{check_stream, count_stream, follow_stream};
 pub use trace_check::{check, check_in};

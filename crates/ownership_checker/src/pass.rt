@@ -8,5 +8,5 @@ mod ring_pass;
 
 pub use behind::Behind;
 pub use kept::pass_kept;
-pub use reading::{Passed, pass_rows};
+pub use reading::{Passed, pass_followed, pass_rows};
 pub use ring_pass::RingPass;

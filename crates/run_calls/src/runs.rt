@@ -1,6 +1,6 @@
 //! Runs of commands over texts in memory: what stands on which stream, and how that ends.
 use answers::{Asked, Status};
-use command_runs::{report_check, run_check, run_replay, run_verify};
+use command_runs::{report_check, report_follow, run_check, run_follow, run_replay, run_verify};
 use diagnostics::Colors;
 use std::io::{self, Cursor, ErrorKind};
 use std::test::Fail;
@@ -139,6 +139,40 @@ fn an_accepted_trace_as_an_object(rt: HostRuntime) -> Result<(), Fail> {
         kept.ok_or("a certificate")?.as_slice(),
         CERTIFICATE.as_slice()
     );
+    Ok(())
+}
+
+/// Checks what an input holds as it comes.
+fn followed(rt: &HostRuntime, text: &[u8]) -> Ended {
+    let mut out = Vec::new(rt.alloc());
+    let mut err = Vec::new(rt.alloc());
+    let input = Ok(Cursor::new(text));
+    let ended = run_follow(rt.alloc(), &ASKED, input, &mut out, &mut err);
+    Ended {
+        status: ended.status,
+        out,
+        err,
+    }
+}
+
+#[test]
+fn a_trace_as_it_comes(rt: HostRuntime) -> Result<(), Fail> {
+    let ended = followed(&rt, ACCEPTED);
+    assert_eq!(rt; ended.status, Status::Clean);
+    assert_eq!(rt; ended.out.as_slice(), b"accepted: 2 leases\n".as_slice());
+    let ended = followed(&rt, UNREADABLE);
+    assert_eq!(rt; ended.status, Status::Unclean);
+    assert_eq!(rt;
+        ended.out.as_slice(),
+        b"row 6: 11 NotAsSubmitted\n".as_slice()
+    );
+    assert!(rt; ended.err.is_empty());
+
+    let mut out = Vec::new(rt.alloc());
+    let input = Ok(Cursor::new(ACCEPTED));
+    let ended = report_follow(rt.alloc(), ASKED.input, input, &mut out)?;
+    assert_eq!(rt; ended.status, Status::Clean);
+    assert_eq!(rt; out.as_slice(), REPORT);
     Ok(())
 }
 

@@ -1,8 +1,8 @@
 //! Arguments that are right one by one, and not together.
 use clap::{ArgMatches, Error};
 use command_line::{
-    Format, format_of, is_read_twice, no_page, no_schedule, no_summary, one_certificate, one_shown,
-    over_the_trace, path, paths, read_twice, subject,
+    Format, format_of, is_read_twice, no_page, no_schedule, no_summary, one_certificate,
+    one_followed, one_shown, over_the_trace, path, paths, read_twice, subject,
 };
 use std::fs::{self, Metadata};
 use std::io::{self, ErrorKind};
@@ -37,6 +37,10 @@ fn wrong_check(rt: &HostRuntime, check: &ArgMatches) -> io::Result<Option<Error>
     let traces = paths(check);
     if is_read_twice(traces) {
         return Ok(Some(read_twice(alloc)?));
+    }
+    let is_more = traces.len() > 1 || check.get_flag("show") || check.contains_id("cert");
+    if check.get_flag("follow") && is_more {
+        return Ok(Some(one_followed(alloc)?));
     }
     if check.get_flag("show") && traces.len() > 1 {
         return Ok(Some(one_shown(alloc)?));

@@ -6,8 +6,8 @@ use answers::Status;
 use clap::ArgMatches;
 use command_line::{path, paths};
 use command_runs::{
-    Tally, checked, logged, report_check, report_page, report_replay, report_show, report_verify,
-    write_log,
+    Found, Outcome, Tally, checked, checked_as_it_comes, logged, report_check, report_follow,
+    report_page, report_replay, report_show, report_verify, write_log,
 };
 use replayer::Search;
 use reports::Sarif;
@@ -51,12 +51,26 @@ pub fn check_as_json(
     let alloc = rt.alloc();
     let traces = traces_of(alloc, check)?;
     for trace in &traces {
-        let mut kept = FileOnWrite::named(rt, check.get_str("cert"));
-        let input = Watched::open(rt, trace.file);
-        let out = &mut rt.stdout();
-        tally.add(report_check(alloc, trace.name, shows, input, &mut kept, out)?);
+        tally.add(check_one_as_json(rt, check, shows, trace)?);
     }
     Ok(())
+}
+
+/// Checks a trace, as it comes where that is asked for, and writes a JSON object.
+fn check_one_as_json(
+    rt: &HostRuntime,
+    check: &ArgMatches,
+    shows: Option<Search>,
+    trace: &Trace,
+) -> io::Result<Outcome> {
+    let alloc = rt.alloc();
+    let input = Watched::open(rt, trace.file);
+    let out = &mut rt.stdout();
+    if check.get_flag("follow") {
+        return report_follow(alloc, trace.name, input, out);
+    }
+    let mut kept = FileOnWrite::named(rt, check.get_str("cert"));
+    report_check(alloc, trace.name, shows, input, &mut kept, out)
 }
 
 /// Checks traces, writes a SARIF log of all, and counts them.
@@ -65,12 +79,22 @@ pub fn check_as_sarif(rt: &HostRuntime, check: &ArgMatches, tally: &mut Tally) -
     let mut log = Ok(Sarif::new(alloc));
     let traces = traces_of(alloc, check)?;
     for trace in &traces {
-        let mut kept = FileOnWrite::named(rt, check.get_str("cert"));
-        let found = checked(alloc, None, Watched::open(rt, trace.file), &mut kept);
+        let found = found_in(rt, check, trace);
         tally.add(found.outcome());
         log = logged(alloc, log, trace.name, found);
     }
     write_log(alloc, log, tally, &mut rt.stdout())
+}
+
+/// What is found of a trace that goes into a log.
+fn found_in(rt: &HostRuntime, check: &ArgMatches, trace: &Trace) -> Found {
+    let alloc = rt.alloc();
+    let input = Watched::open(rt, trace.file);
+    if check.get_flag("follow") {
+        return checked_as_it_comes(alloc, input);
+    }
+    let mut kept = FileOnWrite::named(rt, check.get_str("cert"));
+    checked(alloc, None, input, &mut kept)
 }
 
 /// Verifies a certificate beside a trace, and writes a JSON object.

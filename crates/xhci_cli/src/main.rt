@@ -15,8 +15,8 @@ use arguments::wrong_arguments;
 use clap::ArgMatches;
 use command_line::{Format, block_words, format_of, path, paths, subject};
 use command_runs::{
-    Outcome, Tally, run_check, run_check_named, run_replay, run_schedule, run_show, run_verify,
-    run_write, tell_summary,
+    Outcome, Tally, run_check, run_check_named, run_follow, run_replay, run_schedule, run_show,
+    run_verify, run_write, tell_summary,
 };
 use file_on_write::FileOnWrite;
 use formats::{
@@ -216,6 +216,10 @@ fn check_as_text(rt: &HostRuntime, check: &ArgMatches, tally: &mut Tally) -> io:
     if paths.len() > 1 {
         return check_each(rt, paths, &asked, tally);
     }
+    if check.get_flag("follow") {
+        tally.add(follow_at(rt, path(check, "TRACE"), &asked));
+        return Ok(());
+    }
     tally.add(check_at(
         rt,
         path(check, "TRACE"),
@@ -277,6 +281,17 @@ fn check_at(
         shows,
         Watched::open(rt, path),
         &mut kept,
+        &mut rt.stdout(),
+        &mut rt.stderr(),
+    )
+}
+
+/// Checks the trace in a file, or on standard input, as it comes.
+fn follow_at(rt: &HostRuntime, path: Option<&str>, asked: &Asked) -> Outcome {
+    run_follow(
+        rt.alloc(),
+        &asked.of(called(path)),
+        Watched::open(rt, path),
         &mut rt.stdout(),
         &mut rt.stderr(),
     )

@@ -1,5 +1,7 @@
 -- How far the rows of a trace were read and passed, between which rings come and go, and what that says of the whole text
-use Rattle.ownership_checker.proofs.MiddleLaws.{◌≡◌, ℕ, Bool, ◌+◌, ◌-◌, ◌<◌, List, [], ◌∷◌, ◌++◌, ◌∙◌, true, false, Option, Some, None, Result, Ok, Err, All, refl, ap, sym, subst, arith, length, append-nil, append_assoc, add-zero, IfErr, IfOk, reverse, All-cons, All-nil, most_streamed_lines, Header, Row, LineFault, trace_of, RowReader, StreamFault, Line, ahead_of, IsCall, has_ended, IsOpened, IsSameTrace, progress_of, HasRead, IfBadLine, IsBadLine, OfStream, Lease, Refusal, without_end, Lent, lents, IsRow, header_now, known_now, IsLeastOfRow, DoNoHarm, IsRingLogged, IsRingPassed, Begins, IfRefusedRow, IsWholeLog, OfTrace, with_rows, trace_verdict, RingPass, end_read, line_read_bad, opened_read, row_numbered, row_read, StepFault, RefusedBy, IfRefused, Passed, row_fits, none_refused, one_more, reversed_more, reversed_twice, row_refused, walks, rules}
+use Rattle.ownership_checker.proofs.MiddleLaws.{◌≡◌, ℕ, Bool, ◌+◌, ◌-◌, ◌<◌, List, [], ◌∷◌, ◌++◌, ◌∙◌, true, false, Option, Some, None, Result, Ok, Err, All, refl, ap, sym, subst, arith, length, append-nil, append_assoc, add-zero, reverse, All-cons, All-nil, most_streamed_lines, Header, Row, LineFault, trace_of, RowReader, StreamFault, Line, ahead_of, IsCall, has_ended, IsOpened, IsSameTrace, progress_of, HasRead, IfBadLine, IsBadLine, OfStream, Lease, Refusal, without_end, Lent, lents, IsRow, header_now, known_now, IsLeastOfRow, DoNoHarm, IsRingLogged, IsRingPassed, Begins, IsWholeLog, OfTrace, with_rows, trace_verdict, RingPass, end_read, line_read_bad, opened_read, row_numbered, row_read, StepFault, RefusedBy, IfRefused, row_fits, none_refused, one_more, reversed_more, reversed_twice, row_refused, walks, rules}
+use Rattle.ownership_checker.specs.Following.{EndsAt, IsToldBad}
+use Rattle.ownership_checker.proofs.RingPasses.Followed.{IsToldTo, bad_followed, opened_told, refused_followed, row_followed}
 
 -- a call between two readers answered so
 abbrev pub Gives : Option (List ℕ) → Option (List ℕ) → RowReader → RowReader → Result (Option (ℕ × Row)) StreamFault → Type 0
@@ -34,13 +36,6 @@ of_start : (before held : Option (List ℕ)) (start r : RowReader) (first : ℕ)
     OfStream before held (λ text. trace_of start.keeps text ≡ Ok (record { header = start.header; first = first; rows = rows }))
 of_start before held start r first rows same read = rw (← same.0, ← same.1) read
 
--- what a pass comes to that ends at a row
-pub ended_refused : {B : Type 0} (r : Result (Passed B) StreamFault) (P Q : ℕ → Refusal → Type 0) → ((row : ℕ) (c : Refusal) → P row c → Q row c) → IfOk r (λ p. IfRefusedRow p P) → IfOk r (λ p. IfRefusedRow p Q)
-ended_refused r P Q f so = grind (arith, f)
-
-pub ended_bad : {B : Type 0} (r : Result (Passed B) StreamFault) (P Q : ℕ → LineFault → Type 0) → ((e : StreamFault) → IfBadLine e P → IfBadLine e Q) → IfErr r (λ e. IfBadLine e P) → IfErr r (λ e. IfBadLine e Q)
-ended_bad r P Q f so = grind (arith, f)
-
 -- so many rows were read and passed
 pub record IsUnderway {B M : Type 0} (words : M → ℕ → ℕ) (holds : List Lease → Header → List Lent → B → Type 0) (start : RowReader) (held held' : Option (List ℕ)) (log : B) (reader : RowReader)
     (pass : RingPass B M) : Type 0 where
@@ -48,6 +43,7 @@ pub record IsUnderway {B M : Type 0} (words : M → ℕ → ℕ) (holds : List L
   pub numbered : reader.lines ≡ start.lines + length past
   pub headed : IsSameTrace start reader
   pub read : (keeps : Bool) (before : Option (List ℕ)) → IsOpened keeps before held (Ok start) → HasRead before held' (start.lines + 1) (reverse past) reader
+  pub told : (keeps : Bool) (before : Option (List ℕ)) → IsOpened keeps before held (Ok start) → IsToldTo keeps before held' start.header (start.lines + 1) (reverse past) reader
   pub fitting : All IsRow past
   pub passed : IsRingPassed words start.header past pass
   pub logged : (list : List Lease) → Begins (holds list) start log → IsRingLogged (holds list) start.header (start.lines + 1) past pass
@@ -60,6 +56,7 @@ module _ {B M : Type 0} {words : M → ℕ → ℕ} {holds : List Lease → Head
     numbered = sym (add-zero start.lines);
     headed = (refl, refl);
     read = λ keeps before opened. opened_read keeps before held start opened;
+    told = λ keeps before opened. opened_told keeps before held start opened;
     fitting = All-nil IsRow;
     passed = rw is at passed;
     logged = λ list begins. rw is at (logged list (start.lines + 1) (rw is (begins (start.lines + 1))));
@@ -82,6 +79,11 @@ module _ {B M : Type 0} {words : M → ℕ → ℕ} {holds : List Lease → Head
           subst (λ (rows : List Row). HasRead before held'' (start.lines + 1) rows r') (ap (λ (r : Row). reverse u.past ++ r ∷ []) told ∙ reversed_more u.past one)
           (row_read before held' held'' (start.lines + 1) (reverse u.past) r r' next.headed (u.read keeps before opened) row next.on next.call)
 
+      told_so : (keeps : Bool) (before : Option (List ℕ)) → IsOpened keeps before held (Ok start) → IsToldTo keeps before held'' start.header (start.lines + 1) (reverse (one ∷ u.past)) r'
+      told_so keeps before opened =
+          subst (λ (rows : List Row). IsToldTo keeps before held'' start.header (start.lines + 1) rows r') (ap (λ (r : Row). reverse u.past ++ r ∷ []) told ∙ reversed_more u.past one)
+          (row_followed keeps before held' held'' start.header (start.lines + 1) (reverse u.past) r r' (u.told keeps before opened) row next.on next.call)
+
       pub row_passed : (pass' : RingPass B M) → ((h : Header) (past : List Row) → IsRingPassed words h past pass → IsRingPassed words h (one ∷ past) pass') →
           ((list : List Lease) (h : Header) (first : ℕ) (past : List Row) → IsRingPassed words h past pass → row.0 ≡ first + length past → first + length past < without_end →
           IsRingLogged (holds list) h first past pass → IsRingLogged (holds list) h first (one ∷ past) pass') → IsUnderway words holds start held held'' log r' pass'
@@ -90,51 +92,40 @@ module _ {B M : Type 0} {words : M → ℕ → ℕ} {holds : List Lease → Head
         numbered = let n = row_numbered held' held'' r r' row next.on next.call in omega (arith, n.0, n.1, u.numbered);
         headed = (next.headed.0 ∙ u.headed.0, next.headed.1 ∙ u.headed.1);
         read = read_so;
+        told = told_so;
         fitting = All-cons IsRow one u.past fits_so u.fitting;
         passed = passes start.header u.past u.passed;
         logged = λ list begins. logs list start.header (start.lines + 1) u.past u.passed number_so room_so (u.logged list begins);
       }
 
-      -- a refused row, and rows behind it
-      pub refused_so : (last : Option (List ℕ)) (c : Refusal) → ((h : Header) (past : List Row) → IsRingPassed words h past pass → IsLeastOfRow (header_now h past) (known_now h past) one c) →
-          ((before : Option (List ℕ)) (first : ℕ) (done : List Row) → HasRead before held'' first done r' →
-          (more : List Row) × OfStream before last (λ text. trace_of r'.keeps text ≡ Ok (with_rows r' first (done ++ more)))) →
-          (keeps : Bool) (before : Option (List ℕ)) → IsOpened keeps before held (Ok start) → OfTrace keeps before last (λ trace. trace_verdict trace.header trace.first trace.rows ≡ Some (row.0, c))
-      refused_so last c least rest keeps before opened =
+      -- the row is refused
+      pub ends_so : (c : Refusal) (fault : StepFault) → fault ≡ RefusedBy c → IfRefused fault (λ c. (h : Header) (past : List Row) → IsRingPassed words h past pass → IsLeastOfRow (header_now h past) (known_now h past) one c) →
+          (keeps : Bool) (before : Option (List ℕ)) → IsOpened keeps before held (Ok start) → EndsAt keeps before held'' r' row.0 c
+      ends_so c fault is told_fault keeps before opened =
+          let least : (h : Header) (past : List Row) → IsRingPassed words h past pass → IsLeastOfRow (header_now h past) (known_now h past) one c = rw is at told_fault in
           let first = start.lines + 1 in
-          let read = rest before first (reverse (one ∷ u.past)) (read_so keeps before opened) in
-          let rows : List Row = reverse (one ∷ u.past) ++ read.0 in
-          let refused : trace_verdict r'.header first rows ≡ Some (row.0, c) =
-          ap (λ (x : Header). trace_verdict x first rows) (next.headed.0 ∙ u.headed.0)
-          ∙ ap (trace_verdict start.header first) (one_more u.past one read.0)
-          ∙ row_refused start.header first u.past read.0 one c u.passed.clean (least start.header u.past u.passed)
-          ∙ ap (λ n. Some (n, c)) (sym number_so) in (
-            with_rows r' first rows,
-            subst (λ (k : Bool). OfStream before last (λ text. trace_of k text ≡ Ok (with_rows r' first rows))) (next.headed.1 ∙ u.headed.1 ∙ opened.0) read.1,
-            refused,
-          )
-
-      pub refused_at : (last : Option (List ℕ)) {fault : StepFault} → IfRefused fault (λ c. (h : Header) (past : List Row) → IsRingPassed words h past pass → IsLeastOfRow (header_now h past) (known_now h past) one c) →
-          (number : ℕ) (c : Refusal) → (number ≡ row.0) × (fault ≡ RefusedBy c) × ((before : Option (List ℕ)) (first : ℕ) (done : List Row) → HasRead before held'' first done r' →
-          (more : List Row) × OfStream before last (λ text. trace_of r'.keeps text ≡ Ok (with_rows r' first (done ++ more)))) →
-          (keeps : Bool) (before : Option (List ℕ)) → IsOpened keeps before held (Ok start) → OfTrace keeps before last (λ trace. trace_verdict trace.header trace.first trace.rows ≡ Some (number, c))
-      refused_at last least number c so keeps before opened =
-          rw so.0 (refused_so last c (rw so.1 at least) so.2 keeps before opened)
-
-      -- a refused row, and a bad line behind it
-      pub bad_behind : (last : Option (List ℕ)) (e : StreamFault) →
-          IfBadLine e (λ line fault. (before : Option (List ℕ)) (first : ℕ) (done : List Row) → HasRead before held'' first done r' → IsBadLine r'.keeps before last line fault) →
-          IfBadLine e (λ line fault. (keeps : Bool) (before : Option (List ℕ)) → IsOpened keeps before held (Ok start) → IsBadLine keeps before last line fault)
-      bad_behind last (Line line fault) told = λ keeps before opened.
-          subst (λ (k : Bool). IsBadLine k before last line fault) (next.headed.1 ∙ u.headed.1 ∙ opened.0)
-          (told before (start.lines + 1) (reverse (one ∷ u.past)) (read_so keeps before opened))
-      bad_behind last _ told = search rules
+          let done = reverse (one ∷ u.past) in
+          let refused : (more : List Row) → trace_verdict start.header first (done ++ more) ≡ Some (row.0, c) = λ more.
+          ap (trace_verdict start.header first) (one_more u.past one more)
+          ∙ row_refused start.header first u.past more one c u.passed.clean (least start.header u.past u.passed)
+          ∙ ap (λ n. Some (n, c)) (sym number_so) in
+          record {
+            first = first;
+            done = done;
+            kept = next.headed.1 ∙ u.headed.1 ∙ opened.0;
+            read = read_so keeps before opened;
+            refused = λ more. ap (λ (x : Header). trace_verdict x first (done ++ more)) (next.headed.0 ∙ u.headed.0) ∙ refused more;
+            told = refused_followed keeps before held'' start.header first done r' row.0 c next.on (told_so keeps before opened) refused;
+          }
 
     -- a bad line is told
     pub bad_so : (held'' : Option (List ℕ)) (r' : RowReader) (e : StreamFault) → IsSameTrace r r' → r'.ended ≡ true → Gives held' held'' r r' (Err e) →
-        IfBadLine e (λ line fault. (keeps : Bool) (before : Option (List ℕ)) → IsOpened keeps before held (Ok start) → IsBadLine keeps before held'' line fault)
-    bad_so held'' r' (Line line fault) headed over call = λ keeps before opened. rw (← opened.0, ← u.headed.1)
-        (line_read_bad before held' held'' (start.lines + 1) (reverse u.past) r r' headed (u.read keeps before opened) over line fault call)
+        IfBadLine e (λ line fault. (keeps : Bool) (before : Option (List ℕ)) → IsOpened keeps before held (Ok start) → IsBadLine keeps before held'' line fault × IsToldBad keeps before held'' line fault)
+    bad_so held'' r' (Line line fault) headed over call = λ keeps before opened. (
+      rw (← opened.0, ← u.headed.1) (line_read_bad before held' held'' (start.lines + 1) (reverse u.past) r r' headed (u.read keeps before opened) over line fault call),
+      bad_followed keeps before held' held'' start.header (start.lines + 1) (reverse u.past) r r' (u.told keeps before opened) over line fault
+          (none_refused start.header (start.lines + 1) u.past u.passed.clean) call,
+    )
     bad_so held'' r' _ headed over call = search rules
 
     -- no row is left
@@ -208,3 +199,39 @@ module _ {start : RowReader} {held : Option (List ℕ)} where
         IfBadLine e (λ line fault. (before : Option (List ℕ)) (first : ℕ) (done : List Row) → HasRead before held first done start → IsBadLine start.keeps before held'' line fault)
     bad_read_on held'' r' (Line line fault) headed over call = λ before first done read. bad_more held'' r' before first done headed over line fault call (u.read before first done read)
     bad_read_on held'' r' _ headed over call = search rules
+
+-- ---- what stands behind the row at which a pass ended, or a bad line
+
+abbrev Opened : Option (List ℕ) → RowReader → Bool → Option (List ℕ) → Type 0
+Opened start r keeps before = IsOpened keeps before start (Ok r)
+
+abbrev Bad : Option (List ℕ) → Option (List ℕ) → RowReader → StreamFault → Type 0
+Bad start held r e = IfBadLine e (λ line fault. (keeps : Bool) (before : Option (List ℕ)) → Opened start r keeps before → IsBadLine keeps before held line fault × IsToldBad keeps before held line fault)
+
+module _ (start held : Option (List ℕ)) (r : RowReader) where
+  pub bad_alone : (e : StreamFault) → Bad start held r e → IfBadLine e (λ line fault. (keeps : Bool) (before : Option (List ℕ)) → Opened start r keeps before → IsBadLine keeps before held line fault)
+  bad_alone (Line line fault) bad = λ keeps before opened. (bad keeps before opened).0
+  bad_alone _ bad = search rules
+
+  pub bad_here : (e : StreamFault) (keeps : Bool) (before : Option (List ℕ)) → Opened start r keeps before → Bad start held r e → IfBadLine e (IsBadLine keeps before held) × IfBadLine e (IsToldBad keeps before held)
+  bad_here (Line line fault) keeps before opened bad = bad keeps before opened
+  bad_here _ keeps before opened bad = search rules
+
+  module _ (r' : RowReader) (last : Option (List ℕ)) {row : ℕ} {c : Refusal} (ends : (keeps : Bool) (before : Option (List ℕ)) → Opened start r keeps before → EndsAt keeps before held r' row c) where
+    pub ends_read : ((before : Option (List ℕ)) (first : ℕ) (done : List Row) → HasRead before held first done r' →
+        (more : List Row) × OfStream before last (λ text. trace_of r'.keeps text ≡ Ok (with_rows r' first (done ++ more)))) →
+        (keeps : Bool) (before : Option (List ℕ)) → Opened start r keeps before → OfTrace keeps before last (λ trace. trace_verdict trace.header trace.first trace.rows ≡ Some (row, c))
+    ends_read rest keeps before opened =
+        let end = ends keeps before opened in
+        let read = rest before end.first end.done end.read in (
+          with_rows r' end.first (end.done ++ read.0),
+          subst (λ (k : Bool). OfStream before last (λ text. trace_of k text ≡ Ok (with_rows r' end.first (end.done ++ read.0)))) end.kept read.1,
+          end.refused read.0,
+        )
+
+    pub ends_bad : (e : StreamFault) → IfBadLine e (λ line fault. (before : Option (List ℕ)) (first : ℕ) (done : List Row) → HasRead before held first done r' → IsBadLine r'.keeps before last line fault) →
+        IfBadLine e (λ line fault. (keeps : Bool) (before : Option (List ℕ)) → Opened start r keeps before → IsBadLine keeps before last line fault)
+    ends_bad (Line line fault) told = λ keeps before opened.
+        let end = ends keeps before opened in
+        subst (λ (k : Bool). IsBadLine k before last line fault) end.kept (told before end.first end.done end.read)
+    ends_bad _ told = search rules

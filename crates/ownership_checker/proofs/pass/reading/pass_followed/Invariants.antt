@@ -1,5 +1,5 @@
 use Rattle.ownership_checker.proofs.Laws.{◌≡◌, ◌-◌, most_streamed_lines, IsUnderway}
-use Rattle.ownership_checker.proofs.pass.reading.pass_rows.Given as goal
+use Rattle.ownership_checker.proofs.pass.reading.pass_followed.Given as goal
 
 abbrev pub invariant-loop-pass : goal.invariant-loop-pass
 invariant-loop-pass g l =
