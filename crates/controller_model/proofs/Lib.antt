@@ -23,6 +23,7 @@ pub mod NextRowLemmas
 pub mod WatchLemmas
 pub mod OpeningLemmas
 pub mod SafetyLemmas
+pub mod NothingTaken
 pub mod RingHarmLemmas
 pub mod ChangeLemmas
 pub mod ReportPosts

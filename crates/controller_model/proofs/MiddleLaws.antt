@@ -6,7 +6,8 @@ pub use Rattle.controller_model.proofs.FinishLemmas.{finished_as_is, made_of_par
 pub use Rattle.controller_model.proofs.HolderLemmas.{elsewhere, here, holder_left, holder_taken, place_of, put_pair_here, put_pair_id, put_pair_map, put_pair_there, put_pair_twice}
 pub use Rattle.controller_model.proofs.LowerLaws.{KeepsRest, adds_end, adds_next, all_at, all_made, and_true, any_in_range, any_more, at_block, at_crossing, busy, command_id-none, command_id-some, command_well, context_named, dequeue_set, ends_here, first_at-found, first_at-nowhere, first_left, first_of, follows_along, follows_same, follows_stored, follows_stored_block, goes_on, gone, harm_is, held_four, is_last-none, is_last-some, keeps_nothing, keeps_placed, keeps_took, listed, made_of, made_stopped, may_scribble_is, names, none_in_range, none_left, none_of, noted_follows, one, one_in_lap, onward, or_false, position_is, put_other, put_same, read_at, read_is, replicate_at, ring_changed, row_next_is, shows_nothing, shows_placed, shows_took, slice_get-set_other, step_counted, step_failed, step_made_is, step_mapped, step_more, step_uncounted, take_past, told_posted, waits_idle, waits_so, with_endpoints, with_rings, with_slots, withdraws_inside, withdraws_one, withdraws_past}
 pub use Rattle.controller_model.proofs.RegisterLemmas.{pointed_other, registers_noted, stops_unless_runs}
-pub use Rattle.controller_model.proofs.RingHarmLemmas.{declared_harms, look_came, look_is, no_harms_after, read_harms, row_harms, stored_harms}
+pub use Rattle.controller_model.proofs.NothingTaken.{harms_kept, step_nothing}
+pub use Rattle.controller_model.proofs.RingHarmLemmas.{harms_looked, look_came, look_is}
 pub use Rattle.controller_model.proofs.RingRowLemmas.{emptied_here, emptied_other, none_dropped, nothing_listed, one_dropped, with_alike, withdrawn_here, withdrawn_other, without_alike, without_is}
 pub use Rattle.controller_model.proofs.RingSteps.{activated_other, crossed_here, crossed_other, declared_here, declared_other, reported_here, reported_other, taken_here, taken_other}
 pub use Rattle.controller_model.proofs.SlotLemmas.{slots_allow, slots_state}

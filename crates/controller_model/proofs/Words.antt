@@ -19,7 +19,9 @@ pub use Rattle.controller_model.specs.Following.{Follows, FollowsEndpoints, Foll
 pub use Rattle.controller_model.specs.Held.{Held, changed_at, held, held_block, held_by, held_stored, written_at}
 pub use Rattle.controller_model.specs.Histories.{Keeps, ShowsHarms}
 unfoldable pub use Rattle.controller_model.specs.OnLiterals.{model_on_literals}
-pub use Rattle.controller_model.specs.RingHarms.{ChangesOnly, FollowsScene, HasRingHarms, IsFollowed}
+pub use Rattle.controller_model.specs.RingHarms.{BringsNone, ChangesOnly, FollowsScene, HasRingHarms, IsFollowed, TakesNothing, is_coming, may_be_inside}
+pub use Rattle.controller_model.specs.declared.safety.Inside.{Inside}
+pub use Rattle.controller_model.specs.declared.safety.Inside.TheVariants.{Anywhere, Nowhere, On}
 unfoldable pub use Rattle.controller_model.specs.Showing.{scene_replayed, scene_seen_by, scene_seen_from, look_shows, shows}
 pub use Rattle.controller_model.specs.Trials.{GoesOnAs, Sees, has_own, is_elsewhere, own_ring}
 pub use Rattle.controller_model.specs.Watches.{is_changed_behind, may_touch}

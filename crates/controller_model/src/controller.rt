@@ -16,7 +16,7 @@ use crate::kept::Kept;
 use crate::life::Rings;
 use crate::opening::opening;
 use crate::rows_left::RowsLeft;
-use crate::safety::{RingHarms, harm_of, harms_after, is_quiet, ring_harms};
+use crate::safety::{RingHarms, brings_ring, harm_of, harms_after, ring_harms};
 use crate::seen::Seen;
 use crate::steps::make_step;
 use guest_memory::WordMemory;
@@ -55,11 +55,9 @@ fn make_followed<M: WordMemory>(
     ensures left { result ≡ Err StepFault.NotPossible → left.new ≡ left.old }
     ensures rings { result ≡ Err StepFault.NotPossible → rings.new ≡ rings.old }
 {
-    let is_quiet = is_quiet(left, memory, step);
+    let comes = brings_ring(left, step);
     let seen = make_step(lists, left, memory, kept, step)?;
-    if !is_quiet {
-        *rings = harms_after(lists, memory, kept, *rings, step);
-    }
+    *rings = harms_after(lists, memory, kept, *rings, step, comes);
     Ok(seen)
 }
 

@@ -1,4 +1,4 @@
-ghost use Rattle.std.specs.Prelude.{◌≡◌, ℕ, ◌&&◌, ◌==◌, ◌-◌, ◌<◌, ◌%◌, if◌then◌else◌, List, ◌||◌, IsSome, Option, Some, true, not, nat_le, nat_lt};
+ghost use Rattle.std.specs.Prelude.{◌≡◌, ◌≢◌, ℕ, ◌&&◌, ◌==◌, ◌-◌, ◌%◌, if◌then◌else◌, List, ◌||◌, IsSome, Some, true, false, nat_le, nat_lt};
 ghost use Rattle.trb.specs.Block.{block_at, cycle as cycle_bit};
 ghost use Rattle.traces.specs.declared.header.Header.{Header as HeaderValue};
 ghost use Rattle.traces.specs.declared.row.Row.{Row as RowValue};
@@ -7,11 +7,9 @@ ghost use Rattle.world_state.specs.World.{World};
 ghost use Rattle.world_state.specs.Harms.{harm_of, has_changed_context, has_other_words, is_inside_descriptor, is_out_of_order, waits};
 ghost use Rattle.traces.specs.declared.step.Step.TheVariants.{Look};
 ghost use Rattle.world_state.specs.Steps.{stepped};
-ghost use Rattle.world_state.specs.Scenes.{Scene, row_made, step_made};
-ghost use Rattle.controller_model.specs.declared.kept.Kept.{Kept as KeptValue};
-ghost use Rattle.controller_model.specs.declared.life.Rings.{Rings as RingsValue};
+ghost use Rattle.world_state.specs.Scenes.{Scene, step_made};
 ghost use Rattle.controller_model.specs.Following.{Follows, FollowsRing, ring_held};
-ghost use Rattle.controller_model.specs.RingHarms.{FollowsScene, HasRingHarms};
+ghost use Rattle.controller_model.specs.RingHarms.{BringsNone, FollowsScene, HasRingHarms, TakesNothing, may_be_inside};
 
 use crate::kept::{Kept, RingState};
 use crate::life::Rings;
@@ -23,12 +21,48 @@ use guest_memory::WordMemory;
 use traces::{Header, Row, Step};
 use world_state::Harm;
 
-/// Which harms the takes and the waiting of some ring show.
+/// Which rings may be within a descriptor: a controller has taken some of its blocks, and not the last one.
+#[derive(Clone, Copy)]
+pub enum Inside {
+    Nowhere,
+    On(u8),
+    Anywhere,
+}
+
+impl Inside {
+    /// The ring may be within a descriptor too, where it is.
+    fn with(self, ring: u8, is_inside: bool) -> Inside
+        ensures here { is_inside ≡ true → may_be_inside result ring ≡ true }
+        ensures others { (r : ℕ) → may_be_inside self r ≡ true → may_be_inside result r ≡ true }
+    {
+        if !is_inside {
+            return self;
+        }
+        match self {
+            Inside::Nowhere => Inside::On(ring),
+            Inside::On(other) if other == ring => self,
+            Inside::On(_) | Inside::Anywhere => Inside::Anywhere,
+        }
+    }
+
+    /// The ring isn't within a descriptor.
+    fn without(self, ring: u8) -> Inside
+        ensures { (r : ℕ) → r ≢ ring → may_be_inside self r ≡ true → may_be_inside result r ≡ true }
+    {
+        match self {
+            Inside::On(other) if other == ring => Inside::Nowhere,
+            Inside::Nowhere | Inside::On(_) | Inside::Anywhere => self,
+        }
+    }
+}
+
+/// Which harms the takes and the waiting of some ring show, and which rings are within a descriptor.
 #[derive(Clone, Copy)]
 pub struct RingHarms {
     out_of_order: bool,
     other_words: bool,
     waits_inside: bool,
+    inside: Inside,
 }
 
 /// The harms of all rings.
@@ -39,12 +73,14 @@ pub(crate) fn ring_harms<M: WordMemory>(header: &Header, memory: &M, kept: &Kept
         out_of_order: false,
         other_words: false,
         waits_inside: false,
+        inside: Inside::Nowhere,
     };
     for ring in header.rings.as_slice() {
         let state = &kept.rings[usize::from(ring.id)];
         harms.out_of_order |= state.history.is_out_of_order();
         harms.other_words |= state.history.has_other_words();
         harms.waits_inside |= waits_inside(memory, state);
+        harms.inside = harms.inside.with(ring.id, state.history.is_inside());
     }
     harms
 }
@@ -109,20 +145,18 @@ fn has_changed_context(header: &Header, kept: &Kept) -> bool
         .is_context_changed(pending.address, context, input_words(header))
 }
 
-/// The harms of one ring.
-fn harms_at<M: WordMemory>(memory: &M, state: &RingState) -> RingHarms
-    ensures order { (h : HeaderValue) (r : ℕ) (w : World) → FollowsRing h r (ring_held w r) state.now → IsSome (ring_with h r) →
-        result.out_of_order ≡ is_out_of_order (shape_of h r) (w.events r) }
-    ensures words { (h : HeaderValue) (r : ℕ) (w : World) → FollowsRing h r (ring_held w r) state.now → IsSome (ring_with h r) →
-        result.other_words ≡ has_other_words (shape_of h r) (w.events r) }
-    ensures waits { (h : HeaderValue) (r : ℕ) (w : World) → FollowsRing h r (ring_held w r) state.now → M.words memory.now ≡ w.memory →
-        result.waits_inside ≡ (waits w r && is_inside_descriptor (w.events r)) }
+/// Whether a ring shows one of these harms.
+fn shows_harm<M: WordMemory>(memory: &M, state: &RingState) -> bool
+    ensures order { (h : HeaderValue) (r : ℕ) (w : World) → FollowsRing h r (ring_held w r) state.now → IsSome (ring_with h r) → result ≡ false →
+        is_out_of_order (shape_of h r) (w.events r) ≡ false }
+    ensures words { (h : HeaderValue) (r : ℕ) (w : World) → FollowsRing h r (ring_held w r) state.now → IsSome (ring_with h r) → result ≡ false →
+        has_other_words (shape_of h r) (w.events r) ≡ false }
+    ensures waits { (h : HeaderValue) (r : ℕ) (w : World) → FollowsRing h r (ring_held w r) state.now → M.words memory.now ≡ w.memory → result ≡ false →
+        (waits w r && is_inside_descriptor (w.events r)) ≡ false }
 {
-    RingHarms {
-        out_of_order: state.history.is_out_of_order(),
-        other_words: state.history.has_other_words(),
-        waits_inside: waits_inside(memory, state),
-    }
+    state.history.is_out_of_order()
+        || state.history.has_other_words()
+        || waits_inside(memory, state)
 }
 
 /// Whether there is one of these harms.
@@ -144,57 +178,73 @@ fn harms_after_look<M: WordMemory>(
     ensures { (live : HeaderValue) (w v : World) → HasRingHarms header.now w before → stepped header.now live w (Look ring) ≡ Some v →
         Follows header.now (M.words memory.now) kept.now v → HasRingHarms header.now v result }
 {
-    if is_any(before) {
+    let state = &kept.rings[usize::from(ring)];
+    if is_any(before) || shows_harm(memory, state) {
         return ring_harms(header, memory, kept);
     }
-    if is_any(harms_at(memory, &kept.rings[usize::from(ring)])) {
+    let others = before.inside.without(ring);
+    let inside = others.with(ring, state.history.is_inside());
+    RingHarms { inside, ..before }
+}
+
+/// Whether one of the rings that may be within a descriptor may wait there.
+fn may_wait_inside<M: WordMemory>(memory: &M, kept: &Kept, inside: Inside) -> bool
+    ensures { (h : HeaderValue) (w : World) → Follows h (M.words memory.now) kept.now w → result ≡ false → (r : ℕ) → may_be_inside inside r ≡ true →
+        (waits w r && is_inside_descriptor (w.events r)) ≡ false }
+{
+    match inside {
+        Inside::Nowhere => false,
+        Inside::On(ring) => waits_inside(memory, &kept.rings[usize::from(ring)]),
+        Inside::Anywhere => true,
+    }
+}
+
+/// The harms of all rings after a step by which nothing is taken and no ring comes: where there was none, the rings alone that are within a descriptor
+/// may show one, and only by waiting there.
+fn harms_after_others<M: WordMemory>(
+    header: &Header,
+    memory: &M,
+    kept: &Kept,
+    before: RingHarms,
+) -> RingHarms
+    ensures { (w v : World) → HasRingHarms header.now w before → TakesNothing w v → Follows header.now (M.words memory.now) kept.now v →
+        HasRingHarms header.now v result }
+{
+    if is_any(before) || may_wait_inside(memory, kept, before.inside) {
         return ring_harms(header, memory, kept);
     }
     before
 }
 
-/// The harms of all rings after a step.
+/// The harms of all rings after a step; `comes` says whether it was the row of a ring that comes.
 pub(crate) fn harms_after<M: WordMemory>(
     rings: &Rings,
     memory: &M,
     kept: &Kept,
     before: RingHarms,
     step: &Step,
+    comes: bool,
 ) -> RingHarms
     ensures { (rows : List RowValue) (x y : Scene) → HasRingHarms x.header x.world before → step_made x step.now ≡ Some y →
+        (comes ≡ false → BringsNone step.now x.rows) →
         FollowsScene rings.now rows (M.words memory.now) kept.now y → HasRingHarms y.header y.world result }
 {
     let header = &rings.declared;
+    if comes {
+        return ring_harms(header, memory, kept);
+    }
     match step {
         Step::Look { ring } => harms_after_look(header, memory, kept, before, *ring),
-        _ => ring_harms(header, memory, kept),
+        _ => harms_after_others(header, memory, kept, before),
     }
 }
 
-/// Whether a row surely leaves the rings' harms as they are: it declares blocks, reads an event, or writes a word that keeps its
-/// lowest bit, where a control word has the Cycle bit.
-fn keeps_harms<M: WordMemory>(memory: &M, row: &Row) -> bool
-    ensures { (x y : Scene) (harms : RingHarms) → M.words memory.now ≡ x.world.memory → result ≡ true → row_made x row.now ≡ Some y →
-        HasRingHarms x.header x.world harms → HasRingHarms y.header y.world harms }
-{
-    match row {
-        Row::Sub { .. } => true,
-        Row::Write { at, word } => memory.word(*at) % 2 == *word % 2,
-        Row::Read { .. } => true,
-        _ => false,
-    }
-}
-
-/// Whether the next step surely leaves the rings' harms as they are.
-pub(crate) fn is_quiet<M: WordMemory>(left: &RowsLeft, memory: &M, step: &Step) -> bool
-    ensures { (rings : RingsValue) (k : KeptValue) (x y : Scene) (harms : RingHarms) → FollowsScene rings left.now (M.words memory.now) k x → result ≡ true →
-        step_made x step.now ≡ Some y → HasRingHarms x.header x.world harms → HasRingHarms y.header y.world harms }
+/// Whether the next step is the row of a ring that comes.
+pub(crate) fn brings_ring(left: &RowsLeft, step: &Step) -> bool
+    ensures { result ≡ false → BringsNone step.now left.now }
 {
     match step {
-        Step::NextRow => match left.first() {
-            Some(row) => keeps_harms(memory, row),
-            None => false,
-        },
+        Step::NextRow => matches!(left.first(), Some(Row::Ring { .. })),
         _ => false,
     }
 }

@@ -1,4 +1,4 @@
-use Rattle.controller_model.proofs.Words.{◌≡◌, ◌&&◌, take, list_any, shape_of, World, has_other_words, is_inside_descriptor, is_out_of_order, waits, Follows}
+use Rattle.controller_model.proofs.Words.{◌≡◌, ◌<◌, ◌&&◌, ℕ, true, Some, slice_get, take, list_any, Ring, shape_of, may_be_inside, World, has_other_words, is_inside_descriptor, is_out_of_order, waits, Follows}
 use Rattle.controller_model.proofs.safety.ring_harms.Given as goal
 
 -- the harms of the rings so far
@@ -11,4 +11,6 @@ invariant-loop-ring g l = record {
       l.harms.other_words ≡ list_any (λ ring. has_other_words (shape_of l.header ring.id) (w.events ring.id)) (take l.ring-index l.header.rings);
   waiting : (w : World) → Follows l.header (g.M.WordMemory.words l.memory) l.kept w →
       l.harms.waits_inside ≡ list_any (λ ring. waits w ring.id && is_inside_descriptor (w.events ring.id)) (take l.ring-index l.header.rings);
+  inside : (w : World) → Follows l.header (g.M.WordMemory.words l.memory) l.kept w → (i : ℕ) (q : Ring) → i < l.ring-index → slice_get l.header.rings i ≡ Some q →
+      is_inside_descriptor (w.events q.id) ≡ true → may_be_inside l.harms.inside q.id ≡ true;
 }
