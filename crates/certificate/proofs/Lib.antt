@@ -1,4 +1,6 @@
 pub mod Appending
+pub mod Filling
+pub mod Pieces
 pub mod Records
 pub mod RoundTrip
 pub mod Words

@@ -1,15 +1,25 @@
-//! The leases that bytes spell.
-ghost use Rattle.std.specs.Prelude.{◌≡◌, ◌≢◌, ◌≤◌, ◌/◌, Ok, Err, false, length, drop, IfOk, IfErr, IfSome};
-ghost use Rattle.std.specs.List.{list_all};
-ghost use Rattle.certificate.specs.Spelling.{certificate_of, has_lease_fields, lease_in, leases_in, records_of, spelling};
+//! The leases that bytes spell: of a slice, or as a reader gives them.
+ghost use Rattle.std.specs.Prelude.{◌≡◌, ◌≢◌, ◌≤◌, ◌<◌, Ok, Err, length, take, IfOk, IfErr, IfSome};
+ghost use Rattle.std.specs.Io.KnownBytes.{Consumes, IsAtEnd};
+ghost use Rattle.certificate.specs.Pieces.{AreUnread, IsUnread};
+ghost use Rattle.std.specs.Str.{bytes_eq};
+ghost use Rattle.certificate.specs.Spelling.{certificate_of, magic, records_of, spelling};
 
 use crate::fault::CertFault;
-use byteorder::{ByteOrder, LittleEndian};
+use crate::no_certificate::{NoCertificate, Unread};
+use crate::records_so_far::Records;
 use ring_knowledge::Lease;
-use std::alloc::{AllocError, Global};
+use std::alloc::Global;
+use std::io::{self, ErrorKind, Read};
 
-/// The bytes of a record.
-pub(crate) const RECORD: usize = 24;
+/// The bytes that name the format.
+const MAGIC: &[u8; 8] = b"XHCICRT1";
+
+/// How many bytes are read at a time: whole records.
+const PIECE: usize = 4080;
+
+/// So many pieces are read at most, so that their bytes can be counted.
+const MOST_PIECES: u64 = 1 << 51;
 
 /// The leases that a certificate spells; else the least fault that the bytes have, or want of memory.
 pub fn decode(alloc: Global, bytes: &[u8]) -> Result<Vec<Lease>, CertFault>
@@ -25,96 +35,99 @@ fn certificate_of(alloc: Global, bytes: &[u8]) -> Result<Vec<Lease>, CertFault>
     ensures leases { IfOk result (λ leases. certificate_of bytes.now ≡ Ok leases.items) }
     ensures fault { IfErr result (λ fault. fault ≢ CertFault.Memory → certificate_of bytes.now ≡ Err fault) }
 {
-    match bytes.strip_prefix(b"XHCICRT1") {
+    match bytes.strip_prefix(MAGIC) {
         Some(records) => records_of(alloc, records),
         None => Err(CertFault::Magic),
     }
 }
 
 /// The leases of records, or the least fault that these have.
-#[tactic(auto, unfolding(crate::specs::Spelling::records_of))]
-fn records_of(alloc: Global, records: &[u8]) -> Result<Vec<Lease>, CertFault>
-    ensures leases { IfOk result (λ leases. records_of records.now ≡ Ok leases.items) }
-    ensures fault { IfErr result (λ fault. fault ≢ CertFault.Memory → records_of records.now ≡ Err fault) }
+fn records_of(alloc: Global, bytes: &[u8]) -> Result<Vec<Lease>, CertFault>
+    ensures leases { IfOk result (λ leases. records_of bytes.now ≡ Ok leases.items) }
+    ensures fault { IfErr result (λ fault. fault ≢ CertFault.Memory → records_of bytes.now ≡ Err fault) }
 {
-    if records.len() % RECORD != 0 {
-        return Err(CertFault::Length);
+    let mut records = Records::new(alloc);
+    records.take(bytes)?;
+    match records.into_leases(bytes.len() as u64) {
+        Ok(leases) => Ok(leases),
+        Err(why) => Err(why.fault()),
     }
-    let leases = leases_in(alloc, records)?;
-    if have_lease_fields(&leases) {
-        Ok(leases)
+}
+
+/// The leases of the certificate that a reader gives, which is read to its end by small pieces; the bytes aren't kept. Else what shows
+/// that it is none, or why it can't be read.
+pub fn read_certificate<R: Read>(alloc: Global, reader: &mut R) -> Result<Vec<Lease>, Unread>
+    ensures leases { IfOk result (λ leases. IfSome (R.remaining reader.old) (λ bytes. certificate_of bytes ≡ Ok leases.items)) }
+    ensures unread { IfErr result (λ unread. IfSome (R.remaining reader.old) (λ bytes. IsUnread bytes unread)) }
+{
+    let mut first = [0; 8];
+    let count = fill(reader, &mut first)?;
+    if names_format(&first[..count]) {
+        read_records(alloc, reader)
     } else {
-        Err(CertFault::Field)
+        skip(reader)?;
+        Err(Unread::Bytes(NoCertificate::Magic { first, count }))
     }
 }
 
-fn leases_in(alloc: Global, records: &[u8]) -> Result<Vec<Lease>, AllocError>
-    ensures { IfOk result (λ leases. leases.items ≡ leases_in records.now (length records.now / 24)) }
+/// Whether these are the bytes that name the format.
+fn names_format(first: &[u8]) -> bool
+    ensures { result ≡ bytes_eq first.now magic }
 {
-    let count = records.len() / RECORD;
-    let mut leases = Vec::with_capacity(alloc, count)?;
-    for record in 0..count {
-        leases.push(lease_in(&records[RECORD * record..]))?;
-    }
-    Ok(leases)
+    first == MAGIC.as_slice()
 }
 
-/// The lease in the first 24 bytes.
-#[tactic(auto, unfolding(crate::specs::Spelling::lease_in))]
-fn lease_in(bytes: &[u8]) -> Lease
-    requires { 24 ≤ length bytes.now }
-    ensures { result ≡ lease_in bytes.now }
+/// The same of the records behind the first 8 bytes.
+fn read_records<R: Read>(alloc: Global, reader: &mut R) -> Result<Vec<Lease>, Unread>
+    ensures leases { IfOk result (λ leases. IfSome (R.remaining reader.old) (λ records. records_of records ≡ Ok leases.items)) }
+    ensures unread { IfErr result (λ unread. IfSome (R.remaining reader.old) (λ records. AreUnread records unread)) }
 {
-    Lease {
-        kind: LittleEndian::read_u32(bytes),
-        ring: LittleEndian::read_u32(&bytes[4..]),
-        pos: LittleEndian::read_u64(&bytes[8..]),
-        from: LittleEndian::read_u32(&bytes[16..]),
-        to: LittleEndian::read_u32(&bytes[20..]),
-    }
-}
-
-fn have_lease_fields(leases: &[Lease]) -> bool
-    ensures { result ≡ list_all has_lease_fields leases.now }
-{
-    leases.iter().all(|lease| has_lease_fields(*lease))
-}
-
-fn has_lease_fields(lease: Lease) -> bool
-    ensures { result ≡ has_lease_fields lease }
-{
-    lease.kind <= 2 && (lease.kind == 2 || lease.ring <= 255) && lease.from < lease.to
-}
-
-/// A lease of a certificate that has a field that no lease has, and its number, from 1.
-#[derive(Clone, Copy, Debug, PartialEq, Eq)]
-pub struct BadLease {
-    pub number: usize,
-    pub lease: Lease,
-}
-
-/// The first lease of a certificate that has a field that no lease has.
-pub fn first_bad_lease(bytes: &[u8]) -> Option<BadLease>
-    ensures { IfSome result (λ bad. has_lease_fields bad.lease ≡ false) }
-{
-    match bytes.strip_prefix(b"XHCICRT1") {
-        Some(records) => bad_lease_in(records),
-        None => None,
-    }
-}
-
-/// The first of some records that has such a field.
-fn bad_lease_in(records: &[u8]) -> Option<BadLease>
-    ensures { IfSome result (λ bad. has_lease_fields bad.lease ≡ false) }
-{
-    for record in 0..records.len() / RECORD {
-        let lease = lease_in(&records[RECORD * record..]);
-        if !has_lease_fields(lease) {
-            return Some(BadLease {
-                number: record.saturating_add(1),
-                lease,
-            });
+    let mut records = Records::new(alloc);
+    let mut piece = [0; PIECE];
+    for pieces in 0..MOST_PIECES {
+        let count = fill(reader, &mut piece)?;
+        records.take(&piece[..count])?;
+        if count < PIECE {
+            return match records.into_leases(pieces * PIECE as u64 + count as u64) {
+                Ok(leases) => Ok(leases),
+                Err(why) => Err(Unread::Bytes(why)),
+            };
         }
     }
-    None
+    Err(Unread::Failed(ErrorKind::FileTooLarge.into()))
+}
+
+/// Reads to the end.
+fn skip<R: Read>(reader: &mut R) -> io::Result<()> {
+    let mut piece = [0; PIECE];
+    for _ in 0..u64::MAX {
+        if fill(reader, &mut piece)? < PIECE {
+            return Ok(());
+        }
+    }
+    Err(ErrorKind::FileTooLarge.into())
+}
+
+/// Fills the buffer as far as there are bytes, and says with how many.
+fn fill<R: Read>(reader: &mut R, buffer: &mut [u8]) -> io::Result<usize>
+    ensures bound { IfOk result (λ count. count ≤ length buffer.new) }
+    ensures bytes { IfOk result (λ count. Consumes (R.remaining reader.old) (R.remaining reader.new) (take count buffer.new)) }
+    ensures end { IfOk result (λ count. count < length buffer.new → IsAtEnd (R.remaining reader.new)) }
+{
+    let mut filled = 0;
+    for _ in 0..u64::MAX {
+        if filled == buffer.len() {
+            return Ok(filled);
+        }
+        match reader.read(&mut buffer[filled..]) {
+            Ok(0) => return Ok(filled),
+            Ok(count) => filled += count,
+            Err(error) => {
+                if error.kind() != ErrorKind::Interrupted {
+                    return Err(error);
+                }
+            }
+        }
+    }
+    Err(ErrorKind::Interrupted.into())
 }

@@ -6,7 +6,7 @@ ghost use Rattle.certificate.specs.Sinks.{IsCutBehind, IsCutOff, failures_behind
 ghost use Rattle.certificate.specs.Spelling.{FitsLease, certificate_of, lease_bytes, spelling};
 
 use crate::fault::EncodeFault;
-use crate::reading::RECORD;
+use crate::records_so_far::RECORD;
 use crate::sink::{Failed, Sink};
 use arrayvec::ArrayVec;
 use byteorder::{ByteOrder, LittleEndian};

@@ -1,12 +1,11 @@
--- That what is right of the bytes that were read is right of the certificate's input
-use Rattle.command_runs.proofs.Words.{arith, CertFault, Err, IfSome, IsCertificateOf, IsUncertified, Lease, List, Ok, Option, answer_of_cert_fault, certificate_of, ℕ, ◌≡◌, ◌≢◌, NoLeaseMemory}
+-- That what is right of the certificate that was read is right of its input
+use Rattle.command_runs.proofs.Words.{Bytes, Field, IsNoCertificate, IsUncertified, Length, List, Magic, NoCertificate, NoLeaseMemory, None, OtherField, OtherLength, OtherMagic, Option, Some, answer_of_cert_fault, fault_of, ℕ, ◌≢◌}
 
-pub certificate_held : (known : Option (List ℕ)) (bytes : List ℕ) (leases : List Lease) → IfSome known (λ xs. bytes ≡ xs) → certificate_of bytes ≡ Ok leases → IsCertificateOf known leases
-certificate_held given1 bytes leases same read = grind (arith, certificate_of)
-
-pub uncertified_right : (known : Option (List ℕ)) (bytes : List ℕ) (fault : CertFault) → IfSome known (λ xs. bytes ≡ xs) → (fault ≢ NoLeaseMemory → certificate_of bytes ≡ Err fault) →
-    IsUncertified known (answer_of_cert_fault fault)
-uncertified_right known bytes NoLeaseMemory same bad = tt
-uncertified_right known bytes fault same bad =
-    let other : fault ≢ NoLeaseMemory = λ e. cc in
-    ((grind (arith, certificate_of)), other)
+-- of bytes that are no certificate their least fault is told
+pub uncertified_right : (known : Option (List ℕ)) (why : NoCertificate) → IsNoCertificate known (Bytes why) → IsUncertified known (answer_of_cert_fault (fault_of why))
+uncertified_right None (OtherMagic first count) bad = let other : Magic ≢ NoLeaseMemory = λ e. cc in (tt, other)
+uncertified_right None (OtherLength behind) bad = let other : Length ≢ NoLeaseMemory = λ e. cc in (tt, other)
+uncertified_right None (OtherField lease) bad = let other : Field ≢ NoLeaseMemory = λ e. cc in (tt, other)
+uncertified_right (Some bytes) (OtherMagic first count) bad = let other : Magic ≢ NoLeaseMemory = λ e. cc in (bad.0, other)
+uncertified_right (Some bytes) (OtherLength behind) bad = let other : Length ≢ NoLeaseMemory = λ e. cc in (bad.0, other)
+uncertified_right (Some bytes) (OtherField lease) bad = let other : Field ≢ NoLeaseMemory = λ e. cc in (bad.0, other)

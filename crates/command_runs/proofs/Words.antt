@@ -8,9 +8,12 @@ pub use Rattle.answers.specs.Keeping.{IsKept, IsKeptInPart, kept_bytes}
 pub use Rattle.answers.specs.declared.answer.Answer.{Answer}
 pub use Rattle.answers.specs.declared.answer.Answer.TheVariants.{Accepted, Memory, Verified}
 pub use Rattle.answers.specs.declared.answer.FoundHarm.{FoundHarm}
-pub use Rattle.certificate.specs.Spelling.{certificate_of, spelling}
-pub use Rattle.certificate.specs.declared.fault.CertFault.{CertFault}
-pub use Rattle.certificate.specs.declared.fault.CertFault.TheVariants.{Memory as NoLeaseMemory}
+pub use Rattle.certificate.specs.Pieces.{fault_of}
+pub use Rattle.certificate.specs.Spelling.{spelling}
+pub use Rattle.certificate.specs.declared.fault.CertFault.TheVariants.{Field, Length, Magic, Memory as NoLeaseMemory}
+pub use Rattle.certificate.specs.declared.no_certificate.NoCertificate.{NoCertificate}
+pub use Rattle.certificate.specs.declared.no_certificate.NoCertificate.TheVariants.{Field as OtherField, Length as OtherLength, Magic as OtherMagic}
+pub use Rattle.certificate.specs.declared.no_certificate.Unread.TheVariants.{Bytes}
 pub use Rattle.command_runs.specs.CheckAnswers.{IsCheckAnswer, IsHindered, IsVerdictAlone, answer_of_check_fault}
 pub use Rattle.command_runs.specs.FollowAnswers.{IsFollowAnswer, IsToldOfBytes}
 pub use Rattle.command_runs.specs.HarmAnswers.{IsHarmFound}
@@ -19,7 +22,7 @@ pub use Rattle.command_runs.specs.ReplayAnswers.{IsReplayBeside, IsReplayed}
 pub use Rattle.command_runs.specs.ScheduleAnswers.{IsScheduleAnswer, IsScheduled}
 pub use Rattle.command_runs.specs.ShowAnswers.{IsPageAnswer, IsShowAnswer}
 pub use Rattle.command_runs.specs.TraceTexts.{IsFirstBad, IsTextOf, IsTraceAnswer, IsUnread}
-pub use Rattle.command_runs.specs.VerifyAnswers.{IsCertificateOf, IsUncertified, IsVerdictBeside, IsVerified}
+pub use Rattle.command_runs.specs.VerifyAnswers.{IsNoCertificate, IsUncertified, IsVerdictBeside, IsVerified}
 pub use Rattle.command_runs.specs.VersionNotes.{in_version_three, is_behind}
 unfoldable pub use Rattle.command_runs.specs.VersionNotes.{breaks_no_rule_of_three}
 pub use Rattle.ownership_checker.specs.Following.{IsToldBad, IsToldSoFar, ToldSoFar, told_as_it_comes}

@@ -2,7 +2,9 @@
 use Rattle.std.specs.Prelude.{false, ◌≡◌, ◌≢◌, ◌⊎◌, ℕ, List, Option, Some, None, Ok, Err}
 use Rattle.trace_reader.specs.Reading.{TraceText}
 use Rattle.ring_knowledge.specs.declared.lease.Lease.{Lease}
+use Rattle.certificate.specs.Pieces.{IsUnread}
 use Rattle.certificate.specs.Spelling.{certificate_of}
+use Rattle.certificate.specs.declared.no_certificate.Unread.{Unread}
 use Rattle.certificate.specs.declared.fault.CertFault.{CertFault}
 use Rattle.certificate.specs.declared.fault.CertFault.TheVariants.{Memory as NoLeaseMemory}
 pub use Rattle.ownership_checker.specs.RingPasses.Accepted.{IsVerified}
@@ -14,6 +16,11 @@ use Rattle.command_runs.specs.TraceTexts.{IsTraceAnswer}
 abbrev pub IsCertificateOf : Option (List ℕ) → List Lease → Type 0
 IsCertificateOf None leases = Unit {0}
 IsCertificateOf (Some bytes) leases = certificate_of bytes ≡ Ok leases
+
+-- why the known bytes of an input weren't read as leases; of bytes that aren't known nothing is said
+abbrev pub IsNoCertificate : Option (List ℕ) → Unread → Type 0
+IsNoCertificate None unread = Unit {0}
+IsNoCertificate (Some bytes) unread = IsUnread bytes unread
 
 -- the least fault of the known bytes of an input, which are no certificate
 abbrev pub IsLeastFault : Option (List ℕ) → CertFault → Type 0

@@ -1,7 +1,11 @@
 //! Reads an input whole, or its first lines.
-ghost use Rattle.std.specs.Prelude.{◌≡◌, ◌≤◌, length, IfOk, IfSome, IsErr};
+ghost use Rattle.std.specs.Prelude.{◌≡◌, ◌≤◌, length, IfErr, IfOk, IfSome, IsErr};
 ghost use Rattle.answers.specs.Inputs.{opened};
+ghost use Rattle.certificate.specs.Pieces.{IsFailed};
+ghost use Rattle.command_runs.specs.VerifyAnswers.{IsCertificateOf, IsNoCertificate};
 
+use certificate::{Unread, read_certificate};
+use ring_knowledge::Lease;
 use std::alloc::Global;
 use std::io::{self, ErrorKind, Read};
 
@@ -18,6 +22,17 @@ pub fn bytes_of<R: Read + Drop>(alloc: Global, input: io::Result<R>) -> io::Resu
 {
     let mut input = input?;
     read_whole(alloc, &mut input)
+}
+
+/// The leases of the certificate that an input holds, or why there are none.
+pub fn leases_of<R: Read + Drop>(alloc: Global, input: io::Result<R>) -> Result<Vec<Lease>, Unread>
+    ensures leases { IfOk result (λ leases. IsCertificateOf (opened R.remaining input) leases.items) }
+    ensures unread { IfErr result (λ unread. IsNoCertificate (opened R.remaining input) unread) }
+    ensures unopened { IsErr input → IsErr result }
+    ensures failed { IsErr input → IfErr result IsFailed }
+{
+    let mut input = input?;
+    read_certificate(alloc, &mut input)
 }
 
 /// The bytes that a reader still has. They are read by small pieces, since a buffer for all of them would be zeroed first.

@@ -1,11 +1,11 @@
 //! Verifies a certificate beside a trace, and finds what explains the answer.
 use crate::found::{About, Found, found_failed, told_as_read};
-use crate::reading::bytes_of;
+use crate::reading::leases_of;
 use crate::recorded::Recorded;
 use crate::stream_answers::verified_answer;
 use crate::told::Told;
 use answers::{Answer, remarks_on_certificate};
-use certificate::{CertFault, decode};
+use certificate::{NoCertificate, Unread};
 use ring_knowledge::Lease;
 use std::alloc::{AllocError, Global};
 use std::io::{self, Read, Seek};
@@ -19,20 +19,14 @@ where
     F: FnOnce() -> io::Result<R> + Drop,
     requires { F.pre open_trace }
 {
-    let bytes = match bytes_of(alloc, certificate) {
-        Ok(bytes) => bytes,
-        Err(error) => return found_failed(alloc, About::Other, error),
-    };
-    match decode(alloc, &bytes) {
+    match leases_of(alloc, certificate) {
         Ok(leases) => verified_beside(alloc, &leases, open_trace()),
-        Err(fault) => {
-            let told = told_on_certificate(alloc, &bytes, fault);
-            Found {
-                answer: Answer::from(fault),
-                about: About::Other,
-                told,
-            }
-        }
+        Err(Unread::Bytes(why)) => Found {
+            answer: Answer::from(why.fault()),
+            about: About::Other,
+            told: told_on_certificate(alloc, &why),
+        },
+        Err(Unread::Failed(error)) => found_failed(alloc, About::Other, error),
     }
 }
 
@@ -59,9 +53,7 @@ fn verified_beside<R: Read + Seek + Drop>(
 }
 
 /// What is wrong with the bytes of a certificate.
-fn told_on_certificate(alloc: Global, bytes: &[u8], fault: CertFault) -> Result<Told, AllocError> {
-    match remarks_on_certificate(alloc, bytes, fault)? {
-        Some(remarks) => Ok(Told::remarked(alloc, remarks)),
-        None => Ok(Told::nothing(alloc)),
-    }
+fn told_on_certificate(alloc: Global, why: &NoCertificate) -> Result<Told, AllocError> {
+    let remarks = remarks_on_certificate(alloc, why)?;
+    Ok(Told::remarked(alloc, remarks))
 }

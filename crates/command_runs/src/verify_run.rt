@@ -6,18 +6,19 @@ ghost use Rattle.answers.specs.Telling.{IsNote, IsTold};
 ghost use Rattle.command_runs.specs.VerifyAnswers.{IsUncertified, IsVerdictBeside, IsVerifyAnswer};
 
 use crate::read_note::note_as_read;
-use crate::reading::bytes_of;
+use crate::reading::leases_of;
 use crate::recorded::Recorded;
 use crate::stream_answers::verified_answer;
 use answers::{Answer, Asked, Status, note_on_certificate, tell, tell_failure};
-use certificate::decode;
+use certificate::Unread;
 use ring_knowledge::Lease;
 use std::alloc::{AllocError, Global};
 use std::io::{self, Read, Seek, Write};
 
 /// Verifies the certificate that `certificate` holds beside the trace of the input that `open_trace` opens, once the certificate was
-/// read; where it is none, the trace isn't opened. The rows are judged as they are read, and aren't kept. `yes` or `no` goes to `out`, and what hinders it to `err`. `beside` is how the
-/// certificate is called in messages.
+/// read; where it is none, the trace isn't opened. Of the certificate its leases are kept, and not its bytes; the rows are judged as
+/// they are read, and aren't kept. `yes` or `no` goes to `out`, and what hinders it to `err`. `beside` is how the certificate is called in
+/// messages.
 pub fn run_verify<C, R, F, O: Write, E: Write>(
     alloc: Global,
     asked: &Asked,
@@ -42,19 +43,16 @@ where
     ensures unopened { ((trace : _) → F.post open_trace trace → IsErr trace) → out.new ≡ out.old }
     ensures unanswered { ((trace : _) → F.post open_trace trace → IsErr trace) → goes_out result ≡ false }
 {
-    let bytes = match bytes_of(alloc, certificate) {
-        Ok(bytes) => bytes,
-        Err(error) => {
-            let read = asked.of(beside);
-            return tell_failure(alloc, &read, error, out, err);
-        }
-    };
-    match decode(alloc, &bytes) {
+    match leases_of(alloc, certificate) {
         Ok(leases) => verify_beside(alloc, asked, &leases, open_trace(), out, err),
-        Err(fault) => {
-            let answer = Answer::from(fault);
-            let note = note_on_certificate(alloc, asked, &bytes, &answer);
+        Err(Unread::Bytes(why)) => {
+            let answer = Answer::from(why.fault());
+            let note = note_on_certificate(alloc, asked, &why, &answer);
             tell(alloc, asked.explains, answer, note, out, err)
+        }
+        Err(Unread::Failed(error)) => {
+            let read = asked.of(beside);
+            tell_failure(alloc, &read, error, out, err)
         }
     }
 }

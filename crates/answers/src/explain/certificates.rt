@@ -1,6 +1,6 @@
 //! What is said of the bytes of a certificate: why they are none, or which lease isn't the trace's.
 use super::words::lease_words;
-use certificate::{BadLease, CertFault, first_bad_lease};
+use certificate::{BadLease, NoCertificate};
 use diagnostics::{Colors, error_line, help_line, note_line};
 use ring_knowledge::Lease;
 use std::alloc::{AllocError, Global};
@@ -35,61 +35,49 @@ impl Remarks {
 pub fn no_certificate(
     alloc: Global,
     colors: Colors,
-    bytes: &[u8],
-    fault: CertFault,
+    why: &NoCertificate,
 ) -> Result<String, AllocError> {
+    let fault = why.fault();
     let (number, name) = (fault.number(), fault.name());
-    match remarks_on_certificate(alloc, bytes, fault)? {
-        Some(remarks) => remarks.lines(alloc, colors, &format!(in alloc; "{number} {name}")?),
-        None => Ok(String::new(alloc)),
-    }
+    let remarks = remarks_on_certificate(alloc, why)?;
+    remarks.lines(alloc, colors, &format!(in alloc; "{number} {name}")?)
 }
 
-/// What is said of bytes that are no certificate; nothing where these are one.
-pub fn remarks_on_certificate(
-    alloc: Global,
-    bytes: &[u8],
-    fault: CertFault,
-) -> Result<Option<Remarks>, AllocError> {
-    let (head, note) = match fault {
-        CertFault::Magic => (
+/// What is said of bytes that are no certificate.
+pub fn remarks_on_certificate(alloc: Global, why: &NoCertificate) -> Result<Remarks, AllocError> {
+    let (head, note) = match why {
+        NoCertificate::Magic { first, count } => (
             String::from_str(alloc, "the file isn't a certificate")?,
-            first_bytes(alloc, bytes)?,
+            first_bytes(alloc, first, *count)?,
         ),
-        CertFault::Length => (
+        NoCertificate::Length { behind } => (
             String::from_str(
                 alloc,
                 "the certificate is cut off, or has too much behind it",
             )?,
-            leases_and_rest(alloc, bytes)?,
+            leases_and_rest(alloc, *behind)?,
         ),
-        CertFault::Field | CertFault::Memory => match first_bad_lease(bytes) {
-            Some(bad) => (lease_head(alloc, bad)?, lease_fault(alloc, bad.lease)?),
-            None => return Ok(None),
-        },
+        NoCertificate::Field(bad) => (lease_head(alloc, *bad)?, lease_fault(alloc, bad.lease)?),
     };
     let mut notes = Vec::new(alloc);
     notes.push(note)?;
     let help = String::from_str(alloc, HELP)?;
-    Ok(Some(Remarks { head, notes, help }))
+    Ok(Remarks { head, notes, help })
 }
 
-/// What stands where a certificate's first bytes must.
-fn first_bytes(alloc: Global, bytes: &[u8]) -> Result<String, AllocError> {
-    let count = bytes.len();
+/// What stands where a certificate's first bytes must: so many of these.
+fn first_bytes(alloc: Global, first: &[u8; 8], count: usize) -> Result<String, AllocError> {
     if count < 8 {
         return format!(in alloc;
             "it has {count} bytes, and a certificate begins with the 8 bytes `XHCICRT1`"
         );
     }
-    let shown = &bytes[..count.min(8)];
-    let found = shown.escape_ascii();
+    let found = first.as_slice().escape_ascii();
     format!(in alloc; "it begins with `{found}`, and must begin with `XHCICRT1`")
 }
 
-/// How many leases there are, and how many bytes behind them.
-fn leases_and_rest(alloc: Global, bytes: &[u8]) -> Result<String, AllocError> {
-    let behind = bytes.len().saturating_sub(8);
+/// How many leases so many bytes are, and how many bytes are behind them.
+fn leases_and_rest(alloc: Global, behind: u64) -> Result<String, AllocError> {
     let (leases, rest) = (behind / 24, behind % 24);
     format!(in alloc;
         "behind its first 8 bytes it has {behind}, which are {leases} leases of 24 bytes and {rest} bytes more"

@@ -11,6 +11,7 @@ mod words;
 use crate::answer::Answer;
 use crate::replay_lines::ReplayEnd;
 use block_text::BlockWords;
+use certificate::NoCertificate;
 use certificates::{no_certificate, other_lease};
 pub use certificates::{Remarks, remarks_on_certificate, remarks_on_leases};
 use controller_findings::{notes_on_harm, notes_on_stuck};
@@ -250,11 +251,11 @@ pub fn diagnostic_on_schedule(
     Ok(Some(diagnostic))
 }
 
-/// What a person is told of an answer to the bytes of a certificate, beside its line.
+/// What a person is told of the answer to bytes that are no certificate, beside its line.
 pub fn note_on_certificate(
     alloc: Global,
     asked: &Asked,
-    bytes: &[u8],
+    why: &NoCertificate,
     answer: &Answer,
 ) -> Result<String, AllocError>
     ensures { IfOk result (λ note. IsNote asked.now.explains answer.now (string_bytes note)) }
@@ -262,10 +263,7 @@ pub fn note_on_certificate(
     if !asked.explains {
         return Ok(String::new(alloc));
     }
-    match answer {
-        Answer::BadCertificate { fault } => no_certificate(alloc, asked.colors, bytes, *fault),
-        _ => Ok(String::new(alloc)),
-    }
+    no_certificate(alloc, asked.colors, why)
 }
 
 /// What a person is told of the answer to a certificate that isn't the list of its trace's leases: the first that differs.
