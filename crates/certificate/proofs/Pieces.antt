@@ -1,5 +1,5 @@
 -- Records piece by piece: those of a piece stand behind those before it, and the first that is none stays the first
-use Rattle.certificate.proofs.Words.{◌≡◌, ◌+◌, ◌*◌, ◌/◌, ◌%◌, ◌==◌, ◌≤◌, ◌∷◌, ◌++◌, ◌∙◌, ℕ, suc, zero, true, false, List, [], Option, Some, None, Ok, Err, length, take, drop, add-zero, zero-add, arith, sym, ap, refl, subst, cond, eq-eqb, inl, inr, is_some, drop-append-le, drop-take, length-drop, take-append-le, get_or-take, cases_Bool, nat_tests, Lease, BadLease, Length, Field, first_bad, has_lease_fields, lease_in, leases_in, list_all, little_number, records_of}
+use Rattle.certificate.proofs.Words.{◌≡◌, ◌+◌, ◌*◌, ◌/◌, ◌%◌, ◌==◌, ◌≤◌, ◌<◌, ◌∷◌, ◌++◌, ◌∙◌, ℕ, suc, zero, true, false, List, [], Option, Some, None, Ok, Err, length, take, drop, add-zero, zero-add, arith, sym, ap, refl, subst, cond, eq-eqb, inl, inr, is_some, drop-append-le, drop-take, length-drop, take-append-le, get_or-take, cases_Bool, nat_tests, Lease, BadLease, Length, Field, first_bad, has_lease_fields, lease_in, leases_in, list_all, little_number, records_of}
 
 -- ---- the first that is none
 
@@ -93,23 +93,13 @@ bad_seen None items seen l n none bad size h =
 
 number4 : (n : ℕ) (bytes : List ℕ) → 4 ≤ n → little_number 4 (take n bytes) ≡ little_number 4 bytes
 number4 n bytes long =
-    let a = get_or-take n bytes 0 0 (omega arith) in
-    let b = get_or-take n bytes 1 0 (omega arith) in
-    let c = get_or-take n bytes 2 0 (omega arith) in
-    let d = get_or-take n bytes 3 0 (omega arith) in
-    omega (arith, a, b, c, d)
+    let at = λ (i : ℕ) (low : i < n). get_or-take n bytes i 0 low in
+    omega (arith, at 0 (omega arith), at 1 (omega arith), at 2 (omega arith), at 3 (omega arith))
 
 number8 : (n : ℕ) (bytes : List ℕ) → 8 ≤ n → little_number 8 (take n bytes) ≡ little_number 8 bytes
 number8 n bytes long =
-    let a = get_or-take n bytes 0 0 (omega arith) in
-    let b = get_or-take n bytes 1 0 (omega arith) in
-    let c = get_or-take n bytes 2 0 (omega arith) in
-    let d = get_or-take n bytes 3 0 (omega arith) in
-    let e = get_or-take n bytes 4 0 (omega arith) in
-    let f = get_or-take n bytes 5 0 (omega arith) in
-    let g = get_or-take n bytes 6 0 (omega arith) in
-    let h = get_or-take n bytes 7 0 (omega arith) in
-    omega (arith, a, b, c, d, e, f, g, h)
+    let at = λ (i : ℕ) (low : i < n). get_or-take n bytes i 0 low in
+    omega (arith, at 0 (omega arith), at 1 (omega arith), at 2 (omega arith), at 3 (omega arith), at 4 (omega arith), at 5 (omega arith), at 6 (omega arith), at 7 (omega arith))
 
 same_fields : (k r p f t a b c d e : ℕ) → k ≡ a → r ≡ b → p ≡ c → f ≡ d → t ≡ e →
     ◌≡◌ {A = Lease} (record { kind = k; ring = r; pos = p; from = f; to = t }) (record { kind = a; ring = b; pos = c; from = d; to = e })
