@@ -31,8 +31,8 @@ pub fn leases_of<R: Read + Drop>(alloc: Global, input: io::Result<R>) -> Result<
     ensures unopened { IsErr input → IsErr result }
     ensures failed { IsErr input → IfErr result IsFailed }
 {
-    let mut input = input?;
-    read_certificate(alloc, &mut input)
+    let mut certificate = input?;
+    read_certificate(alloc, &mut certificate)
 }
 
 /// The bytes that a reader still has. They are read by small pieces, since a buffer for all of them would be zeroed first.
