@@ -1,8 +1,8 @@
 //! What xHCI allows and the profile leaves out.
 use commands::Command;
 use row_history::{Case, Shown, command_at, last_write, trb_at, type_name};
-use traces::{Row, Version};
-use trb::{Block, BlockFlags, BlockKind, Flags};
+use traces::Row;
+use trb::{Block, BlockFlags, BlockKind, Flags, Profile};
 
 /// A row with a form of the standard that isn't judged.
 pub fn not_in_profile(case: &mut Case, row: &Row) {
@@ -62,7 +62,7 @@ fn note_endpoint(case: &mut Case, context: u64, endpoint: u8) {
             &[],
         );
     }
-    if kind % 4 == 1 && case.header.version != Version::Three {
+    if kind % 4 == 1 && !case.header.version.is_lenient() {
         case.note(
             "DCI {} is added as an isochronous endpoint (EP Type {}): `xtrace 3` allows that, while its ring gets no TD",
             &[Shown::Small(endpoint), Shown::Small(kind)],
@@ -77,9 +77,10 @@ fn note_endpoint(case: &mut Case, context: u64, endpoint: u8) {
 
 /// Notes which of some TRBs is left out, and why.
 pub fn note_left_out(case: &mut Case, blocks: &[Block]) {
+    let profile = case.header.version.profile();
     let index = blocks
         .iter()
-        .position(|block| is_left_out(*block))
+        .position(|block| is_left_out(profile, *block))
         .unwrap_or(usize::MAX);
     let Some(block) = blocks.get(index) else {
         case.say("one of the TRBs");
@@ -88,7 +89,7 @@ pub fn note_left_out(case: &mut Case, blocks: &[Block]) {
     let number = Shown::Nth((index as u64).saturating_add(1));
     let kind = block.kind();
     match kind {
-        _ if kind.is_left_out_transfer() => case.note(
+        _ if kind.is_left_out_transfer(profile) => case.note(
             "the {} TRB is of type {}, which isn't judged",
             &[number, Shown::Name(type_name(kind))],
         ),
@@ -112,10 +113,10 @@ pub fn note_left_out(case: &mut Case, blocks: &[Block]) {
 }
 
 /// Whether a TRB is left out, by its type, its target or a field.
-fn is_left_out(block: Block) -> bool {
+fn is_left_out(profile: Profile, block: Block) -> bool {
     let kind = block.kind();
     if kind.is_transfer() {
-        return kind.is_left_out_transfer() || block.w[2] >> 22 != 0;
+        return kind.is_left_out_transfer(profile) || block.w[2] >> 22 != 0;
     }
     match kind {
         BlockKind::SetTrDequeue => block.w[0] / 2 % 8 != 0,

@@ -72,7 +72,7 @@ pub(crate) fn breaks_older_rules_alone(
         Err(ReadFault::Memory) => return Err(AllocError),
     };
     match trace.header.version {
-        Version::Three => Ok(false),
+        Version::Three | Version::Four => Ok(false),
         Version::One | Version::Two => breaks_no_rule_of_three(alloc, trace, row),
     }
 }

@@ -24,5 +24,5 @@ pub use Rattle.world_state.proofs.Ranges.{any_in_range, none_in_range}
 pub use Rattle.controller_model.proofs.StepLemmas.{made_stopped, step_counted, step_more, step_uncounted}
 pub use Rattle.controller_model.proofs.WithdrawLemmas.{ends_here, goes_on, withdraws_inside, withdraws_one, withdraws_past}
 pub use Rattle.controller_model.proofs.Words.{AddressDevice, All-push, Block, Bool, ChangesOnly, Command, ConfigureEndpoint, ContextSize, Declarations, Declared, Declares, Endpoint, EndpointState, Erdp, Err, Evt, Follows, FollowsEndpoints, FollowsHolder, FollowsRegisters, FollowsRing, FollowsRings, FollowsScene, FollowsSlots, HasRingHarms, HasRoom, Header, HeaderValue, Holder, IsEndpoint, IsFollowed, IsPart, IsSome, IsStep, Kept, List, Look, None, Off, Ok, Option, Placed, Posted, Read, Register, Registers, Ring, RingHarms, RingHeld, RingState, Row, RowSeen, Running, Scene, Seen, Sees, SetTrDequeue, Slot, SlotState, Some, StepFault, Sub, UnderWay, Usbcmd, World, Write, Xfer, [], address_of, addressed, aligned, and_from, ap, append_assoc, arith, as_declared, base_address, bits, block_at, blocks_of, bound, cases_Bool, cases_eq, cases_lt, changed_at, command_of, common_steps, completed, cond-false, cond-true, cond_both, context_cycle, context_pointer, cycle, drop, endpoint, entries, eq-eqb, eqb-true, err_from_is_err_and, fails_before_first, false, false_from_ne_true, false≢true, filter, find, freed, get_or, has_flag, has_own, held, id_of, if◌then◌else◌, inl, input_context_bytes, inr, is_changed_behind, is_dropped, is_elsewhere, is_event_place, is_holder, is_inside, is_it, is_other, is_ring, is_set, is_some, is_transfer_kind, le-leb, le-ltb, length, length-append, length-remove, length-set, length-take-le, link_target-crossed, list_any, lt-ltb, ltb-false, may_get, may_touch, named_by, named_context, nat_le, nat_lt, ne_eqb, none-some, not, noted, option_and_then, option_copied, option_map, or-true, or_left, or_right, own_ring, place_count, places_from, pointed, pointer, position, position-Some, position_from, put, put_pair, range_with_len, refl, released, remove, ring_cycle_state, ring_held, ring_with, row_made, row_next, rules, same_Some, set, shape_or, slice_get, slice_get_within, slice_index, slot, slot_success, step_made, subst, suc, sym, take, take_all, take_at_read, taken_held, told, true, turned_off, unwrap_or, with_register, word, written_at, zero, ℕ, ◌%◌, ◌&&◌, ◌*◌, ◌++◌, ◌+◌, ◌-◌, ◌<◌, ◌==◌, ◌^◌, ◌||◌, ◌∙◌, ◌∷◌, ◌≡◌, ◌≢◌, ◌≤◌}
-unfoldable pub use Rattle.controller_model.proofs.Words.{activated, added_endpoints, bell_row, changed_by, changed_by_all, changes, command_begun, command_id, counted, crossed, declared, declared_at, declared_next, disabled, effect, emptied, ended, ended_with, event_read, event_shape, finished, finished_as, has_one_of, has_other_words, in_state, inactive, is_had_by_another, is_inside_descriptor, is_out_of_order, is_scribbled, length_from, look_shows, looked, looked_at, made, may_scribble, no_ops, opening, passes_end, placed, placed_on, posted, register_row, reported, ring_having, row_done, run_or_stop, seen_by_look, shape_of, shows, some_ring, split_at, stepped, stored, stored_block, succeeded, taken, taken_on, takes_of, unreported, valued, waits, while_running, with_dequeue, with_reported, with_ring, without_descriptor, without_ring}
+unfoldable pub use Rattle.controller_model.proofs.Words.{activated, added_endpoints, bell_row, changed_by, changed_by_all, changes, command_begun, command_id, counted, crossed, declared, declared_at, declared_next, disabled, effect, emptied, ended, ended_with, event_read, event_shape, finished, finished_as, has_one_of, has_other_words, in_state, inactive, is_had_by_another, is_inside_descriptor, is_out_of_order, is_scribbled, length_from, look_shows, looked, looked_at, made, may_scribble, no_ops, opening, passes_end, placed, placed_on, posted, register_row, reported, ring_having, row_done, run_or_stop, seen_by_look, shape_of, shows, some_ring, split_at, stepped, stored, stored_block, succeeded, taken, taken_on, takes_of, typed, unreported, valued, waits, while_running, with_dequeue, with_reported, with_ring, without_descriptor, without_ring}
 pub use Rattle.world_state.proofs.Pairs.{put_pair_index, put_pair_same, put_pair_slot}

@@ -18,7 +18,7 @@ use Rattle.world_state.specs.World.{World, RingEvent, Took, Placed, UnderWay}
 unfoldable use Rattle.world_state.specs.World.{stored, stored_block}
 unfoldable use Rattle.world_state.specs.Harms.{is_out_of_order, has_other_words, is_inside_descriptor}
 unfoldable use Rattle.world_state.specs.Posts.{posted, reported, reported_on, report_code, report_success, report_error, report_stop, with_reported, stopped_with, other_posted}
-unfoldable use Rattle.world_state.specs.Bindings.{is_had_by_another, changed_by, changed_by_all, placed, placed_on, disabled, in_state, inactive, effect}
+unfoldable use Rattle.world_state.specs.Bindings.{is_had_by_another, changed_by, changed_by_all, placed, placed_on, disabled, typed, in_state, inactive, effect}
 unfoldable use Rattle.world_state.specs.Finishes.{finished, finished_as, ended, ended_with, succeeded}
 unfoldable use Rattle.world_state.specs.Steps.{made, stepped, counted, scribbled, while_running}
 use Rattle.traces.specs.declared.row.Row.TheVariants.{Sub, Write, Reg, Bell, Read, Ring as RingRow, Free as FreeRow, Nop as NopRow}
@@ -100,7 +100,7 @@ unfolding placed_on
 placed_on_nothing w v s i a c state x7 e = search (rules, None, Some, if_none, placed_nothing)
 
 changed_nothing : (h : Header) (c : Command) (w v : World) (change : Change) → changed_by h c w change ≡ Some v → TakesNothing w v
-unfolding changed_by disabled in_state
+unfolding changed_by disabled typed in_state
 changed_nothing h c w v x4 e = search (rules, events_same, of_some, placed_on_nothing, inactive_events)
 
 and_then : {X Y : Type 0} (f : X → Option Y) (o : Option X) (v : Y) → option_and_then f o ≡ Some v → (x : X) × (o ≡ Some x) × (f x ≡ Some v)

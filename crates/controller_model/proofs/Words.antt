@@ -9,7 +9,7 @@ pub use Rattle.commands.specs.declared.command.Command.TheVariants.{AddressDevic
 pub use Rattle.commands.specs.declared.state.EndpointState.{EndpointState}
 pub use Rattle.commands.specs.declared.state.EndpointState.TheVariants.{Disabled as Off, Running, Stopped}
 pub use Rattle.commands.specs.declared.state.SlotState.{SlotState}
-pub use Rattle.contexts.specs.Contexts.{context_cycle, context_pointer, has_flag, input_add_flag, input_context_bytes, is_dropped}
+pub use Rattle.contexts.specs.Contexts.{context_cycle, context_pointer, has_flag, has_isochronous, input_add_flag, input_context_bytes, is_dropped}
 unfoldable pub use Rattle.contexts.specs.Contexts.{added_endpoints}
 pub use Rattle.contexts.specs.declared.size.ContextSize.{ContextSize}
 pub use Rattle.contexts.specs.declared.size.ContextSize.TheVariants.{Bytes32}
@@ -93,12 +93,12 @@ pub use Rattle.trb.specs.Kind.{is_command_completion, is_other_event, is_transfe
 pub use Rattle.trb.specs.declared.kind.BlockKind.{BlockKind}
 pub use Rattle.trb.specs.declared.ring_kind.RingKind.TheVariants.{Cmd}
 pub use Rattle.world_state.specs.PlacingCommands.{HasRoom, IsWell, places_from}
-unfoldable pub use Rattle.world_state.specs.Bindings.{changed_by, changed_by_all, disabled, effect, has_one_of, in_state, inactive, is_had_by_another, placed, placed_on}
+unfoldable pub use Rattle.world_state.specs.Bindings.{changed_by, changed_by_all, disabled, effect, has_one_of, in_state, inactive, is_had_by_another, placed, placed_on, typed}
 unfoldable pub use Rattle.world_state.specs.DriverRows.{activated, bell_row, declared, endpoint_bell, event_read, register_row, row_done, run_or_stop, started_with, valued, with_dequeue}
 unfoldable pub use Rattle.world_state.specs.Finishes.{ended, ended_with, finished, finished_as, passes_end, succeeded}
 unfoldable pub use Rattle.world_state.specs.Harms.{harm_of, harms, has_changed_context, has_other_words, is_changed_since, is_context_changed, is_end, is_inside_descriptor, is_out_of_order, is_right_place, waits}
 unfoldable pub use Rattle.world_state.specs.Looks.{command_begun, crossed, looked, looked_at, may_scribble, seen_by_look, taken, taken_on}
-unfoldable pub use Rattle.world_state.specs.Posts.{can_post, is_last, other_posted, posted, report_code, report_error, report_stop, report_success, reported, reported_on, stopped_with, with_reported, with_stopped}
+unfoldable pub use Rattle.world_state.specs.Posts.{can_post, code_posted, is_last, other_posted, posted, report_code, report_error, report_stop, report_success, reported, reported_on, stopped_with, with_reported, with_stopped}
 pub use Rattle.world_state.specs.RingRows.{is_in_way}
 unfoldable pub use Rattle.world_state.specs.RingRows.{emptied, listed, may_come, without_descriptor}
 unfoldable pub use Rattle.traces.specs.LivingRings.{with_ring, without_ring}

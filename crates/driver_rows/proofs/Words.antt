@@ -121,5 +121,6 @@ pub use Rattle.trace_record.specs.declared.ring_set.RingSet.{RingSet}
 pub use Rattle.trace_record.specs.declared.row_place.RowPlace.{RowPlace}
 pub use Rattle.trace_record.specs.declared.trace_record.TraceRecord.{TraceRecord}
 pub use Rattle.traces.specs.Header.{no_shape}
-pub use Rattle.traces.specs.Versions.{is_three}
+pub use Rattle.traces.specs.Versions.{is_lenient, profile_of}
+pub use Rattle.trb.specs.declared.profile.Profile.{Profile}
 pub use Rattle.trb.specs.Block.{aligned as address}

@@ -59,3 +59,13 @@ pub use Rattle.trace_record.specs.declared.device_record.unfinished.UnfinishedCo
 pub use Rattle.trace_record.specs.declared.range_words.areas.Areas.{Areas}
 pub use Rattle.trace_record.specs.declared.ring_set.RingSet.{RingSet}
 pub use Rattle.trace_record.specs.declared.trace_record.TraceRecord.{TraceRecord}
+pub use Rattle.commands.specs.Changes.{Types, typed_by_context}
+pub use Rattle.contexts.specs.Contexts.{endpoint_type, has_isochronous, input_add_flag, input_endpoint, is_isochronous}
+unfoldable pub use Rattle.ownership_rules.specs.Events.{is_code_of_profile}
+unfoldable pub use Rattle.ring_knowledge.specs.Completions.{typed}
+unfoldable pub use Rattle.ring_knowledge.specs.Rings.{code_told}
+pub use Rattle.std.proofs.Common.{le-ltb, lt-ltb}
+pub use Rattle.std.specs.Prelude.{◌%◌, ◌/◌}
+pub use Rattle.trace_record.proofs.DeviceSlots.TurnedOff.{none_below, one_more}
+pub use Rattle.trb.specs.CompletionCode.{is_of_service, is_stopping}
+pub use Rattle.std.proofs.lemmas.Bool.{OnTrue_from}

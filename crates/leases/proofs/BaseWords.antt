@@ -47,7 +47,7 @@ pub use Rattle.ring_knowledge.proofs.Words.{Declares, FollowsRing, IsShape, Open
 unfoldable pub use Rattle.ring_knowledge.proofs.Words.{register_written, valued}
 unfoldable pub use Rattle.ring_knowledge.specs.Learned.{event_read}
 pub use Rattle.ring_knowledge.specs.Rings.{Crossing, Given, Position}
-unfoldable pub use Rattle.ring_knowledge.specs.Rings.{spot_on}
+unfoldable pub use Rattle.ring_knowledge.specs.Rings.{code_told, spot_on}
 unfoldable pub use Rattle.ring_knowledge.specs.Transfers.{broken_off, passed, stopped_at, transfer_read, transferred, transferred_at}
 unfoldable pub use Rattle.ring_knowledge.specs.Writes.{device_named, no_device}
 pub use Rattle.ring_knowledge.specs.declared.lease.Lease.{Lease}
@@ -125,7 +125,9 @@ pub use Rattle.traces.specs.declared.register.Register.TheVariants.{Dcbaap}
 pub use Rattle.traces.specs.declared.row.Row.TheVariants.{Ring as RingRow, Free as FreeRow}
 pub use Rattle.traces.specs.declared.version.Version.TheVariants.{Three}
 pub use Rattle.trb.specs.Block.{endpoint}
-pub use Rattle.trb.specs.CompletionCode.{is_halting, is_trb_error}
+pub use Rattle.trb.specs.CompletionCode.{is_halting, is_of_service, is_trb_error}
 pub use Rattle.trb.specs.declared.block.Block.{Block as Trb}
 pub use Rattle.trb.specs.declared.fault.Fault.{Fault}
 pub use mathlib.Core.List.{reverse_aux}
+pub use Rattle.commands.specs.Changes.{typed_by_context}
+unfoldable pub use Rattle.ring_knowledge.specs.Completions.{typed}

@@ -124,7 +124,7 @@ fn help_to_withdraw(case: &mut Case, ring: &Ring, known: &RingRecord, address: u
 /// The first position of the TD that has the TRB at an address, where it may be withdrawn by its place.
 fn withdrawable(case: &Case, ring: &Ring, known: &RingRecord, address: u64) -> Option<u64> {
     let floor = known.floor_number();
-    let least = if case.header.version.is_three() {
+    let least = if case.header.version.is_lenient() {
         floor
     } else {
         known.ceiling()

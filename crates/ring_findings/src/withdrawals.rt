@@ -200,7 +200,7 @@ fn tell_td(case: &mut Case, id: u8, known: &RingRecord, td: Submitted, had: Endp
         case.help("leave the row out", &[]);
     } else if back > 0 {
         tell_passed(case, id, known, td, back);
-    } else if !case.header.version.is_three() && td.first < known.ceiling() {
+    } else if !case.header.version.is_lenient() && td.first < known.ceiling() {
         tell_begun(case, id, known, had);
     } else {
         case.head("a TD is withdrawn that may not be", &[]);

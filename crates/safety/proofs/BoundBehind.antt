@@ -1,4 +1,5 @@
 -- A ring that waits for a binding behind an event waited for it before
+use Rattle.ring_knowledge.specs.Completions.{typed}
 use Rattle.safety.proofs.UpperLaws.{[], ◌≡◌, if◌then◌else◌, ◌∷◌, ◌∙◌, ℕ, Bool, true, false, refl, sym, ap, inl, inr, list_any, and_parts, and_from, false≢true, cases_option, cases_Bool, Block, Command, AddressDevice, ConfigureEndpoint, is_off, is_open, Header, Read, IsHeader, is_ring, Known, learned, lenient, Binding, binding_in, binds, ring_bound, binds_ring, is_being_bound, awaits_binding, some_of, any_of, IsUnfinished, DriverKeeps, List, Option, None, rules, none-some, BlockKind, kind, Spot, number, Reaches, Holds, ceiling, stopped_number, target, Change, shape_of, ring_having, on_ring, event_at, passed, broken_off, stopped_at, transferred, transferred_at, transfer_read, set_to, bound_to, moved_to, moved, pointed, disabled, in_state, held_at_ceiling, changed_by, changed_by_all, succeeded, stop_ended, finished, completed, event_read, arith, clean_tests, off_is, view_after, open_held, held_open, read_on, Behind, event_behind, listed_unfinished, listed_before, rings_behind}
 use Rattle.safety.proofs.DriverHistories.{kept_driver}
 
@@ -39,7 +40,7 @@ module _ (h : Header) where
   bound_opens k s i o p cycle = grind (arith, same_opens, moved_opens)
 
   change_opens : (c : Command) (k : Known) (change : Change) → OpensNone k (changed_by h c k change)
-  unfolding changed_by disabled in_state pointed held_at_ceiling
+  unfolding changed_by disabled typed in_state pointed held_at_ceiling
   change_opens c k o = grind (arith, is_off, bound_to, ring_having, moved, bound_opens, moved_opens, same_opens, hold_opens, ceiling, shape_of, in_state, k.ring_of)
 
   changes_open : (c : Command) (k : Known) (all : List Change) → OpensNone k (changed_by_all h c k all)

@@ -51,6 +51,7 @@ module _ (h : Header) (c : Command) (k : Known) (w : World) (m : StatesMatch h k
       slots = m.slots;
       endpoints = λ t i. ap (λ x. if names t i then Off else x) (m.endpoints t i);
       ring_of = λ t i. ap (λ x. if names t i then None else x) (m.ring_of t i);
+      isochronous = m.isochronous;
       rings = λ r other. ring_behind r (m.rings r other);
       scribbles = m.scribbles;
       apart = λ t i r at. m.apart t i r (left_had t i r at).1;

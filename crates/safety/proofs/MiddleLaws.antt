@@ -1,4 +1,5 @@
 -- Words and lemmas, passed on to the files above them
+pub use Rattle.safety.proofs.CodesTold.{in_profile_is}
 pub use Rattle.safety.proofs.Alike.{Alike, RingAlike, ceiling_more, held_alike, held_same, reached_alike}
 pub use Rattle.safety.proofs.AlikeTransfers.{both_sides, chain_from, move_put, seen_put, state_put}
 pub use Rattle.safety.proofs.AreaFacts.{AreaParts, area_from, area_parts, clean_same, context_free, device_apart, device_free, devices_apart, entry_free, is_soiled_from, lease_free, not_in_device, not_in_other, overlap_turned, table_free, word_elsewhere, word_free}
@@ -38,7 +39,7 @@ pub use Rattle.safety.proofs.Placing.{PlacedTo, placed_keeps}
 pub use Rattle.safety.proofs.Placings.{BoundThere, Ready, ReadyAt, address_ready, all_ready, at_rest_on, dropped, map_map, placed_there, ready_next, ring_at, still_places}
 pub use Rattle.safety.proofs.Posted.{PostKeeps, post_keeps}
 pub use Rattle.safety.proofs.ReadRow.{read_runs}
-pub use Rattle.safety.proofs.ReportSuccess.{IsReport, ReportKeeps, in_profile_is, mapped, possible, report_is, runs_more, spot_named, success_keeps, transfer_kind, where_bound}
+pub use Rattle.safety.proofs.ReportSuccess.{IsReport, ReportKeeps, mapped, possible, report_is, runs_more, spot_named, success_keeps, transfer_kind, where_bound}
 pub use Rattle.safety.proofs.ReportedRing.{count, drop_range, low, open_takes}
 pub use Rattle.safety.proofs.RingChanges.EventsAlike.{ChangesAlike, HasKept, HavesAlike, KeepsRings, changes_alike, event_at_alike, event_kept, on_alike, other, transfer_alike}
 pub use Rattle.safety.proofs.RingChanges.GoneRings.{gone_ring_agrees, gone_ring_header, gone_ring_kept}
@@ -51,7 +52,7 @@ pub use Rattle.safety.proofs.RowRegister.{agrees_once_counted}
 pub use Rattle.safety.proofs.RowRegisters.{register_agrees}
 pub use Rattle.safety.proofs.Safe.{block_found, safe, stands_at}
 pub use Rattle.safety.proofs.SameDriver.{SameDriver, SameGiven, both_drivers, change_same, completion_same, event_same, on_ring_same, view_after}
-pub use Rattle.safety.proofs.SlotChanges.{device_keeps, reset_keeps, slot_keeps}
+pub use Rattle.safety.proofs.SlotChanges.{device_keeps, reset_keeps, slot_keeps, types_keeps}
 pub use Rattle.safety.proofs.SlotCommands.{Binds, Commands, Has, OfCommand, changed_part, changed_slot, of_slot, success_others}
 pub use Rattle.safety.proofs.SlotFrames.{GetsRing, SameSlot, changes_elsewhere, placed_all, placed_leaves, placed_of_slot, resets_slot, stops_slot}
 pub use Rattle.safety.proofs.StatesChanges.{FitAll, Fits, RestsThere, change_stands, changes_stand}

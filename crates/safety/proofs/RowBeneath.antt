@@ -47,6 +47,7 @@ module _ (h : Header) (is : IsHeader h) (k : Known) (unread : List Block) (w : W
     slot_state = refl;
     endpoint_state = refl;
     ring_of = refl;
+    isochronous = refl;
     was_bound = refl;
     stop_seen = refl;
     device = λ s some. some;
@@ -55,7 +56,7 @@ module _ (h : Header) (is : IsHeader h) (k : Known) (unread : List Block) (w : W
 
   controller : SameController w v
   unfolding v driver.declared
-  controller = record { slot_state = refl; endpoint_state = refl; ring_of = refl; scribbles = refl; under_way = refl; inside = refl; states = λ q. refl }
+  controller = record { slot_state = refl; endpoint_state = refl; ring_of = refl; isochronous = refl; scribbles = refl; under_way = refl; inside = refl; states = λ q. refl }
 
   queue_stays : (q p : ℕ) → p < declared (k.ring q) → slice_get (m.ring q).queue p ≡ slice_get (k.ring q).queue p
   queue_stays q p = after (λ n x. p < declared (k.ring n) → slice_get x.queue p ≡ slice_get (k.ring n).queue p) q (λ low. slice_get-append (k.ring r).queue blocks p low) (λ other low. refl)

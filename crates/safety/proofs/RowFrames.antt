@@ -18,6 +18,7 @@ pub record SameMemory (k l : Known) : Type 0 where
 pub record SameSlots (k l : Known) : Type 0 where
   pub slot_state : l.slot_state ≡ k.slot_state
   pub ring_of : l.ring_of ≡ k.ring_of
+  pub isochronous : l.isochronous ≡ k.isochronous
   pub was_bound : l.was_bound ≡ k.was_bound
   pub stop_seen : l.stop_seen ≡ k.stop_seen
 

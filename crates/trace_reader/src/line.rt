@@ -38,7 +38,7 @@ pub fn most_lines_of(keeps: bool, version: Version) -> u32
     }
     match version {
         Version::One | Version::Two => MOST_LINES,
-        Version::Three => MOST_STREAMED_LINES,
+        Version::Three | Version::Four => MOST_STREAMED_LINES,
     }
 }
 
@@ -53,6 +53,8 @@ pub fn version_of(line: &Line) -> Option<Version>
         Some(Version::Two)
     } else if line.is_ended() && line.content() == b"xtrace 3".as_slice() {
         Some(Version::Three)
+    } else if line.is_ended() && line.content() == b"xtrace 4".as_slice() {
+        Some(Version::Four)
     } else {
         None
     }

@@ -85,7 +85,7 @@ fn withdraw_on(
 fn is_passed(header: &Header, known: &RingRecord, position: u64) -> bool
     ensures { (shape : Shape) (v : RingView) → FollowsRing shape v known.now → result ≡ is_passed header.now shape v position }
 {
-    if header.version.is_three() {
+    if header.version.is_lenient() {
         return position < known.floor_number();
     }
     position < known.ceiling()

@@ -1,5 +1,5 @@
 -- What the success of each command does to the records of rings and devices
-use Rattle.event_rows.proofs.LowerLaws.{rules, ◌≡◌, ◌∷◌, ℕ, List, [], Bool, true, false, refl, ap, sym, fun_ext, ContextSize, added_endpoints, Command, NoOp, EnableSlot, DisableSlot, AddressDevice, ConfigureEndpoint, EvaluateContext, ResetEndpoint, StopEndpoint, SetTrDequeue, ResetDevice, Stopped, Change, SlotGoesOn, DeviceLeft, Disables, Places, Stops, Resets, changes, is_above_control, Header, RingRecord, Known, changed_by, changed_by_all, disabled, held_at_ceiling, in_state, succeeded, FollowsRings, DeviceRecord, FollowsDevices, FollowsPlaces, HasWords, addressed, configured, subst, MayChangeAll, rings_same}
+use Rattle.event_rows.proofs.LowerLaws.{rules, ◌≡◌, ◌∷◌, ℕ, List, [], Bool, true, false, refl, ap, sym, fun_ext, ContextSize, added_endpoints, Command, NoOp, EnableSlot, DisableSlot, AddressDevice, ConfigureEndpoint, EvaluateContext, ResetEndpoint, StopEndpoint, SetTrDequeue, ResetDevice, Stopped, Change, SlotGoesOn, DeviceLeft, Types, Disables, Places, Stops, Resets, changes, is_above_control, Header, RingRecord, Known, changed_by, changed_by_all, disabled, typed, held_at_ceiling, in_state, succeeded, FollowsRings, DeviceRecord, FollowsDevices, FollowsPlaces, HasWords, addressed, configured, subst, MayChangeAll, rings_same}
 
 -- where rings stay as they are
 pub devices_only : (h : Header) (k l : Known) (rs : List RingRecord) (d e : DeviceRecord) → FollowsPlaces h k rs d → l.ring ≡ k.ring → FollowsDevices l e → FollowsPlaces h l rs e
@@ -9,6 +9,10 @@ module _ (h : Header) (c : Command) (k : Known) where
   pub goes_on_rings : (s : ℕ) → (changed_by h c k (SlotGoesOn s)).ring ≡ k.ring
   unfolding changed_by
   goes_on_rings s = refl
+
+  pub types_rings : (s : ℕ) (which isochronous : ℕ → Bool) → (changed_by h c k (Types s which isochronous)).ring ≡ k.ring
+  unfolding changed_by typed
+  types_rings s which isochronous = refl
 
   pub disables_rings : (s : ℕ) (which : ℕ → Bool) → (changed_by h c k (Disables s which)).ring ≡ k.ring
   unfolding changed_by disabled

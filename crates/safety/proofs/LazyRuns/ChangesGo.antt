@@ -1,4 +1,7 @@
 -- The changes of a command's success, one after the other: each is possible, and the rings go as they should, also one that is bound or moved
+use Rattle.world_state.specs.Bindings.{typed as world_typed}
+use Rattle.ring_knowledge.specs.Completions.{typed as known_typed}
+use Rattle.commands.specs.Changes.{Types}
 use Rattle.safety.proofs.UpperLaws.{[], ◌≡◌, ◌==◌, ◌&&◌, if◌then◌else◌, ◌∷◌, ◌∙◌, ℕ, not, Bool, false, List, Option, Some, None, option_and_then, refl, sym, ap, subst, eq-eqb, rules, and_from, and_parts, or_parts, or_from, false≢true, false_from_ne_true, not_from_false, none-some, Spot, is_open, Command, Stopped, Change, SlotGoesOn, DeviceLeft, Disables, Places, Stops, Resets, Header, command_id, is_ring, World, Known, on_ring, ring_here, ring_elsewhere, StatesMatch, ChangeKeeps, none_keeps, both_keep, IsNoPlacing, AreNoPlacings, cond_is, put_off, none_in_range, world_changed_by, world_changed_by_all, world_disabled, has_one_of, world_in_state, inactive, known_changed_by, known_changed_by_all, known_disabled, held_at_ceiling, known_in_state, is_placed_by_all, ring_placed, ◌≢◌, ◌<◌, ◌≤◌, true, find, arith, inl, inr, ne_eqb, list_any, range_with_len, cases_eq, cond-true, cond-false, not-true, same_Some, is_inside, RingView, IsSpot, number, rank, spot_address, ceiling, cases_option, rank_least, rank_most, EndpointState, is_off, Ring, IsHeader, shape_of, id_of, is_transfer_kind, ring_having, IsIn, IsTransferRing, RingState, state_of, BoundRing, found_in, shape_is, ring_shape, transfer_driver, transfer_not_command, MoveSpot, move_spot, transfer_ring, having_transfer, Ready, bound_spot, floor_number, moved_having, spot_inside, MayBind, MayMove, bind_keeps, move_keeps, binds_placed, moves_placed, placed_state, placed_world, placed_world_is, placed_here, placed_elsewhere, rest_active, rest_still, PlacedTo, is_had_by_another, placed, placed_on, StandsAt, IsActiveIfOpen, HadBefore, AtFloors, RingsGo, one_spot, ring_is, is_ring_is}
 use Rattle.safety.proofs.FinishSlots.{change_keeps}
 use Rattle.safety.proofs.NoWait.{ceiling_held}
@@ -83,6 +86,10 @@ module _ (h : Header) (c : Command) where
     unfolding world_changed_by known_changed_by ring_placed
     device_goes s = goes_to (DeviceLeft s) _ tt refl (search rules) refl
 
+    types_goes : (s : ℕ) (which isochronous : ℕ → Bool) → ChangeGoes k w (Types s which isochronous)
+    unfolding world_changed_by known_changed_by ring_placed world_typed known_typed
+    types_goes s which isochronous = goes_to (Types s which isochronous) _ tt refl (search rules) refl
+
     reset_goes : (s i : ℕ) → ChangeGoes k w (Resets s i)
     unfolding world_changed_by known_changed_by ring_placed world_in_state known_in_state
     reset_goes s i = goes_to (Resets s i) _ tt refl (search rules) refl
@@ -123,7 +130,7 @@ module _ (h : Header) (c : Command) where
 
     pub change_goes : (change : Change) → IsNoPlacing change → ChangeGoes k w change
     change_goes (SlotGoesOn s) plain = search (rules, slot_goes)
-    change_goes _ plain = search (rules, slot_goes, device_goes, disable_goes, stop_goes, reset_goes)
+    change_goes _ plain = search (rules, slot_goes, device_goes, types_goes, disable_goes, stop_goes, reset_goes)
 
   pub changes_go : (list : List Change) → AreNoPlacings list → (k : Known) (w : World) → StatesMatch h k w → AtFloors h k w → ListGoes k w list
   changes_go [] plain k w m at = no_change_goes k w m at
@@ -256,7 +263,7 @@ module _ (h : Header) (is : IsHeader h) where
 
     pub placed_goes : ChangeGoes h c k w (Places s i p cycle state)
     unfolding l
-    placed_goes = search (rules, l, v, made, keeps, floors, still_active, placed_ring, had_before, view_elsewhere, ne_eqb, other_than)
+    placed_goes = record { world = v; made = made; keeps = keeps; goes = (search (rules, l, v, floors, still_active, placed_ring, had_before, view_elsewhere, ne_eqb, other_than)) }
 
   -- ---- a ring is bound, or moved
 

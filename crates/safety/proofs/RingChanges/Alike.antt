@@ -235,7 +235,7 @@ module _ (h : Header) (is : IsHeader h) (past : List Row) where
               let after = step_goes g p.headed k p.keeps w v s is_step at other run in
               unfolding_idle l (counted g v) v (counted_active g v) (rest g p.headed k p.keeps (counted g v) after l d lists) in
               alike_step l d g lists rows w (steps.made g g w s) (steps.made d g (aside l w) s)
-              (made_so l g d lists.command lists.events (names g p.headed k p.keeps w run l d lists) lists.size w s other (had g p.headed k p.keeps w run l d lists) (active g p.headed k p.keeps w run l d lists)) idle
+              (made_so l g d lists.command lists.events lists.version (names g p.headed k p.keeps w run l d lists) lists.size w s other (had g p.headed k p.keeps w run l d lists) (active g p.headed k p.keeps w run l d lists)) idle
           | inr over ↦
               alike_step l d g lists rows w (steps.made g g w s) (steps.made d g (aside l w) s)
               (ap (option_map (aside l)) (stopped_none g g w s other over.also) ∙ sym (stopped_none d g (aside l w) s other over.also))
@@ -279,7 +279,7 @@ module _ (h : Header) (is : IsHeader h) (past : List Row) where
         }
     made_row row rest_of fits kept p run =
         alike_row l d g lists rest_of (row ∷ rest_of) w (row_done g w row) (row_done d (aside l w) row)
-        (row_so l g d lists.command lists.events w row (declares g p.headed k p.keeps w run l d lists row kept)) (λ v at. row_idle g p.headed k p.keeps w run l d lists row v at)
+        (row_so l g d lists.command lists.events lists.version w row (declares g p.headed k p.keeps w run l d lists row kept)) (λ v at. row_idle g p.headed k p.keeps w run l d lists row v at)
 
     next_row : (rows : List Row) → CameTo h is past (live_with g rows w) → AreAlike (live_next (live_with g rows w) rows) (row_next (whole l d (live_with g rows w)) rows)
     next_row [] c = tt

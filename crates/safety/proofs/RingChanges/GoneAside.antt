@@ -1,4 +1,5 @@
 -- A step leaves aside what is left of the rings that went: it does beside them what it does without them
+use Rattle.traces.specs.Versions.{has_isoch}
 use Rattle.std.proofs.Common.{arith, ◌≡◌, ◌≢◌, ◌+◌, ◌-◌, ◌%◌, ◌^◌, ◌==◌, ◌&&◌, ◌∙◌, ◌∷◌, ◌++◌, if◌then◌else◌, ℕ, Bool, true, false, not, List, [], Option, Some, None, is_some, length, drop, ap, refl, sym, inl, inr, eq-eqb, ne_eqb, nat_lt}
 use Rattle.std.proofs.lemmas.Bool.{cases_Bool, cases_eq, cond-true, cond-false}
 use Rattle.std.proofs.Math.Path.{fun_ext}
@@ -8,7 +9,7 @@ use Rattle.guest_memory.specs.Memory.{put, put_pair}
 use Rattle.trb.specs.declared.block.Block.{Block}
 use Rattle.trb.specs.Bits.{is_set}
 use Rattle.trb.specs.Block.{block_at, code, cycle, endpoint, kind, pointer, same_words, slot, word}
-use Rattle.trb.specs.CompletionCode.{is_halting, is_stopping, is_success, is_trb_error}
+use Rattle.trb.specs.CompletionCode.{counted_code, is_halting, is_of_service, is_stopping, is_success, is_trb_error}
 use Rattle.trb.specs.Kind.{is_command_completion, is_link, is_other_event, is_transfer_event}
 use Rattle.segments.specs.ShapeValue.{Shape}
 use Rattle.segments.specs.Places.{address_of, cycle_of, is_in, place_count}
@@ -100,7 +101,7 @@ module _ (l : Left) where
 
   -- ---- beside rings of which the same is so of the command and the event ring
 
-  module _ (h d : Header) (command : command_id d ≡ command_id h) (events : event_shape d ≡ event_shape h) where
+  module _ (h d : Header) (command : command_id d ≡ command_id h) (events : event_shape d ≡ event_shape h) (version : d.version ≡ h.version) where
     scribbles_so : (w : World) (o : Option Command) (t : ℕ) → looks.may_scribble d o (aside l w) t ≡ looks.may_scribble h o w t
     unfolding looks.may_scribble
     scribbles_so w o t = grind arith
@@ -226,12 +227,18 @@ module _ (l : Left) where
     can_post_so w b =
         ap (λ (shape : Shape). nat_lt 0 (place_count shape) && w.started && has_room (place_count shape) w.posted w.dequeue && cycle b == cycle_of shape w.posted) (sym events)
 
+    code_posted_so : (w : World) (b : Block) → posts.code_posted h w b ≡ posts.code_posted d (aside l w) b
+    unfolding posts.code_posted
+    code_posted_so w b = ap (λ v. counted_code (has_isoch v && w.isochronous (slot b) (endpoint b)) (code b)) (sym version)
+
     reported_on_so : (w : World) (b : Block) (o : Option ℕ) → ((r : ℕ) → o ≡ Some r → l.gone r ≡ false) → option_map (aside l) (posts.reported_on h w b o) ≡ posts.reported_on d (aside l w) b o
     unfolding posts.reported_on
     reported_on_so w b None had = refl
     reported_on_so w b (Some r) had =
-        code_so r (had r refl) (posts.posted h w b) (code b) (slot b) (endpoint b) (pointer b)
-        ∙ ap (λ u. posts.report_code d u (code b) (slot b) (endpoint b) r (pointer b)) (posted_so w b)
+        chosen _ _ (Some (posts.posted h w b)) _ _ _ (ap (λ v. has_isoch v && is_of_service (code b)) (sym version)) (some _ _ (posted_so w b))
+        (code_so r (had r refl) (posts.posted h w b) (posts.code_posted h w b) (slot b) (endpoint b) (pointer b)
+        ∙ ap (λ u. posts.report_code d u (posts.code_posted h w b) (slot b) (endpoint b) r (pointer b)) (posted_so w b)
+        ∙ ap (λ c. posts.report_code d (posts.posted d (aside l w) b) c (slot b) (endpoint b) r (pointer b)) (code_posted_so w b))
 
     -- of no ring that went an endpoint has it
     abbrev pub HasNone : World → Type 0
@@ -277,7 +284,7 @@ module _ (l : Left) where
 
     module _ (names : (p r : ℕ) → ring_having h p ≡ Some r → l.gone r ≡ false) where
       change_so : (w : World) (c : Command) (change : Change) → option_map (aside l) (bindings.changed_by h c w change) ≡ bindings.changed_by h c (aside l w) change
-      unfolding bindings.changed_by bindings.in_state bindings.disabled bindings.has_one_of
+      unfolding bindings.changed_by bindings.in_state bindings.disabled bindings.typed bindings.has_one_of
       change_so w c (Places s i p cycle state) = placed_on_so w s i p cycle state (ring_having h p) (names p)
       change_so w c (Stops s i) = some _ _ (inactive_so (record w { endpoint_state = put_pair w.endpoint_state s i Stopped }) (w.ring_of s i))
       change_so w c _ = refl

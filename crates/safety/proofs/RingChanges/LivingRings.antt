@@ -26,6 +26,7 @@ pub record Lists (l : Left) (live declared : Header) : Type 0 where
   pub size : declared.context_size ≡ live.context_size
   pub command : command_id declared ≡ command_id live
   pub events : event_shape declared ≡ event_shape live
+  pub version : declared.version ≡ live.version
   pub found : (r : ℕ) (q : Ring) → ring_with live r ≡ Some q → (ring_with declared r ≡ Some q) × (l.gone r ≡ false)
   pub each : (q : Ring) → IsIn q declared.rings → (ring_with live q.id ≡ Some q) ⊎ ((l.gone q.id ≡ true) × (q.shape.kind ≡ Xfer))
   pub rests : (r : ℕ) → l.gone r ≡ true → TakesAreRight declared r (l.events r)
@@ -58,6 +59,7 @@ all_live h is = record {
   size = refl;
   command = refl;
   events = refl;
+  version = refl;
   found = λ r q at. (at, refl);
   each = λ q at. inl (found_by_id h.rings q (header_parts h is).1 at);
   rests = λ r went. absurd (false≢true went);
@@ -142,6 +144,7 @@ module _ (l : Left) (live declared : Header) (lists : Lists l live declared) whe
       size = lists.size;
       command = lists.command ∙ sym (going.command_same live is k d id good);
       events = lists.events ∙ sym (going.events_same live is k d id good);
+      version = lists.version;
       found = λ r q at.
           let other = going.not_there live is k d id good r q at in
           let before = lists.found r q (sym (going.ring_same live is k d id good r other) ∙ at) in
@@ -243,6 +246,10 @@ module _ (l : Left) (live declared : Header) (lists : Lists l live declared) whe
           | inr last ↦ elim last [ inl new ↦ inl new | inr later ↦ absurd later ]
         ]
 
+    version_so : (listed declared ring).version ≡ (with_ring live ring).version
+    unfolding listed with_ring without_ring
+    version_so = lists.version
+
     size_so : (listed declared ring).context_size ≡ (with_ring live ring).context_size
     unfolding listed with_ring without_ring
     size_so = lists.size
@@ -252,6 +259,7 @@ module _ (l : Left) (live declared : Header) (lists : Lists l live declared) whe
       size = size_so;
       command = command_so ∙ lists.command ∙ sym command_live;
       events = events_so ∙ lists.events ∙ sym events_live;
+      version = version_so;
       found = λ r q at. elim (cases_eq r ring.id) [
         | inl here ↦
             let same : ring ≡ q = same_Some ring q (sym here_live ∙ ap (ring_with (with_ring live ring)) (sym here) ∙ at) in

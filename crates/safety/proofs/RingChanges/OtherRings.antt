@@ -44,6 +44,7 @@ module _ (h : Header) (rings : List Ring) (k : Known) (views : ℕ → RingView)
     pub command_shape : shape_of g (command_id g) ≡ shape_of h (command_id h)
     pub command_view : views (command_id g) ≡ k.ring (command_id h)
     pub events : event_shape g ≡ event_shape h
+    pub version : g.version ≡ h.version
     pub size : event_size g ≡ event_size h
     -- of each ring that is there the rules are kept
     pub keeps : (r : ℕ) → IsDriverRing g r → RingKeeps (shape_of g r) k.memory (views r)
@@ -271,6 +272,7 @@ module _ (h : Header) (rings : List Ring) (k : Known) (views : ℕ → RingView)
         slots = m.slots;
         endpoints = m.endpoints;
         ring_of = m.ring_of;
+        isochronous = m.isochronous;
         rings = λ r other. let apart : r ≢ command_id h = λ same. other (same ∙ sym o.command) in ring_still r apart (m.rings r apart);
         before = λ off. let b = m.before off in record {
           inactive = ap w.is_active o.command ∙ b.inactive;
