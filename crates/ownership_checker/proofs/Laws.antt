@@ -1,5 +1,5 @@
 -- What the answers cite: the words, and this crate's lemmas
-pub use Rattle.ownership_checker.proofs.MiddleLaws.{as_many_ended, before_rows, by_kind, comes_behind, comes_refused, coming_by_header, contexts_fit, count_is, declared_bad, declared_ok, event_step, found, goes_behind, goes_refused, impossible, is_started, kept_whole, least_flips, least_left, least_off, least_quiet, least_restored, least_unflipped, left_out, left_out_possible, moving, names_transfer, no_room, none_high, none_now, none_restored, not_negated, noted_completion, noted_other, noted_transfer, of_completion, of_transfer, on_true, one_begun, only_left, opened_bad, other_possible, placed_bad, placed_ok, quiet_behind, refused_too, register_bad, register_ok, restored_held, restored_tracked, restored_transfer, row_bad, row_ok, runs_on, same_still, set_up, sound_count, sound_so, stopped_refused, told_of, when_true, withdrawn_behind, withdrawn_held, withdrawn_refused, withdrawn_transfer, within_profile, word_bad, word_ok, driven_behind, driven_by, driven_after, header_driven, known_driven}
+pub use Rattle.ownership_checker.proofs.MiddleLaws.{as_many_ended, before_rows, by_kind, comes_behind, comes_refused, coming_by_header, contexts_fit, count_is, declared_bad, declared_ok, event_step, found, goes_behind, goes_refused, impossible, is_started, kept_whole, least_flips, least_left, least_off, least_quiet, least_restored, least_unflipped, meets_none, left_out, left_out_possible, moving, names_transfer, no_room, none_high, known_quiet, none_restored, not_negated, noted_completion, noted_other, noted_transfer, of_completion, of_transfer, on_true, one_begun, only_left, opened_bad, other_possible, placed_bad, placed_ok, quiet_behind, refused_too, register_bad, register_ok, restored_held, restored_tracked, restored_transfer, row_bad, row_ok, runs_on, same_still, set_up, sound_count, sound_so, stopped_refused, told_of, when_true, withdrawn_behind, withdrawn_held, withdrawn_refused, withdrawn_transfer, within_profile, word_bad, word_ok, driven_behind, driven_after, header_driven}
 pub use Rattle.ownership_checker.proofs.RingPasses.Followed.{opened_bad_told}
 pub use Rattle.ownership_checker.proofs.RingPasses.KeptRows.{begun, few, refused, row_more}
 pub use Rattle.ownership_checker.proofs.RingPasses.Logged.{behind_logged, comes_logged, drives, goes_logged, goes_transfer, held_before, next_row, none_drives, opened_before, rung_lents, transfer_drives, driven_logged}

@@ -21,7 +21,6 @@ pub use Rattle.leases.proofs.RingLeases.FreeRows.{plain_now, rung_now, withdrawn
 pub use Rattle.leases.proofs.RingLeases.HeldBehind.{comes_alike, comes_commands, goes_alike, goes_commands, ranges_found}
 pub use Rattle.leases.proofs.RingLeases.LentBehind.{comes_lent, goes_lent, in_step_now, lent_open}
 pub use Rattle.leases.proofs.RingLeases.MovingRings.{was_given}
-pub use Rattle.leases.proofs.RingLeases.NothingRestored.{restored_same}
 pub use Rattle.leases.specs.LeaseBooks.Books.{FollowsLeases, HoldsLents}
 pub use Rattle.leases.specs.LeaseBooks.InStep.{AreOpen, IsInStep}
 pub use Rattle.leases.specs.LeaseBooks.Lents.{Lent, ended_where, lease_of, passed_on}
@@ -40,7 +39,7 @@ pub use Rattle.ownership_checker.specs.JudgedRows.Tracking.{IsLeastFrom, IsStepF
 pub use Rattle.ownership_checker.specs.RingPasses.Accepted.{IsSound}
 pub use Rattle.ownership_checker.specs.RingPasses.Clean.{AreClean, IsLeastOfRow}
 pub use Rattle.ownership_checker.specs.RingPasses.KeptRows.{IsBehindAll}
-pub use Rattle.ownership_checker.specs.RingPasses.Passing.{IsRingLogged, IsRingPassed, NothingFree}
+pub use Rattle.ownership_checker.specs.RingPasses.Passing.{IsRingLogged, IsRingPassed, MeetsNothingFree}
 pub use Rattle.ownership_checker.specs.RingPasses.Reading.{Begins, IfRefusedRow, IsWholeLog, OfTrace, with_rows}
 pub use Rattle.ownership_rules.specs.Rules.{broken_restored, row_broken, trace_verdict, lenient}
 unfoldable pub use Rattle.ownership_rules.specs.Rules.{verdict_from, broken, first_or, lenient_tests, tests}
@@ -76,7 +75,6 @@ pub use Rattle.safety.proofs.DriverRings.{endpoints_of, rings_of}
 pub use Rattle.safety.proofs.DriverRows.{nothing_keeps}
 pub use Rattle.safety.proofs.KeptRings.{still_of}
 pub use Rattle.safety.proofs.Lenient.{lenient_row}
-pub use Rattle.safety.proofs.NothingFree.{free_same}
 pub use Rattle.safety.proofs.NothingKept.{nothing_kept}
 pub use Rattle.safety.proofs.RingChanges.GoneRings.{gone_ring_kept}
 pub use Rattle.safety.proofs.RingChanges.Headline.{headline}

@@ -70,10 +70,3 @@ module _ (h : Header) (headed : IsHeader h) (kept : TraceRecord) (memory : ℕ �
       IfErr result (λ e. IfRefused e (λ c. (k : Known) → FollowsTrace h k kept memory → IsSetUp h k → k.stopped ≡ false → IsLeast h k row c)) →
       IfErr result (λ e. IfRefused e (IsLeastFrom h kept memory row))
   register_bad result said = grind (arith, set_up)
-
--- a row that is of none of these kinds
-pub driven_by : (row : Row) → ((ring : Ring) → row ≡ RingRow ring → ⊥) → ((id : ℕ) → row ≡ FreeRow id → ⊥) → ((id position : ℕ) → row ≡ NopRow id position → ⊥) → is_ring_row row ≡ false
-driven_by (RingRow ring) comes goes withdraws = absurd (comes ring refl)
-driven_by (FreeRow id) comes goes withdraws = absurd (goes id refl)
-driven_by (NopRow id position) comes goes withdraws = absurd (withdraws id position refl)
-driven_by row comes goes withdraws = refl

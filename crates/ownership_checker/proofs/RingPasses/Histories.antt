@@ -1,6 +1,11 @@
--- What a row says that breaks no rule; where no descriptor was withdrawn nothing is free; and what breaks no rule of the trace's version breaks no
--- lenient one
-use Rattle.ownership_checker.proofs.LowerLaws.{◌≡◌, ◌∷◌, ◌++◌, ◌∙◌, ◌==◌, ℕ, Bool, true, false, if◌then◌else◌, List, [], Some, filter, refl, sym, ap, subst, inl, inr, cases_Bool, Header, Known, Ring, learned, nothing, shape_of, flips_passed, is_not_restored, unrestored, due_positions, Row, FreeRow, broken_of, first_of, broken, Refusal, AfterStop, NotRestored, WriteToOwned, lenient_row, forgotten, AreKept, IsKept, header_now, known_now, is_left, restored, ring_restored, some_flips, restored_same, AreClean, NothingFree, broken_restored, row_broken, list_any, no_flips, free_same, rules, arith, is_ring_row, header_after, known_after, RingRow}
+-- What a row says that breaks no rule; where nothing is free of what a row has to do with, it restores nothing; and what breaks no rule of the
+-- trace's version breaks no lenient one
+use Rattle.ownership_checker.proofs.LowerLaws.{◌≡◌, ◌∷◌, ◌++◌, ◌∙◌, ◌==◌, ℕ, Bool, true, false, if◌then◌else◌, List, [], Option, None, Some, filter, refl, sym, ap, inl, inr, cases_Bool, Header, Known, learned, nothing, shape_of, is_not_restored, unrestored, due_positions, Row, Bell, Write, broken_of, first_of, broken, Refusal, AfterStop, NotRestored, WriteToOwned, lenient_row, AreKept, IsKept, header_now, known_now, is_left, on_ring, restored_on, restored, ring_restored, some_flips, AreClean, MeetsNothingFree, broken_restored, row_broken, list_any, rules, arith, is_ring_row, header_after, known_after}
+use Rattle.std.specs.Prelude.{IfSome}
+use Rattle.segments.specs.RingKeeps.{IsRestored}
+use Rattle.segments.specs.RingView.{Restores, RingView, changed}
+use Rattle.segments.specs.ShapeValue.{Shape}
+use Rattle.safety.proofs.DriverRows.{ring_elsewhere, ring_here}
 
 -- ---- a row
 
@@ -67,42 +72,54 @@ module _ (h : Header) (k : Known) (row : Row) where
   pub least_unflipped : some_flips h k row ≡ false → (c : Refusal) → first_of (broken h k row) ≡ Some c → first_of (broken_restored h k row) ≡ Some c
   least_unflipped none c least = ap first_of (unflipped none) ∙ least
 
--- ---- nothing is free
+-- ---- nothing is free of what a row has to do with
 
-forgotten_free : (k : Known) (id : ℕ) → NothingFree k → NothingFree (forgotten k id)
-unfolding forgotten
-forgotten_free k id none r = grind (arith, cases_Bool (r == id))
+view_same : (shape : Shape) (v : RingView) → IsRestored v → changed shape v Restores ≡ v
+view_same shape v none = λ j. record v { free = λ p. sym (none p) j }
 
 none_in : (f P : ℕ → Bool) (xs : List ℕ) → ((p : ℕ) → f p ≡ false) → list_any P (filter f xs) ≡ false
 none_in f P [] none = refl
 none_in f P (x ∷ xs) none = rw (none x) (none_in f P xs none)
 
-module _ (h : Header) (k : Known) (none : NothingFree k) where
-  stands : (r : ℕ) → is_not_restored (shape_of h r) (k.ring r) k.memory ≡ false
-  unfolding is_not_restored unrestored
-  stands r = none_in (k.ring r).free _ (due_positions (shape_of h r) (k.ring r)) (none r)
+module _ (h : Header) (k : Known) where
+  ring_same : (r q : ℕ) → IsRestored (k.ring r) → (on_ring h k r Restores).ring q ≡ k.ring q
+  ring_same r q none = search (rules, on_ring, Restores, ring_here, view_same, shape_of, ring_elsewhere)
 
-  flips_none : (a w : ℕ) (rs : List Ring) → list_any (λ r. flips_passed r.shape (k.ring r.id) a w) rs ≡ false
-  flips_none a w [] = refl
-  flips_none a w (r ∷ rs) = rw (no_flips r.shape (k.ring r.id) a w (none r.id)) (flips_none a w rs)
+  same_on : (o : Option ℕ) → IfSome o (λ r. IsRestored (k.ring r)) → restored_on h k o ≡ k
+  unfolding restored_on on_ring
+  same_on None none = refl
+  same_on (Some r) none = λ j. record k { ring = λ q. ring_same r q none j }
 
-  -- what a row starts or moves stands as declared, and it flips nothing
-  pub stands_where_restored : (row : Row) → is_left h k (ring_restored h k row) ≡ false
-  unfolding is_left
-  stands_where_restored row = grind (arith, stands)
+  stands : (o : Option ℕ) → IfSome o (λ r. IsRestored (k.ring r)) → is_left h k o ≡ false
+  unfolding is_left is_not_restored unrestored
+  stands None none = refl
+  stands (Some r) none = none_in (k.ring r).free _ (due_positions (shape_of h r) (k.ring r)) none
 
-  pub flips_none_restored : (row : Row) → some_flips h (restored h k row) row ≡ false
-  unfolding some_flips
-  flips_none_restored row = subst (λ x. some_flips h x row ≡ false) (sym (restored_same h k row none)) (search (rules, flips_none))
+module _ (h : Header) (k : Known) (row : Row) (meets : MeetsNothingFree h k row) where
+  pub restored_same : restored h k row ≡ k
+  restored_same = same_on h k (ring_restored h k row) meets.restores
+
+  -- what the row starts or moves stands as declared, and it flips nothing
+  pub stands_where_restored : is_left h k (ring_restored h k row) ≡ false
+  stands_where_restored = stands h k (ring_restored h k row) meets.restores
+
+  pub flips_none_restored : some_flips h (restored h k row) row ≡ false
+  flips_none_restored = rw restored_same meets.flips
 
   -- what it breaks is what it breaks where nothing was withdrawn
-  pub driver_same : (row : Row) → row_broken h k row ≡ broken h k row
+  pub driver_same : row_broken h k row ≡ broken h k row
   unfolding broken
-  driver_same row = elim (cases_Bool k.stopped) [
+  driver_same = elim (cases_Bool k.stopped) [
     | inl off ↦ rw off refl
-    | inr on ↦ restored_broken h k row on (stands_where_restored row) ∙ unflipped h (restored h k row) row (flips_none_restored row)
-        ∙ ap (λ x. broken h x row) (restored_same h k row none)
+    | inr on ↦ restored_broken h k row on stands_where_restored ∙ unflipped h (restored h k row) row flips_none_restored ∙ ap (λ x. broken h x row) restored_same
   ]
+
+-- a row that writes nothing and rings no doorbell has to do with nothing that is free
+pub meets_none : (h : Header) (k : Known) (row : Row) → ((a w : ℕ) → row ≡ Write a w → ⊥) → ((s t : ℕ) → row ≡ Bell s t → ⊥) → MeetsNothingFree h k row
+unfolding ring_restored some_flips
+meets_none h k (Write a w) words bells = absurd (words a w refl)
+meets_none h k (Bell s t) words bells = absurd (bells s t refl)
+meets_none h k row words bells = record { restores = tt; flips = refl }
 
 -- ---- behind rows
 
@@ -112,24 +129,6 @@ header_driven h row driven = grind arith
 
 pub driven_after : (h : Header) (k : Known) (row : Row) → is_ring_row row ≡ false → known_after h k row ≡ learned h (restored h k row) row
 driven_after h k row driven = grind arith
-
-module _ (h : Header) (past : List Row) (none : NothingFree (known_now h past)) where
-  pub known_driven : (row : Row) → is_ring_row row ≡ false → known_now h (row ∷ past) ≡ learned (header_now h past) (known_now h past) row
-  known_driven row driven =
-      driven_after (header_now h past) (known_now h past) row driven ∙ ap (λ k. learned (header_now h past) k row) (restored_same (header_now h past) (known_now h past) row none)
-
-  pub driven_free : (row : Row) → is_ring_row row ≡ false → NothingFree (known_now h (row ∷ past))
-  driven_free row driven = rw (known_driven row driven) (λ r p. search (rules, free_same, none))
-
-  pub comes_free : (ring : Ring) → NothingFree (known_now h (RingRow ring ∷ past))
-  comes_free ring = forgotten_free (known_now h past) ring.id none
-
-  pub goes_free : (id : ℕ) → NothingFree (known_now h (FreeRow id ∷ past))
-  goes_free id = forgotten_free (known_now h past) id none
-
-pub nothing_free : NothingFree nothing
-unfolding nothing
-nothing_free r p = refl
 
 pub kept_now : (h : Header) (past : List Row) → AreClean h past → AreKept h past
 kept_now h [] clean = tt

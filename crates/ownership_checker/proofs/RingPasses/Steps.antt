@@ -1,8 +1,8 @@
 -- A row more of a pass
-use Rattle.ownership_checker.proofs.LowerLaws.{◌≡◌, ◌+◌, ◌++◌, ◌∷◌, ◌∙◌, ℕ, headline, true, false, List, [], All, Option, Some, None, Result, IfErr, suc, length, reverse, arith, refl, sym, ap, subst, inl, inr, reverse-append, All-cons, All-head, All-nil, All-tail, Header, Known, Ring, IsHeader, DriverKeeps, nothing, on_ring, false≢true, lenient_row, nothing_kept, clean_tests, EventState, Xfer, Row, RingRow, FreeRow, id_below, IsAmong, TraceRecord, FollowsTrace, IsWithin, IsLeast, IsRowStep, Refusal, IsTracked, ContextsFit, IsComing, forgotten, is_bad_free, is_bad_ring, with_ring, without_ring, AreKept, IsRow, header_now, known_now, is_left, restored, restored_on, ring_restored, some_flips, row_comes, stopped_still, BadFree, BadRing, BadWithdraw, withdraws_badly, restored_same, IsLeastOfRow, DoNoHarm, IsRingPassed, NothingFree, RingPass, kept_driver, NopRow, IsFinder, contexts_fit, EntriesFit, nothing_fits, still_fit, row_keeps, withdraw_keeps, gone_ring_kept, comes_keeps, IsRingStep, least_broken, none_broken, reversed_twice, rules, is_ring_row, kept_coming, kept_going, kept_withdrawing, coming_alone, going_alone, withdrawing_alone}
+use Rattle.ownership_checker.proofs.LowerLaws.{◌≡◌, ◌+◌, ◌++◌, ◌∷◌, ◌∙◌, ℕ, headline, true, false, List, [], All, Option, Some, None, Result, IfErr, suc, length, reverse, arith, refl, sym, ap, subst, inl, inr, reverse-append, All-cons, All-head, All-nil, All-tail, Header, Known, Ring, IsHeader, DriverKeeps, nothing, on_ring, lenient_row, nothing_kept, clean_tests, EventState, Xfer, Row, RingRow, FreeRow, id_below, IsAmong, TraceRecord, FollowsTrace, IsWithin, IsLeast, IsRowStep, Refusal, IsTracked, ContextsFit, IsComing, forgotten, is_bad_free, is_bad_ring, with_ring, without_ring, AreKept, IsRow, header_now, known_now, learned, is_left, restored, restored_on, ring_restored, some_flips, row_comes, stopped_still, BadFree, BadRing, BadWithdraw, withdraws_badly, IsLeastOfRow, DoNoHarm, IsRingPassed, MeetsNothingFree, RingPass, kept_driver, NopRow, IsFinder, contexts_fit, EntriesFit, nothing_fits, still_fit, row_keeps, withdraw_keeps, gone_ring_kept, comes_keeps, IsRingStep, least_broken, none_broken, reversed_twice, rules, is_ring_row, kept_coming, kept_going, kept_withdrawing, coming_alone, going_alone, withdrawing_alone}
 use Rattle.trace_record.proofs.RingFinder.HeaderRings.{shape_allowed}
 use Rattle.leases.proofs.LeaseRows.EntriesFit.{row_fits}
-use Rattle.ownership_checker.proofs.RingPasses.Histories.{comes_free, driven_after, driven_free, driver_same, flips_none_restored, goes_free, header_driven, kept_now, no_rule_broken, nothing_free, stands_where_restored}
+use Rattle.ownership_checker.proofs.RingPasses.Histories.{driven_after, driver_same, flips_none_restored, header_driven, kept_now, no_rule_broken, restored_same, stands_where_restored}
 use Rattle.trace_record.specs.declared.fault.StepFault as step
 use Rattle.trace_record.specs.declared.fault.StepFault.TheVariants as variants
 use Rattle.trace_record.specs.Steps as steps
@@ -59,7 +59,6 @@ module _ {B M : Type 0} (words : M → ℕ → ℕ) where
     tracked = record { follows = follows; keeps = λ on. nothing_kept pass.header is };
     entries = nothing_fits pass.header;
     clean = tt;
-    unwithdrawn = λ none. nothing_free;
   }
 
   module _ (h : Header) (past : List Row) (before : RingPass B M) (p : IsRingPassed words h past before) where
@@ -79,9 +78,8 @@ module _ {B M : Type 0} (words : M → ℕ → ℕ) where
     -- behind a row of the driver: what it starts or moves stood as declared
     pub driven_behind : (row : Row) → is_ring_row row ≡ false → (after : TraceRecord) (memory : ℕ → ℕ) → is_left g k (ring_restored g k row) ≡ false → some_flips g (restored g k row) row ≡ false →
         IsRowStep g (restored g k row) row after memory → IsWithin after.events (length past + 1) →
-        (later : RingPass B M) → later.header ≡ before.header → later.finder ≡ before.finder → later.record ≡ after → words later.memory ≡ memory →
-        (later.has_withdrawn ≡ false → NothingFree (known_now h (row ∷ past))) → IsRingPassed words h (row ∷ past) later
-    driven_behind row driven after memory stands flips now reads later header same is at none =
+        (later : RingPass B M) → later.header ≡ before.header → later.finder ≡ before.finder → later.record ≡ after → words later.memory ≡ memory → IsRingPassed words h (row ∷ past) later
+    driven_behind row driven after memory stands flips now reads later header same is at =
         let clean = lenient_row g (restored g k row) row now.clean in
         let on : k.stopped ≡ false = sym (stopped_still g k (ring_restored g k row)) ∙ (clean_tests g (restored g k row) row clean).0 in
         let keeps = tracked_now.keeps on in
@@ -96,22 +94,23 @@ module _ {B M : Type 0} (words : M → ℕ → ℕ) where
               (record { follows = now.followed; keeps = λ still. kept_driver g headed_now (restored g k row) row keeps_restored (row_comes g headed_now k keeps row clean flips) still });
           entries = rw (driven_after g k row driven) (row_fits g headed_now (restored g k row) row keeps_restored clean (restored_fits g k (ring_restored g k row) p.entries));
           clean = (p.clean, no_rule_broken g k row (record { on = on; stands = stands; flips = flips; clean = now.clean }));
-          unwithdrawn = none;
         }
 
-    -- the same where nothing was withdrawn
-    module _ (has_none : before.has_withdrawn ≡ false) where
-      pub none_now : NothingFree k
-      none_now = p.unwithdrawn has_none
+    -- the same of a row that has to do with nothing that is free
+    module _ (row : Row) (meets : MeetsNothingFree before.header k row) where
+      meets_now : MeetsNothingFree g k row
+      meets_now = subst (λ (x : Header). MeetsNothingFree x k row) p.header meets
 
-      pub quiet_behind : (row : Row) → is_ring_row row ≡ false → (after : TraceRecord) (memory : ℕ → ℕ) → IsRowStep before.header k row after memory → IsWithin after.events (length past + 1) →
+      pub known_quiet : is_ring_row row ≡ false → known_now h (row ∷ past) ≡ learned g k row
+      known_quiet driven = driven_after g k row driven ∙ ap (λ x. learned g x row) (restored_same g k row meets_now)
+
+      pub quiet_behind : is_ring_row row ≡ false → (after : TraceRecord) (memory : ℕ → ℕ) → IsRowStep before.header k row after memory → IsWithin after.events (length past + 1) →
           (later : RingPass B M) → later.header ≡ before.header → later.finder ≡ before.finder → later.record ≡ after → words later.memory ≡ memory → IsRingPassed words h (row ∷ past) later
-      quiet_behind row driven after memory step reads later header same is at =
-          driven_behind row driven after memory (stands_where_restored g k none_now row) (flips_none_restored g k none_now row)
-          (rw (restored_same g k row none_now, ← p.header) step) reads later header same is at (λ none. driven_free h past none_now row driven)
+      quiet_behind driven after memory step =
+          driven_behind row driven after memory (stands_where_restored g k row meets_now) (flips_none_restored g k row meets_now) (rw (restored_same g k row meets_now, ← p.header) step)
 
-      pub least_quiet : (row : Row) (c : Refusal) → IsLeast before.header k row c → IsLeastOfRow g k row c
-      least_quiet row c least = rw (driver_same g k none_now row, ← p.header) least
+      pub least_quiet : (c : Refusal) → IsLeast before.header k row c → IsLeastOfRow g k row c
+      least_quiet c least = rw (driver_same g k row meets_now, ← p.header) least
 
     -- where the ring that a row starts or moves stands as declared, this holds what is known once that is the controller's again
     pub restored_tracked : (row : Row) (o : Option ℕ) (after : TraceRecord) → o ≡ ring_restored before.header k row → k.stopped ≡ false → is_left before.header k (ring_restored before.header k row) ≡ false →
@@ -121,8 +120,8 @@ module _ {B M : Type 0} (words : M → ℕ → ℕ) where
     -- behind a ring that comes
     pub comes_behind : (ring : Ring) (after : TraceRecord) → ring.shape.kind ≡ Xfer → (DriverKeeps before.header k → k.stopped ≡ false → IsRingStep before.header k (RingRow ring) after (words before.memory)) →
         k.stopped ≡ false → IsWithin after.events (length past) → (later : RingPass B M) → later.header ≡ with_ring before.header ring → IsHeader later.header → IsFinder later.header.rings later.finder → later.record ≡ after →
-        words later.memory ≡ words before.memory → later.has_withdrawn ≡ before.has_withdrawn → IsRingPassed words h (RingRow ring ∷ past) later
-    comes_behind ring after kind stepped on reads later header is found recorded at same =
+        words later.memory ≡ words before.memory → IsRingPassed words h (RingRow ring ∷ past) later
+    comes_behind ring after kind stepped on reads later header is found recorded at =
         let keeps = tracked_now.keeps on in
         let now : IsRingStep g k (RingRow ring) after (words before.memory) = rw p.header at (stepped (p.tracked.keeps on) on) in
         let there : later.header ≡ with_ring g ring = header ∙ ap (λ (x : Header). with_ring x ring) p.header in
@@ -137,14 +136,13 @@ module _ {B M : Type 0} (words : M → ℕ → ℕ) where
           tracked = rw (recorded, at, there) (record { follows = now.followed; keeps = λ still. comes_keeps g headed_now ring coming k keeps good.1 });
           entries = forgotten_fits k _ p.entries;
           clean = (p.clean, none_broken k _ BadRing (is_bad_ring g k ring) (coming_alone g k ring) good);
-          unwithdrawn = λ none. comes_free h past (p.unwithdrawn (sym same ∙ none)) ring;
         }
 
     -- behind a ring that goes
     pub goes_behind : (id : ℕ) (after : TraceRecord) → (DriverKeeps before.header k → k.stopped ≡ false → IsRingStep before.header k (FreeRow id) after (words before.memory)) →
         k.stopped ≡ false → IsWithin after.events (length past) → (later : RingPass B M) → later.header ≡ without_ring before.header id → IsHeader later.header → IsFinder later.header.rings later.finder → later.record ≡ after →
-        words later.memory ≡ words before.memory → later.has_withdrawn ≡ before.has_withdrawn → IsRingPassed words h (FreeRow id ∷ past) later
-    goes_behind id after stepped on reads later header is found recorded at same =
+        words later.memory ≡ words before.memory → IsRingPassed words h (FreeRow id ∷ past) later
+    goes_behind id after stepped on reads later header is found recorded at =
         let keeps = tracked_now.keeps on in
         let now : IsRingStep g k (FreeRow id) after (words before.memory) = rw p.header at (stepped (p.tracked.keeps on) on) in
         let there : later.header ≡ without_ring g id = header ∙ ap (λ (x : Header). without_ring x id) p.header in
@@ -158,16 +156,15 @@ module _ {B M : Type 0} (words : M → ℕ → ℕ) where
           tracked = rw (recorded, at, there) (record { follows = now.followed; keeps = λ still. gone_ring_kept g headed_now k keeps id good.1 });
           entries = forgotten_fits k _ p.entries;
           clean = (p.clean, none_broken k _ BadFree (is_bad_free g k id) (going_alone g k id) good);
-          unwithdrawn = λ none. goes_free h past (p.unwithdrawn (sym same ∙ none)) id;
         }
 
     -- behind a descriptor that is withdrawn
     pub withdrawn_behind : (r q : ℕ) (after : TraceRecord) → (DriverKeeps before.header k → k.stopped ≡ false → IsRingStep before.header k (NopRow r q) after (words before.memory)) →
         (DriverKeeps before.header k → withdraws_badly before.header k r q ≡ false) → k.stopped ≡ false → IsWithin after.events (length past) →
-        (later : RingPass B M) → later.header ≡ before.header → later.finder ≡ before.finder → later.record ≡ after → words later.memory ≡ words before.memory → later.has_withdrawn ≡ true →
+        (later : RingPass B M) → later.header ≡ before.header → later.finder ≡ before.finder → later.record ≡ after → words later.memory ≡ words before.memory →
         IsRingPassed words h (NopRow r q ∷ past) later
     unfolding on_ring
-    withdrawn_behind r q after stepped good on reads later header same recorded at has =
+    withdrawn_behind r q after stepped good on reads later header same recorded at =
         let keeps = tracked_now.keeps on in
         let now : IsRingStep g k (NopRow r q) after (words before.memory) = rw p.header at (stepped (p.tracked.keeps on) on) in
         record {
@@ -179,13 +176,12 @@ module _ {B M : Type 0} (words : M → ℕ → ℕ) where
           tracked = rw (recorded, at, header, p.header) (record { follows = now.followed; keeps = λ still. withdraw_keeps g r q headed_now k keeps (kept_withdrawing g k r q now.kept).1 });
           entries = still_fit k (known_now h (NopRow r q ∷ past)) refl (λ s d at. at) p.entries;
           clean = (p.clean, none_broken k _ BadWithdraw (withdraws_badly g k r q) (withdrawing_alone g k r q) (on, rw p.header at (good (p.tracked.keeps on))));
-          unwithdrawn = λ none. absurd (false≢true (sym none ∙ has));
         }
 
     -- the log and the indexes tell nothing of this
     pub same_still : (later : RingPass B M) → later.header ≡ before.header → later.finder ≡ before.finder → later.record ≡ before.record → later.memory ≡ before.memory →
-        later.has_withdrawn ≡ before.has_withdrawn → IsRingPassed words h past later
-    same_still later header finder known memory withdrawn = rw (header, finder, known, memory, withdrawn) (assumption p)
+        IsRingPassed words h past later
+    same_still later header finder known memory = rw (header, finder, known, memory) (assumption p)
 
     -- no run beside the rows, in their order, does harm
     pub no_harm : All IsRow past → DoNoHarm h (reverse past)

@@ -1,12 +1,13 @@
 -- How far a pass has come over rows between which rings come and go, and descriptors are withdrawn
-use Rattle.std.specs.Prelude.{◌≡◌, ℕ, false, List, length}
+use Rattle.std.specs.Prelude.{◌≡◌, ℕ, false, IfSome, List, length}
 use Rattle.segments.specs.RingKeeps.{IsRestored}
 use Rattle.traces.specs.declared.header.Header.{Header}
 use Rattle.traces.specs.declared.row.Row.{Row}
 use Rattle.traces.specs.Header.{IsHeader}
 use Rattle.ring_knowledge.specs.Known.{Known}
 use Rattle.trace_record.specs.RingFinder.Finding.{IsFinder}
-use Rattle.ring_knowledge.specs.Histories.{header_now, known_now}
+use Rattle.ring_knowledge.specs.Histories.{header_now, known_now, ring_restored}
+use Rattle.ownership_rules.specs.Withdrawals.{some_flips}
 use Rattle.trace_record.specs.Fresh.{IsWithin}
 use Rattle.ownership_checker.specs.JudgedRows.Tracking.{IsTracked}
 use Rattle.leases.specs.LeaseBooks.Lents.{Lent, lents}
@@ -15,9 +16,11 @@ use Rattle.leases.specs.LeaseRows.LeftBehind.{EntriesFit}
 use Rattle.ownership_checker.specs.RingPasses.Clean.{AreClean}
 use Rattle.ownership_checker.specs.declared.pass.ring_pass.RingPass.{RingPass}
 
--- of no ring is anything the driver's that was handed over
-abbrev pub NothingFree : Known → Type 0
-NothingFree k = (r : ℕ) → IsRestored (k.ring r)
+-- a row has nothing to do with what was withdrawn: of the ring that it starts or moves nothing is the driver's that was handed over, and it
+-- flips no Cycle bit of what is
+pub record MeetsNothingFree (h : Header) (k : Known) (row : Row) : Type 0 where
+  pub restores : IfSome (ring_restored h k row) (λ r. IsRestored (k.ring r))
+  pub flips : some_flips h k row ≡ false
 
 -- the rows so far, the newest first, break no rule; the header is that of the rings that are there behind them, and the record and the
 -- memory hold what is known then; `h` is the header before the first
@@ -30,7 +33,6 @@ pub record IsRingPassed {B M : Type 0} (words : M → ℕ → ℕ) (h : Header) 
   pub tracked : IsTracked pass.header (known_now h past) pass.record (words pass.memory)
   pub entries : EntriesFit (known_now h past)
   pub clean : AreClean h past
-  pub unwithdrawn : pass.has_withdrawn ≡ false → NothingFree (known_now h past)
 
 -- the log keeps the leases of the rows so far, the newest first, and the indexes find the ranges among them; `first` is the number of the
 -- oldest row

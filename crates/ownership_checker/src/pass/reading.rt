@@ -57,6 +57,7 @@ pub fn pass_rows<S: Source, B: LeaseLog + Drop, M: WordMemory + Drop>(
 
 /// The same pass, but nothing is read behind a refused row: it is told as soon as its line came, and a bad line only where it stands before
 /// that row.
+#[inline(always)]
 pub fn pass_followed<S: Source, B: LeaseLog + Drop, M: WordMemory + Drop>(
     alloc: Global,
     reader: &mut RowReader,

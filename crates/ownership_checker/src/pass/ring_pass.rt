@@ -22,7 +22,7 @@ ghost use Rattle.trace_record.specs.Steps.{IfRefused};
 ghost use Rattle.trace_record.specs.RowPlaces.{IsPlaced};
 ghost use Rattle.ownership_checker.specs.RingPasses.Clean.{IsLeastOfRow};
 ghost use Rattle.ownership_checker.specs.RingPasses.KeptRows.{IsBehind};
-ghost use Rattle.ownership_checker.specs.RingPasses.Passing.{IsRingLogged, IsRingPassed};
+ghost use Rattle.ownership_checker.specs.RingPasses.Passing.{IsRingLogged, IsRingPassed, MeetsNothingFree};
 
 mod withdrawals;
 
@@ -55,8 +55,6 @@ pub struct RingPass<B, M> {
     memory: M,
     log: B,
     ranges: RangeIndexes,
-    /// Whether a descriptor was withdrawn: else nothing that was handed over is the driver's.
-    has_withdrawn: bool,
 }
 
 impl<B: LeaseLog + Drop, M: WordMemory + Drop> RingPass<B, M> {
@@ -82,7 +80,6 @@ impl<B: LeaseLog + Drop, M: WordMemory + Drop> RingPass<B, M> {
             memory,
             log,
             ranges: RangeIndexes::new(alloc),
-            has_withdrawn: false,
         })
     }
 
@@ -98,50 +95,31 @@ impl<B: LeaseLog + Drop, M: WordMemory + Drop> RingPass<B, M> {
         ensures refused { IfErr result (λ e. IfRefused e (λ c. (h : Header) (past : List Row) → IsRingPassed M.words h past self.old →
             IsLeastOfRow (header_now h past) (known_now h past) row.now c)) }
     {
-        if self.has_withdrawn || is_of_ring(row) {
-            return self.rare_row(number, row);
-        }
         match row {
             Row::Write { at, word } => {
                 let mut place = self
                     .record
                     .word_place(&self.header, &self.finder, *at, *word);
                 self.record.add_command(&self.header, &mut place);
+                if self.meets_free(row, &place) {
+                    return self.row_amid_free(number, row);
+                }
                 self.placed_row(number, row, &place)
             }
             Row::Read { event } if event.kind() == BlockKind::CommandCompletion => {
                 self.completion_row(number, *event)
             }
+            Row::Bell { .. } if self.meets_free(row, &NOWHERE) => self.row_amid_free(number, row),
+            Row::Ring { ring } => self.ring_comes(ring.as_ring()),
+            Row::Free { ring: id } => self.ring_goes(number, *id),
+            Row::Nop { ring, position } => { self.descriptor_withdrawn(number, *ring, *position) }
             _ => self.placed_row(number, row, &NOWHERE),
         }
     }
 
-    /// The same of a row by which a ring comes or goes or a descriptor is withdrawn, or of any behind one that was. It stays apart, so that
-    /// nothing is kept of it where other rows go inline.
-    #[inline(never)]
-    fn rare_row(&mut self, number: u32, row: &Row) -> Result<(), StepFault>
-        requires so_far { (h : Header) × (past : List Row) × IsRingPassed M.words h past self.old × (length past ≤ most_streamed_lines) }
-        requires fits { IsRow row.now }
-        requires rare { is_ring_row row.now ≡ false → self.old.has_withdrawn ≡ true }
-        ensures passed { OnOk result ((h : Header) (past : List Row) → IsRingPassed M.words h past self.old → IsRingPassed M.words h (row.now ∷ past) self.new) }
-        ensures logged { OnOk result ((list : List Lease) (h : Header) (first : ℕ) (past : List Row) → IsRingPassed M.words h past self.old →
-            number ≡ first + length past → first + length past < without_end →
-            IsRingLogged (B.holds list) h first past self.old → IsRingLogged (B.holds list) h first (row.now ∷ past) self.new) }
-        ensures refused { IfErr result (λ e. IfRefused e (λ c. (h : Header) (past : List Row) → IsRingPassed M.words h past self.old →
-            IsLeastOfRow (header_now h past) (known_now h past) row.now c)) }
-    {
-        match row {
-            Row::Ring { ring } => self.ring_comes(ring.as_ring().copy()?),
-            Row::Free { ring: id } => self.ring_goes(number, *id),
-            Row::Nop { ring, position } => { self.descriptor_withdrawn(number, *ring, *position) }
-            _ => self.row_behind_withdrawals(number, row),
-        }
-    }
-
-    /// The same of a Command Completion Event, where nothing was withdrawn. It stays apart, so that writes and other rows go inline.
+    /// The same of a Command Completion Event. It stays apart, so that writes and other rows go inline.
     #[inline(never)]
     fn completion_row(&mut self, number: u32, event: Block) -> Result<(), StepFault>
-        requires unwithdrawn { self.old.has_withdrawn ≡ false }
         requires so_far { (h : Header) × (past : List Row) × IsRingPassed M.words h past self.old × (length past ≤ most_streamed_lines) }
         ensures passed { OnOk result ((h : Header) (past : List Row) → IsRingPassed M.words h past self.old → IsRingPassed M.words h ((Read event) ∷ past) self.new) }
         ensures logged { OnOk result ((list : List Lease) (h : Header) (first : ℕ) (past : List Row) → IsRingPassed M.words h past self.old →
@@ -155,20 +133,19 @@ impl<B: LeaseLog + Drop, M: WordMemory + Drop> RingPass<B, M> {
         self.placed_row(number, &row, &place)
     }
 
-    /// The same of a row with this place, where nothing was withdrawn. It goes inline for writes, for completions and for other rows each by itself.
+    /// The same of a row with this place that has to do with nothing that was withdrawn. It goes inline for writes, for completions and for other rows each by itself.
     #[inline(always)]
     fn placed_row(&mut self, number: u32, row: &Row, place: &RowPlace) -> Result<(), StepFault>
-        requires unwithdrawn { self.old.has_withdrawn ≡ false }
         requires so_far { (h : Header) × (past : List Row) × IsRingPassed M.words h past self.old × (length past ≤ most_streamed_lines) }
         requires driven { is_ring_row row.now ≡ false }
-        ensures passed { OnOk result ((h : Header) (past : List Row) → IsRingPassed M.words h past self.old → IsPlaced self.old.header (known_now h past) row.now place.now →
+        ensures passed { OnOk result ((h : Header) (past : List Row) → IsRingPassed M.words h past self.old → IsPlaced self.old.header (known_now h past) row.now place.now → MeetsNothingFree self.old.header (known_now h past) row.now →
             IsRingPassed M.words h (row.now ∷ past) self.new) }
         ensures logged { OnOk result ((list : List Lease) (h : Header) (first : ℕ) (past : List Row) → IsRingPassed M.words h past self.old →
-            IsPlaced self.old.header (known_now h past) row.now place.now →
+            IsPlaced self.old.header (known_now h past) row.now place.now → MeetsNothingFree self.old.header (known_now h past) row.now →
             number ≡ first + length past → first + length past < without_end →
             IsRingLogged (B.holds list) h first past self.old → IsRingLogged (B.holds list) h first (row.now ∷ past) self.new) }
         ensures refused { IfErr result (λ e. IfRefused e (λ c. (h : Header) (past : List Row) → IsRingPassed M.words h past self.old →
-            IsPlaced self.old.header (known_now h past) row.now place.now →
+            IsPlaced self.old.header (known_now h past) row.now place.now → MeetsNothingFree self.old.header (known_now h past) row.now →
             IsLeastOfRow (header_now h past) (known_now h past) row.now c)) }
     {
         note_row(
@@ -194,15 +171,15 @@ impl<B: LeaseLog + Drop, M: WordMemory + Drop> RingPass<B, M> {
 
     /// Checks a transfer ring that comes, and takes it up. No lease begins or ends (xHCI 4.9).
     #[inline(never)]
-    fn ring_comes(&mut self, ring: Ring) -> Result<(), StepFault>
+    fn ring_comes(&mut self, ring: &Ring) -> Result<(), StepFault>
         requires so_far { (h : Header) × (past : List Row) × IsRingPassed M.words h past self.old }
-        requires transfers { ring.shape.kind ≡ Xfer }
-        ensures passed { OnOk result ((h : Header) (past : List Row) → IsRingPassed M.words h past self.old → IsRingPassed M.words h (RingRow ring ∷ past) self.new) }
+        requires transfers { ring.now.shape.kind ≡ Xfer }
+        ensures passed { OnOk result ((h : Header) (past : List Row) → IsRingPassed M.words h past self.old → IsRingPassed M.words h (RingRow ring.now ∷ past) self.new) }
         ensures logged { OnOk result ((list : List Lease) (h : Header) (first : ℕ) (past : List Row) → IsRingPassed M.words h past self.old →
             first + length past < without_end →
-            IsRingLogged (B.holds list) h first past self.old → IsRingLogged (B.holds list) h first (RingRow ring ∷ past) self.new) }
+            IsRingLogged (B.holds list) h first past self.old → IsRingLogged (B.holds list) h first (RingRow ring.now ∷ past) self.new) }
         ensures refused { IfErr result (λ e. IfRefused e (λ c. (h : Header) (past : List Row) → IsRingPassed M.words h past self.old →
-            IsLeastOfRow (header_now h past) (known_now h past) (RingRow ring) c)) }
+            IsLeastOfRow (header_now h past) (known_now h past) (RingRow ring.now) c)) }
     {
         if self.record.registers.is_stopped() {
             return Err(StepFault::Refused(Refusal::AfterStop));
@@ -213,7 +190,7 @@ impl<B: LeaseLog + Drop, M: WordMemory + Drop> RingPass<B, M> {
             &mut self.finder,
             &mut self.record,
             &self.memory,
-            ring,
+            ring.copy()?,
         )?;
         Ok(())
     }
@@ -252,7 +229,6 @@ impl<B: LeaseLog + Drop, M: WordMemory + Drop> RingPass<B, M> {
         ensures record { self.new.record ≡ self.old.record }
         ensures memory { self.new.memory ≡ self.old.memory }
         ensures ranges { self.new.ranges ≡ self.old.ranges }
-        ensures withdrawn { self.new.has_withdrawn ≡ self.old.has_withdrawn }
         ensures ended { (list : List Lease) (k : Known) (memory : ℕ → ℕ) (ts : List Lent) → FollowsTrace self.old.header k self.old.record memory →
             is_transfer_ring (ring_with self.old.header id) ≡ true → AreOpen self.old.header k ts → B.holds list self.old.header ts self.old.log →
             B.holds list self.old.header (map (ended_where (is_of_ring id) number) ts) self.new.log }
@@ -319,12 +295,4 @@ impl<B: LeaseLog + Drop, M: WordMemory + Drop> RingPass<B, M> {
             log: self.log,
         }
     }
-}
-
-/// A ring comes or goes by the row, or a descriptor is withdrawn.
-#[inline(always)]
-fn is_of_ring(row: &Row) -> bool
-    ensures { result ≡ is_ring_row row.now }
-{
-    matches!(row, Row::Ring { .. } | Row::Free { .. } | Row::Nop { .. })
 }

@@ -1,6 +1,7 @@
 //! Rows of a trace in which descriptors are withdrawn: of what was handed over some may be the driver's again, until the ring is started or moved
 //! (xHCI 4.6.9, 4.6.10).
-ghost use Rattle.std.specs.Prelude.{◌≡◌, ◌+◌, ◌<◌, ◌≤◌, ℕ, true, false, [], ◌∷◌, List, None, Some, length, IfErr, OnOk};
+ghost use Rattle.std.specs.Prelude.{◌≡◌, ◌+◌, ◌<◌, ◌≤◌, ℕ, true, false, [], ◌∷◌, List, None, Some, length, IfErr, IfSome, OnOk};
+ghost use Rattle.segments.specs.RingKeeps.{IsRestored};
 ghost use Rattle.segments.specs.RingView.{Restores, Withdraws as WithdrawsAt, floor_number};
 ghost use Rattle.traces.specs.Header.{IsHeader, ring_with};
 ghost use Rattle.traces.specs.declared.header.Header.{Header};
@@ -31,7 +32,7 @@ ghost use Rattle.driver_rows.specs.RingRows.GivenCommands.{GivesCommandAt};
 ghost use Rattle.ring_knowledge.specs.Histories.{header_now, known_now, restored, ring_restored};
 ghost use Rattle.ownership_rules.specs.Withdrawals.{is_left, some_flips};
 ghost use Rattle.ownership_checker.specs.RingPasses.Clean.{IsLeastOfRow};
-ghost use Rattle.ownership_checker.specs.RingPasses.Passing.{IsRingLogged, IsRingPassed};
+ghost use Rattle.ownership_checker.specs.RingPasses.Passing.{IsRingLogged, IsRingPassed, MeetsNothingFree};
 
 use super::RingPass;
 use crate::rows::check_row;
@@ -75,7 +76,6 @@ impl<B: LeaseLog + Drop, M: WordMemory + Drop> RingPass<B, M> {
             id,
             position,
         )?;
-        self.has_withdrawn = true;
         Ok(())
     }
 
@@ -88,7 +88,6 @@ impl<B: LeaseLog + Drop, M: WordMemory + Drop> RingPass<B, M> {
         ensures finder { self.new.finder ≡ self.old.finder }
         ensures record { self.new.record ≡ self.old.record }
         ensures memory { self.new.memory ≡ self.old.memory }
-        ensures withdrawn { self.new.has_withdrawn ≡ self.old.has_withdrawn }
         ensures ended { (list : List Lease) (k : Known) (memory : ℕ → ℕ) (ts : List Lent) → FollowsTrace self.old.header k self.old.record memory →
             floor_number (k.ring id) ≤ position → is_transfer_ring (ring_with self.old.header id) ≡ true → AreOpen self.old.header k ts → HoldsAll (B.holds list) self.old.header ts self.old.log self.old.ranges →
             HoldsAll (B.holds list) self.old.header (passed_on (open_leases self.old.header k) (open_leases self.old.header (on_ring self.old.header k id (WithdrawsAt position))) number ts) self.new.log self.new.ranges }
@@ -105,11 +104,64 @@ impl<B: LeaseLog + Drop, M: WordMemory + Drop> RingPass<B, M> {
         note_withdrawing(&mut self.log, number, ring, position, count);
     }
 
-    /// Checks a row of the driver where descriptors were withdrawn, and notes it and its leases.
+    /// Whether a row has to do with what was withdrawn: something is free of the ring that has its word, or of the one that it starts or moves.
+    #[inline(always)]
+    pub(super) fn meets_free(&self, row: &Row, place: &RowPlace) -> bool
+        requires headed { IsHeader self.now.header }
+        requires found { IsFinder self.now.header.rings self.now.finder }
+        ensures { result ≡ false → (k : Known) (memory : ℕ → ℕ) → FollowsTrace self.now.header k self.now.record memory → IsPlaced self.now.header k row.now place.now →
+            MeetsNothingFree self.now.header k row.now }
+    {
+        match row {
+            Row::Write { .. } => {
+                self.is_amid_free(place)
+                    || (place.command.is_some() && self.restores_free(row, place))
+            }
+            Row::Bell { .. } => self.restores_free(row, place),
+            _ => false,
+        }
+    }
+
+    /// Whether something is free of the ring that has the word with this place.
+    #[inline(always)]
+    fn is_amid_free(&self, place: &RowPlace) -> bool
+        requires headed { IsHeader self.now.header }
+        ensures { result ≡ false → (k : Known) (memory : ℕ → ℕ) (at word : ℕ) → FollowsTrace self.now.header k self.now.record memory → IsPlacedSo self.now.header k at word place.now →
+            some_flips self.now.header k (Write at word) ≡ false }
+    {
+        let Some(number) = place.ring else {
+            return false;
+        };
+        match self.record.rings.as_slice().get(number) {
+            Some(known) => known.has_free(),
+            None => true,
+        }
+    }
+
+    /// Whether something is free of the ring that a row starts or moves. It stays apart, so that nothing is kept of it where writes go inline.
     #[inline(never)]
-    pub(super) fn row_behind_withdrawals(&mut self, number: u32, row: &Row) -> Result<(), StepFault>
+    fn restores_free(&self, row: &Row, place: &RowPlace) -> bool
+        requires headed { IsHeader self.now.header }
+        requires found { IsFinder self.now.header.rings self.now.finder }
+        ensures { result ≡ false → (k : Known) (memory : ℕ → ℕ) → FollowsTrace self.now.header k self.now.record memory → IsPlaced self.now.header k row.now place.now →
+            IfSome (ring_restored self.now.header k row.now) (λ r. IsRestored (k.ring r)) }
+    {
+        let Some(id) = ring_restored(&self.record, row, place) else {
+            return false;
+        };
+        let Some(number) = transfer_ring(&self.header, &self.finder, id) else {
+            return true;
+        };
+        match self.record.rings.as_slice().get(number) {
+            Some(known) => known.has_free(),
+            None => true,
+        }
+    }
+
+    /// Checks a row that has to do with what was withdrawn, and notes it and its leases: a ring that it starts or moves is restored before it is judged.
+    #[inline(never)]
+    pub(super) fn row_amid_free(&mut self, number: u32, row: &Row) -> Result<(), StepFault>
         requires so_far { (h : Header) × (past : List Row) × IsRingPassed M.words h past self.old × (length past ≤ most_streamed_lines) }
-        requires withdrawn { self.old.has_withdrawn ≡ true }
         requires driven { is_ring_row row.now ≡ false }
         ensures passed { OnOk result ((h : Header) (past : List Row) → IsRingPassed M.words h past self.old → IsRingPassed M.words h (row.now ∷ past) self.new) }
         ensures logged { OnOk result ((list : List Lease) (h : Header) (first : ℕ) (past : List Row) → IsRingPassed M.words h past self.old →
@@ -121,14 +173,25 @@ impl<B: LeaseLog + Drop, M: WordMemory + Drop> RingPass<B, M> {
         if self.record.registers.is_stopped() {
             return Err(StepFault::Refused(Refusal::AfterStop));
         }
-        let place = self.record.place(&self.header, &self.finder, row);
-        let ring = ring_restored(&self.record, row, &place);
+        let before = self.record.place(&self.header, &self.finder, row);
+        let ring = ring_restored(&self.record, row, &before);
         if is_left(&self.header, &self.finder, &self.record, &self.memory, ring) {
-            return Err(self.refusal_left(row, &place));
+            return Err(self.refusal_left(row, &before));
         }
-        self.note_leases(number, row, &place, ring)?;
+        self.note_leases(number, row, &before, ring)?;
         restore_ring(&self.header, &self.finder, &mut self.record, ring);
-        self.check_restored(row, &place, ring)
+        let place = self.record.place(&self.header, &self.finder, row);
+        if some_flips(&self.header, &self.record, row, &place) {
+            return Err(StepFault::Refused(Refusal::WriteToOwned));
+        }
+        check_row(
+            &self.header,
+            &self.finder,
+            &mut self.record,
+            &mut self.memory,
+            row,
+            &place,
+        )
     }
 
     /// The least rule that a row breaks that starts or moves a ring which doesn't stand as declared: rule 33 is the last of them.
@@ -152,59 +215,6 @@ impl<B: LeaseLog + Drop, M: WordMemory + Drop> RingPass<B, M> {
         }
     }
 
-    /// The place of a row behind the restoring of this ring: where no ring is restored, the one that was found before.
-    #[inline(always)]
-    fn place_behind(&self, row: &Row, before: &RowPlace, ring: Option<u8>) -> RowPlace
-        requires headed { IsHeader self.now.header }
-        requires found { IsFinder self.now.header.rings self.now.finder }
-        ensures { (k : Known) (memory : ℕ → ℕ) → FollowsTrace self.now.header k self.now.record memory →
-            (ring ≡ None → IsPlaced self.now.header k row.now before.now) → IsPlaced self.now.header k row.now result }
-    {
-        match ring {
-            None => *before,
-            Some(_) => self.record.place(&self.header, &self.finder, row),
-        }
-    }
-
-    /// Checks a row, and notes it, whose ring stands as declared and is the controller's again; `before` is the place that it had.
-    fn check_restored(
-        &mut self,
-        row: &Row,
-        before: &RowPlace,
-        ring: Option<u8>,
-    ) -> Result<(), StepFault>
-        requires headed { IsHeader self.old.header }
-        requires found { IsFinder self.old.header.rings self.old.finder }
-        requires as_many { length self.old.record.rings.items ≡ length self.old.header.rings }
-        requires few_reads { IsWithin self.old.record.events most_streamed_lines }
-        requires driven { is_ring_row row.now ≡ false }
-        ensures header { self.new.header ≡ self.old.header }
-        ensures finder { self.new.finder ≡ self.old.finder }
-        ensures log { self.new.log ≡ self.old.log }
-        ensures ranges { self.new.ranges ≡ self.old.ranges }
-        ensures withdrawn { self.new.has_withdrawn ≡ self.old.has_withdrawn }
-        ensures ok { OnOk result ((k : Known) → IsTracked self.old.header k self.old.record (M.words self.old.memory) →
-            (ring ≡ None → IsPlaced self.old.header k row.now before.now) →
-            (some_flips self.old.header k row.now ≡ false) × IsRowStep self.old.header k row.now self.new.record (M.words self.new.memory)) }
-        ensures refused { IfErr result (λ e. IfRefused e (λ c. (k : Known) → IsTracked self.old.header k self.old.record (M.words self.old.memory) →
-            (ring ≡ None → IsPlaced self.old.header k row.now before.now) →
-            first_of (broken_restored self.old.header k row.now) ≡ Some c)) }
-        ensures reads { OnOk result ((n : ℕ) → IsWithin self.old.record.events n → IsWithin self.new.record.events (n + 1)) }
-    {
-        let place = self.place_behind(row, before, ring);
-        if some_flips(&self.header, &self.record, row, &place) {
-            return Err(StepFault::Refused(Refusal::WriteToOwned));
-        }
-        check_row(
-            &self.header,
-            &self.finder,
-            &mut self.record,
-            &mut self.memory,
-            row,
-            &place,
-        )
-    }
-
     /// Notes the leases that begin and end with a row, where it breaks no rule; `ring` is the one that it starts or moves.
     fn note_leases(
         &mut self,
@@ -221,7 +231,6 @@ impl<B: LeaseLog + Drop, M: WordMemory + Drop> RingPass<B, M> {
         ensures finder { self.new.finder ≡ self.old.finder }
         ensures record { self.new.record ≡ self.old.record }
         ensures memory { self.new.memory ≡ self.old.memory }
-        ensures withdrawn { self.new.has_withdrawn ≡ self.old.has_withdrawn }
         ensures logged { OnOk result ((list : List Lease) (h : Header) (first : ℕ) (past : List Row) → IsRingPassed M.words h past self.old →
             IsPlaced self.old.header (known_now h past) row.now place.now → ring ≡ ring_restored (header_now h past) (known_now h past) row.now →
             lenient (header_now h past) (restored (header_now h past) (known_now h past) row.now) row.now ≡ [] →
@@ -256,7 +265,6 @@ impl<B: LeaseLog + Drop, M: WordMemory + Drop> RingPass<B, M> {
         ensures finder { self.new.finder ≡ self.old.finder }
         ensures record { self.new.record ≡ self.old.record }
         ensures memory { self.new.memory ≡ self.old.memory }
-        ensures withdrawn { self.new.has_withdrawn ≡ self.old.has_withdrawn }
         ensures restored { OnOk result ((list : List Lease) (k : Known) (memory : ℕ → ℕ) (ts : List Lent) → FollowsTrace self.old.header k self.old.record memory →
             is_transfer_ring (ring_with self.old.header id) ≡ true → AreOpen self.old.header k ts → HoldsAll (B.holds list) self.old.header ts self.old.log self.old.ranges →
             HoldsAll (B.holds list) self.old.header (passed_on (open_leases self.old.header k) (open_leases self.old.header (on_ring self.old.header k id Restores)) number ts) self.new.log self.new.ranges) }
@@ -278,7 +286,6 @@ impl<B: LeaseLog + Drop, M: WordMemory + Drop> RingPass<B, M> {
         ensures finder { self.new.finder ≡ self.old.finder }
         ensures record { self.new.record ≡ self.old.record }
         ensures memory { self.new.memory ≡ self.old.memory }
-        ensures withdrawn { self.new.has_withdrawn ≡ self.old.has_withdrawn }
         ensures moved { OnOk result ((list : List Lease) (k : Known) (memory : ℕ → ℕ) (ts : List Lent) (a w : ℕ) → FollowsTrace self.old.header k self.old.record memory →
             DriverKeeps self.old.header k → IsPlacedSo self.old.header k a w place.now → ring_restored self.old.header k (Write a w) ≡ Some id → AreOpen self.old.header k ts →
             number < without_end → HoldsAll (B.holds list) self.old.header ts self.old.log self.old.ranges →
@@ -313,7 +320,6 @@ impl<B: LeaseLog + Drop, M: WordMemory + Drop> RingPass<B, M> {
         ensures finder { self.new.finder ≡ self.old.finder }
         ensures record { self.new.record ≡ self.old.record }
         ensures memory { self.new.memory ≡ self.old.memory }
-        ensures withdrawn { self.new.has_withdrawn ≡ self.old.has_withdrawn }
         ensures moved { OnOk result ((list : List Lease) (k : Known) (memory : ℕ → ℕ) (ts : List Lent) (a w : ℕ) → FollowsTrace self.old.header k self.old.record memory →
             DriverKeeps self.old.header k → GivesCommandAt self.old.header k a w command_ring position → ring_restored self.old.header k (Write a w) ≡ Some id → AreOpen self.old.header k ts →
             number < without_end → HoldsAll (B.holds list) self.old.header ts self.old.log self.old.ranges →

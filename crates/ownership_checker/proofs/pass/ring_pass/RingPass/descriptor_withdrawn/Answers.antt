@@ -13,7 +13,7 @@ returns-in_err-check_withdrawing-clause-refused g c =
     rw (e.1, e.2)
     (withdrawn_refused words c.args.self.now c.end_withdrawn.new.self c.args.id c.args.position
     (λ h past p. (
-      same_still words h past c.args.self.now p c.end_withdrawn.new.self c.end_withdrawn.ensures.header c.end_withdrawn.ensures.finder c.end_withdrawn.ensures.record c.end_withdrawn.ensures.memory c.end_withdrawn.ensures.withdrawn,
+      same_still words h past c.args.self.now p c.end_withdrawn.new.self c.end_withdrawn.ensures.header c.end_withdrawn.ensures.finder c.end_withdrawn.ensures.record c.end_withdrawn.ensures.memory,
       sym (c.is_stopped.ensures (known_now h past) p.tracked.follows.registers) ∙ c.if-is_stopped.false,
     ))
     c.in_err-check_withdrawing.field-0.0 c.in_err-check_withdrawing.ensures.refused)
@@ -23,12 +23,12 @@ returns-clause-passed g c = λ h past p.
     let words = g.M.WordMemory.words in
     let k = known_now h past in
     let before = c.end_withdrawn.new.self in
-    let q = same_still words h past c.args.self.now p before c.end_withdrawn.ensures.header c.end_withdrawn.ensures.finder c.end_withdrawn.ensures.record c.end_withdrawn.ensures.memory c.end_withdrawn.ensures.withdrawn in
+    let q = same_still words h past c.args.self.now p before c.end_withdrawn.ensures.header c.end_withdrawn.ensures.finder c.end_withdrawn.ensures.record c.end_withdrawn.ensures.memory in
     withdrawn_behind words h past before q c.args.id c.args.position c.check_withdrawing.new.kept
     (λ keeps on. c.in_ok-check_withdrawing.ensures.ok k q.tracked.follows keeps (contexts_fit before.header k keeps) on)
     (λ keeps. c.in_ok-check_withdrawing.ensures.version k q.tracked.follows keeps (contexts_fit before.header k keeps))
     (sym (c.is_stopped.ensures k p.tracked.follows.registers) ∙ c.if-is_stopped.false)
-    (subst (λ e. IsWithin e (length past)) (sym c.in_ok-check_withdrawing.ensures.events) q.few_reads) _ refl refl refl refl refl
+    (subst (λ e. IsWithin e (length past)) (sym c.in_ok-check_withdrawing.ensures.events) q.few_reads) _ refl refl refl refl
 
 pub returns-clause-logged : goal.returns-clause-logged
 returns-clause-logged g c = λ list h first past p numbered room held.
@@ -41,7 +41,7 @@ returns-clause-logged g c = λ list h first past p numbered room held.
     let id = c.args.id in
     let at = c.args.position in
     let on = sym (c.is_stopped.ensures k p.tracked.follows.registers) ∙ c.if-is_stopped.false in
-    let q = same_still words h past before p later c.end_withdrawn.ensures.header c.end_withdrawn.ensures.finder c.end_withdrawn.ensures.record c.end_withdrawn.ensures.memory c.end_withdrawn.ensures.withdrawn in
+    let q = same_still words h past before p later c.end_withdrawn.ensures.header c.end_withdrawn.ensures.finder c.end_withdrawn.ensures.record c.end_withdrawn.ensures.memory in
     let keeps = q.tracked.keeps on in
     let step = c.in_ok-check_withdrawing.ensures.ok k q.tracked.follows keeps (contexts_fit later.header k keeps) on in
     let from = c.in_ok-check_withdrawing.ensures.from k q.tracked.follows keeps (contexts_fit later.header k keeps) in

@@ -13,7 +13,7 @@ returns-in_err-check_going-clause-refused g c =
     rw (e.1, e.2)
     (goes_refused words c.args.self.now c.end_leases.new.self c.args.id
     (λ h past p. (
-      same_still words h past c.args.self.now p c.end_leases.new.self c.end_leases.ensures.header c.end_leases.ensures.finder c.end_leases.ensures.record c.end_leases.ensures.memory c.end_leases.ensures.withdrawn,
+      same_still words h past c.args.self.now p c.end_leases.new.self c.end_leases.ensures.header c.end_leases.ensures.finder c.end_leases.ensures.record c.end_leases.ensures.memory,
       sym (c.is_stopped.ensures (known_now h past) p.tracked.follows.registers) ∙ c.if-is_stopped.false,
     ))
     c.in_err-check_going.field-0.0 c.in_err-check_going.ensures.refused)
@@ -23,12 +23,12 @@ returns-clause-passed g c = λ h past p.
     let words = g.M.WordMemory.words in
     let k = known_now h past in
     let before = c.end_leases.new.self in
-    let q = same_still words h past c.args.self.now p before c.end_leases.ensures.header c.end_leases.ensures.finder c.end_leases.ensures.record c.end_leases.ensures.memory c.end_leases.ensures.withdrawn in
+    let q = same_still words h past c.args.self.now p before c.end_leases.ensures.header c.end_leases.ensures.finder c.end_leases.ensures.record c.end_leases.ensures.memory in
     goes_behind words h past before q c.args.id c.check_going.new.kept
     (λ keeps on. c.in_ok-check_going.ensures.ok k (words before.memory) q.tracked.follows keeps on)
     (sym (c.is_stopped.ensures k p.tracked.follows.registers) ∙ c.if-is_stopped.false)
     (subst (λ e. IsWithin e (length past)) (sym c.in_ok-check_going.ensures.events) q.few_reads) _
-    c.in_ok-check_going.ensures.goes c.in_ok-check_going.ensures.headed c.in_ok-check_going.ensures.found refl refl refl
+    c.in_ok-check_going.ensures.goes c.in_ok-check_going.ensures.headed c.in_ok-check_going.ensures.found refl refl
 
 pub returns-clause-logged : goal.returns-clause-logged
 returns-clause-logged g c = λ list h first past p numbered room held.
@@ -39,7 +39,7 @@ returns-clause-logged g c = λ list h first past p numbered room held.
     let k = known_now h past in
     let id = c.args.id in
     let on = sym (c.is_stopped.ensures k p.tracked.follows.registers) ∙ c.if-is_stopped.false in
-    let q = same_still words h past before p later c.end_leases.ensures.header c.end_leases.ensures.finder c.end_leases.ensures.record c.end_leases.ensures.memory c.end_leases.ensures.withdrawn in
+    let q = same_still words h past before p later c.end_leases.ensures.header c.end_leases.ensures.finder c.end_leases.ensures.record c.end_leases.ensures.memory in
     let step = c.in_ok-check_going.ensures.ok k (words later.memory) q.tracked.follows (q.tracked.keeps on) on in
     let good : is_bad_free (header_now h past) k id ≡ false = subst (λ (x : Header). is_bad_free x k id ≡ false) q.header (kept_going later.header k id step.kept).1 in
     let here : is_bad_free before.header k id ≡ false = subst (λ (x : Header). is_bad_free x k id ≡ false) (sym p.header) good in
