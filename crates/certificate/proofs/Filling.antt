@@ -1,33 +1,12 @@
 -- What a reader gave piece by piece, where its bytes are known
-use Rattle.certificate.proofs.Words.{◌≡◌, ◌+◌, ◌-◌, ◌*◌, ◌/◌, ◌<◌, ◌≤◌, ◌++◌, ◌∙◌, ℕ, true, false, List, [], Option, Some, None, Result, Ok, Err, IfOk, IfErr, IfSome, length, take, arith, sym, ap, refl, subst, inl, inr, cases_lt, append_assoc, append-nil, length-append, length-take-le, le_refl, take_all, take-append-le, take-take, bytes_eq, bytes_eq-Decides, Consumes, IsAtEnd, Keeps, Lease, Records, NoCertificate, OtherMagic, OtherLength, OtherField, Unread, Bytes, Failed, AreSeen, AreUnread, IsUnread, IsShown, IsShownBehind, Magic, certificate_of, leases_in, magic, records_of}
+use Rattle.certificate.proofs.Words.{◌≡◌, ◌+◌, ◌-◌, ◌*◌, ◌/◌, ◌<◌, ◌≤◌, ◌++◌, ◌∙◌, ℕ, true, false, List, [], Option, Some, None, Result, Ok, Err, IfOk, IfErr, IfSome, length, take, arith, sym, ap, refl, subst, inl, inr, cases_lt, append-nil, length-append, length-take-le, le_refl, take_all, take-append-le, take-take, bytes_eq, bytes_eq-Decides, Consumes, IsAtEnd, Lease, Records, NoCertificate, OtherMagic, OtherLength, OtherField, Unread, Bytes, Failed, AreSeen, AreUnread, IsUnread, IsShown, IsShownBehind, Magic, certificate_of, leases_in, magic, records_of}
+use Rattle.std.proofs.KnownBytes.{Consumes-trans, Consumes-whole}
 use Rattle.certificate.proofs.Appending.{within}
 use Rattle.certificate.proofs.Pieces.{leases_in-append}
 use borrow.Rule.Slice.PartMut.{put_mid}
 
-pub nothing_read : (a : Option (List ℕ)) → Consumes a a []
-nothing_read None = tt
-nothing_read (Some xs) = refl
-
-pub read_on : (a b c : Option (List ℕ)) (bs cs : List ℕ) → Consumes a b bs → Consumes b c cs → Consumes a c (bs ++ cs)
-read_on None b c bs cs h k = tt
-read_on (Some xs) None c bs cs h k = absurd h
-read_on (Some xs) (Some ys) None bs cs h k = absurd k
-read_on (Some xs) (Some ys) (Some zs) bs cs h k = h ∙ ap (λ l. bs ++ l) k ∙ sym (append_assoc bs cs zs)
-
-pub none_read : (a b c : Option (List ℕ)) (bs : List ℕ) → Consumes a b bs → Keeps b c → Consumes a c bs
-none_read None b c bs h k = tt
-none_read (Some xs) None c bs h k = absurd h
-none_read (Some xs) (Some ys) None bs h k = absurd k
-none_read (Some xs) (Some ys) (Some zs) bs h k = h ∙ ap (λ l. bs ++ l) (sym k)
-
--- a reader that is at its end gave all that it had
-pub read_whole : (a b : Option (List ℕ)) (bs : List ℕ) (P : List ℕ → Type 0) → Consumes a b bs → IsAtEnd b → P bs → IfSome a P
-read_whole None b bs P h end is = tt
-read_whole (Some xs) None bs P h end is = absurd h
-read_whole (Some xs) (Some ys) bs P h end is = subst P (sym (h ∙ ap (λ l. bs ++ l) end ∙ append-nil bs)) is
-
--- of what it has left
-pub read_front : (a b : Option (List ℕ)) (bs : List ℕ) (P Q : List ℕ → Type 0) → Consumes a b bs → ((ys : List ℕ) → Q ys → P (bs ++ ys)) → IfSome b Q → IfSome a P
+-- what is so of what a reader has left is so of all that it had
+read_front : (a b : Option (List ℕ)) (bs : List ℕ) (P Q : List ℕ → Type 0) → Consumes a b bs → ((ys : List ℕ) → Q ys → P (bs ++ ys)) → IfSome b Q → IfSome a P
 read_front None b bs P Q h on is = tt
 read_front (Some xs) None bs P Q h on is = absurd h
 read_front (Some xs) (Some ys) bs P Q h on is = subst P (sym h) (on ys is)
@@ -52,6 +31,17 @@ seen_on r read more pieces n size is seen =
     let joined : length (read ++ more) ≡ length read + length more = length-append read more in
     let count : (170 * pieces) + length more / 24 ≡ n = omega arith in
     subst (λ m. AreSeen r (leases_in (read ++ more) m)) count (subst (AreSeen r) (sym (leases_in-append (170 * pieces) (length more / 24) read more whole)) seen)
+
+-- what is so of all records, where the last piece came
+pub whole_seen : (r : Records) (a b c : Option (List ℕ)) (read buffer : List ℕ) (pieces count : ℕ) (P : List ℕ → Type 0) → count ≤ length buffer → length read ≡ 4080 * pieces →
+    Consumes a b read → Consumes b c (take count buffer) → IsAtEnd c → AreSeen r (leases_in read (170 * pieces) ++ leases_in (take count buffer) (length (take count buffer) / 24)) →
+    ((records : List ℕ) → length records ≡ pieces * 4080 + count → AreSeen r (leases_in records (length records / 24)) → P records) → IfSome a P
+whole_seen r a b c read buffer pieces count P fits size before came end seen then =
+    let more = take count buffer in
+    let taken = length-take-le count buffer fits in
+    let both = length-append read more in
+    Consumes-whole a c (read ++ more) P (Consumes-trans a b c read more before came) end
+    (then (read ++ more) (omega (arith, both, taken, size)) (seen_on r read more pieces (length (read ++ more) / 24) size refl seen))
 
 -- ---- the bytes that name the format, in front of records
 

@@ -1,5 +1,6 @@
 -- Records piece by piece: those of a piece stand behind those before it, and the first that is none stays the first
-use Rattle.certificate.proofs.Words.{◌≡◌, ◌+◌, ◌*◌, ◌/◌, ◌%◌, ◌==◌, ◌≤◌, ◌<◌, ◌∷◌, ◌++◌, ◌∙◌, ℕ, suc, zero, true, false, List, [], Option, Some, None, Ok, Err, length, take, drop, add-zero, zero-add, arith, sym, ap, refl, subst, cond, eq-eqb, inl, inr, is_some, drop-append-le, drop-take, length-drop, take-append-le, get_or-take, cases_Bool, nat_tests, Lease, BadLease, Length, Field, first_bad, has_lease_fields, lease_in, leases_in, list_all, little_number, records_of}
+use Rattle.certificate.proofs.Records.{same_lease}
+use Rattle.certificate.proofs.Words.{◌≡◌, ◌+◌, ◌*◌, ◌/◌, ◌%◌, ◌==◌, ◌≤◌, ◌∷◌, ◌++◌, ◌∙◌, ℕ, suc, zero, true, false, List, [], Option, Some, None, Ok, Err, length, take, drop, add-zero, zero-add, arith, sym, ap, refl, cond, eq-eqb, is_some, drop-append-le, drop-take, length-drop, take-append-le, get_or-take, nat_tests, Lease, BadLease, Length, Field, first_bad, has_lease_fields, lease_in, leases_in, list_all, little_number, records_of}
 
 -- ---- the first that is none
 
@@ -7,83 +8,44 @@ use Rattle.certificate.proofs.Words.{◌≡◌, ◌+◌, ◌*◌, ◌/◌, ◌%�
 none_bad : (number : ℕ) (ls : List Lease) → first_bad number ls ≡ None → list_all has_lease_fields ls ≡ true
 unfolding first_bad
 none_bad number [] h = refl
-none_bad number (l ∷ ls) h =
-    elim (cases_Bool (has_lease_fields l)) [
-      | inl good ↦ rw good (none_bad (number + 1) ls (rw good at h))
-      | inr bad ↦ absurd (other (record { number = number; lease = l }) (rw bad at h))
-    ]
-  where
-    other : (b : BadLease) → ◌≡◌ {A = Option BadLease} (Some b) None → ⊥
-    other b h = cc
+none_bad number (l ∷ ls) h = let later = none_bad (number + 1) ls in grind (arith, later)
 
 some_bad : (number : ℕ) (ls : List Lease) (b : BadLease) → first_bad number ls ≡ Some b → list_all has_lease_fields ls ≡ false
 unfolding first_bad
-some_bad number [] b h = absurd (other b h)
-  where
-    other : (b : BadLease) → ◌≡◌ {A = Option BadLease} None (Some b) → ⊥
-    other b h = cc
-some_bad number (l ∷ ls) b h =
-    elim (cases_Bool (has_lease_fields l)) [
-      | inl good ↦ rw good (some_bad (number + 1) ls b (rw good at h))
-      | inr bad ↦ rw bad refl
-    ]
+some_bad number [] b h = absurd (cc)
+some_bad number (l ∷ ls) b h = let later = some_bad (number + 1) ls b in grind (arith, later)
 
 -- one lease more
 still_bad : (number : ℕ) (ls more : List Lease) (b : BadLease) → first_bad number ls ≡ Some b → first_bad number (ls ++ more) ≡ Some b
 unfolding first_bad
-still_bad number [] more b h = absurd (other b h)
-  where
-    other : (b : BadLease) → ◌≡◌ {A = Option BadLease} None (Some b) → ⊥
-    other b h = cc
-still_bad number (l ∷ ls) more b h =
-    elim (cases_Bool (has_lease_fields l)) [
-      | inl good ↦ rw good (still_bad (number + 1) ls more b (rw good at h))
-      | inr bad ↦ rw bad (rw bad at h)
-    ]
+still_bad number [] more b h = absurd (cc)
+still_bad number (l ∷ ls) more b h = let later = still_bad (number + 1) ls more b in grind (arith, later)
 
 next_bad : (number : ℕ) (ls : List Lease) (l : Lease) → first_bad number ls ≡ None →
     first_bad number (ls ++ l ∷ []) ≡ cond (has_lease_fields l) None (Some (record { number = number + length ls; lease = l }))
 unfolding first_bad
 next_bad number [] l h = ap (λ m. cond (has_lease_fields l) None (Some (record { number = m; lease = l }))) (sym (add-zero number))
 next_bad number (x ∷ ls) l h =
-    elim (cases_Bool (has_lease_fields x)) [
-      | inl good ↦
-          let at : (number + 1) + length ls ≡ number + length (x ∷ ls) = omega arith in
-          rw good (subst (λ m. first_bad (number + 1) (ls ++ l ∷ []) ≡ cond (has_lease_fields l) None (Some (record { number = m; lease = l }))) at (next_bad (number + 1) ls l (rw good at h)))
-      | inr bad ↦ absurd (other (record { number = number; lease = x }) (rw bad at h))
-    ]
-  where
-    other : (b : BadLease) → ◌≡◌ {A = Option BadLease} (Some b) None → ⊥
-    other b h = cc
+    let at : (number + 1) + length ls ≡ number + length (x ∷ ls) = omega arith in
+    let later = next_bad (number + 1) ls l in
+    grind (arith, later, at)
 
 -- ---- one lease more, where some were seen
 
 pub bad_stays : (bad : Option BadLease) (items seen : List Lease) (l : Lease) → is_some bad ≡ true → (first_bad 1 seen ≡ bad) × (bad ≡ None → items ≡ seen) →
     (first_bad 1 (seen ++ l ∷ []) ≡ bad) × (bad ≡ None → items ≡ seen ++ l ∷ [])
-bad_stays None items seen l some h = absurd (no some)
-  where
-    no : false ≡ true → ⊥
-    no e = cc
-bad_stays (Some b) items seen l some h = (still_bad 1 seen (l ∷ []) b h.0, λ e. absurd (other b e))
-  where
-    other : (b : BadLease) → ◌≡◌ {A = Option BadLease} (Some b) None → ⊥
-    other b h = cc
+bad_stays None items seen l some h = absurd (cc)
+bad_stays (Some b) items seen l some h = (still_bad 1 seen (l ∷ []) b h.0, λ e. absurd (cc))
 
 pub good_seen : (bad : Option BadLease) (items items' seen : List Lease) (l : Lease) → is_some bad ≡ false → has_lease_fields l ≡ true → items' ≡ items ++ l ∷ [] →
     (first_bad 1 seen ≡ bad) × (bad ≡ None → items ≡ seen) → (first_bad 1 (seen ++ l ∷ []) ≡ bad) × (bad ≡ None → items' ≡ seen ++ l ∷ [])
-good_seen (Some b) items items' seen l none good more h = absurd (no none)
-  where
-    no : true ≡ false → ⊥
-    no e = cc
+good_seen (Some b) items items' seen l none good more h = absurd (cc)
 good_seen None items items' seen l none good more h =
     (next_bad 1 seen l h.0 ∙ ap (λ b. cond b None (Some (record { number = 1 + length seen; lease = l }))) good, λ e. more ∙ ap (λ xs. xs ++ l ∷ []) (h.1 refl))
 
 pub bad_seen : (bad : Option BadLease) (items seen : List Lease) (l : Lease) (n : ℕ) → is_some bad ≡ false → has_lease_fields l ≡ false → n ≡ length items →
     (first_bad 1 seen ≡ bad) × (bad ≡ None → items ≡ seen) → first_bad 1 (seen ++ l ∷ []) ≡ Some (record { number = n + 1; lease = l })
-bad_seen (Some b) items seen l n none bad size h = absurd (no none)
-  where
-    no : true ≡ false → ⊥
-    no e = cc
+bad_seen (Some b) items seen l n none bad size h = absurd (cc)
 bad_seen None items seen l n none bad size h =
     let same = ap length (h.1 refl) in
     let at : 1 + length seen ≡ n + 1 = omega (arith, same, size) in
@@ -92,24 +54,16 @@ bad_seen None items seen l n none bad size h =
 -- ---- records in two pieces
 
 number4 : (n : ℕ) (bytes : List ℕ) → 4 ≤ n → little_number 4 (take n bytes) ≡ little_number 4 bytes
-number4 n bytes long =
-    let at = λ (i : ℕ) (low : i < n). get_or-take n bytes i 0 low in
-    omega (arith, at 0 (omega arith), at 1 (omega arith), at 2 (omega arith), at 3 (omega arith))
+number4 n bytes long = grind (arith, get_or-take)
 
 number8 : (n : ℕ) (bytes : List ℕ) → 8 ≤ n → little_number 8 (take n bytes) ≡ little_number 8 bytes
-number8 n bytes long =
-    let at = λ (i : ℕ) (low : i < n). get_or-take n bytes i 0 low in
-    omega (arith, at 0 (omega arith), at 1 (omega arith), at 2 (omega arith), at 3 (omega arith), at 4 (omega arith), at 5 (omega arith), at 6 (omega arith), at 7 (omega arith))
-
-same_fields : (k r p f t a b c d e : ℕ) → k ≡ a → r ≡ b → p ≡ c → f ≡ d → t ≡ e →
-    ◌≡◌ {A = Lease} (record { kind = k; ring = r; pos = p; from = f; to = t }) (record { kind = a; ring = b; pos = c; from = d; to = e })
-same_fields k r p f t a b c d e g h i j l = cc
+number8 n bytes long = grind (arith, get_or-take)
 
 -- a lease is read from its record alone
 of_record : (bytes : List ℕ) → lease_in (take 24 bytes) ≡ lease_in bytes
 unfolding lease_in
 of_record bytes =
-    same_fields _ _ _ _ _ _ _ _ _ _
+    same_lease _ _ _ _ _ _ _ _ _ _
     (number4 24 bytes (omega arith))
     (ap (little_number 4) (drop-take 4 20 bytes) ∙ number4 20 (drop 4 bytes) (omega arith))
     (ap (little_number 8) (drop-take 8 16 bytes) ∙ number8 16 (drop 8 bytes) (omega arith))

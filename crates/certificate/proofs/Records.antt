@@ -10,7 +10,7 @@ leases_in-push bytes (suc n) =
     let later : drop (24 * n) (drop 24 bytes) ≡ drop (24 * suc n) bytes = drop-drop (24 * n) 24 bytes ∙ ap (λ m. drop m bytes) next in
     grind (arith, add-one, leases_in-push (drop 24 bytes) n)
 
-same_lease : (k r p f t a b c d e : ℕ) → k ≡ a → r ≡ b → p ≡ c → f ≡ d → t ≡ e →
+pub same_lease : (k r p f t a b c d e : ℕ) → k ≡ a → r ≡ b → p ≡ c → f ≡ d → t ≡ e →
     ◌≡◌ {A = Lease} (record { kind = k; ring = r; pos = p; from = f; to = t }) (record { kind = a; ring = b; pos = c; from = d; to = e })
 same_lease k r p f t a b c d e g h i j l = cc
 
@@ -56,13 +56,23 @@ kept n bytes long fit i =
 
 field4 : (bytes : List ℕ) → 4 ≤ length bytes → AreBytes bytes → little_bytes 4 (little_number 4 bytes) ≡ take 4 bytes
 field4 bytes long fit =
-    let at = λ (i : ℕ) (low : i < 4). get_or-take 4 bytes i 0 low in
-    le_bytes_4 (take 4 bytes) (little_number 4 bytes) (length-take-le 4 bytes long) (kept 4 bytes long fit) (omega (arith, at 0 (omega arith), at 1 (omega arith), at 2 (omega arith), at 3 (omega arith)))
+    let a = get_or-take 4 bytes 0 0 (omega arith) in
+    let b = get_or-take 4 bytes 1 0 (omega arith) in
+    let c = get_or-take 4 bytes 2 0 (omega arith) in
+    let d = get_or-take 4 bytes 3 0 (omega arith) in
+    le_bytes_4 (take 4 bytes) (little_number 4 bytes) (length-take-le 4 bytes long) (kept 4 bytes long fit) (omega (arith, a, b, c, d))
 
 field8 : (bytes : List ℕ) → 8 ≤ length bytes → AreBytes bytes → little_bytes 8 (little_number 8 bytes) ≡ take 8 bytes
 field8 bytes long fit =
-    let at = λ (i : ℕ) (low : i < 8). get_or-take 8 bytes i 0 low in
-    le_bytes_8 (take 8 bytes) (little_number 8 bytes) (length-take-le 8 bytes long) (kept 8 bytes long fit) (omega (arith, at 0 (omega arith), at 1 (omega arith), at 2 (omega arith), at 3 (omega arith), at 4 (omega arith), at 5 (omega arith), at 6 (omega arith), at 7 (omega arith)))
+    let a = get_or-take 8 bytes 0 0 (omega arith) in
+    let b = get_or-take 8 bytes 1 0 (omega arith) in
+    let c = get_or-take 8 bytes 2 0 (omega arith) in
+    let d = get_or-take 8 bytes 3 0 (omega arith) in
+    let e = get_or-take 8 bytes 4 0 (omega arith) in
+    let f = get_or-take 8 bytes 5 0 (omega arith) in
+    let g = get_or-take 8 bytes 6 0 (omega arith) in
+    let h = get_or-take 8 bytes 7 0 (omega arith) in
+    le_bytes_8 (take 8 bytes) (little_number 8 bytes) (length-take-le 8 bytes long) (kept 8 bytes long fit) (omega (arith, a, b, c, d, e, f, g, h))
 
 cut : (bytes : List ℕ) → take 24 bytes ≡ take 4 bytes ++ take 4 (drop 4 bytes) ++ take 8 (drop 8 bytes) ++ take 4 (drop 16 bytes) ++ take 4 (drop 20 bytes)
 cut bytes = grind (arith, take-add)
