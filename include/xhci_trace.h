@@ -597,7 +597,7 @@ static inline void xt_head(struct xt_state *xt, unsigned int context_bytes)
 	xt->hold = 0;
 	for (i = 0; i < 4; i++)
 		xt->wide[i].waits = 0;
-	xt_text(xt, context_bytes == 64 ? "xtrace 3\nctx 40\n" : "xtrace 3\nctx 20\n", 16);
+	xt_text(xt, context_bytes == 64 ? "xtrace 4\nctx 40\n" : "xtrace 4\nctx 20\n", 16);
 	xt->head_bytes = xt->bytes;
 }
 

@@ -32,7 +32,7 @@ static int xt_open(struct xt_state *xt, const char *path, unsigned int context_b
 	xt->file = fopen(path, "w");
 	if (!xt->file)
 		return -1;
-	row(xt, "xtrace 3\nctx %02x\n", context_bytes);
+	row(xt, "xtrace 4\nctx %02x\n", context_bytes);
 	return 0;
 }
 

@@ -21,6 +21,7 @@ class RingUse(Area):
         super().__init__(kind, start, 16, named)
         self.slot, self.index, self.bound, self.cycle = slot, index, bound, cycle
         self.read = None  # when the driver has read the completion of the command that names it
+        self.is_isochronous = False
 
     def over(self):
         """When no endpoint has the ring by this use any more; None where that is never."""
@@ -100,6 +101,7 @@ class Areas:
                 words = self.memory.block(context + 8, command.key)
                 use = RingUse('xfer', blocks.target(words), command.given, slot, index, command_list.succeeded(command), words[0] & 1)
                 use.read = command.read
+                use.is_isochronous = index > 1 and blocks.is_isochronous(self.memory.word(context + 4, command.key))
                 self.endpoint(use)
 
     def endpoint(self, use):

@@ -1,11 +1,12 @@
 """Fields of blocks (TRBs, xHCI 6.4)."""
 
+ISOCH = 5
 LINK, ENABLE_SLOT, DISABLE_SLOT, ADDRESS_DEVICE, CONFIGURE_ENDPOINT, EVALUATE_CONTEXT = 6, 9, 10, 11, 12, 13
 RESET_ENDPOINT, STOP_ENDPOINT, SET_TR_DEQUEUE, RESET_DEVICE = 14, 15, 16, 17
 STOPPING = (RESET_ENDPOINT, STOP_ENDPOINT, SET_TR_DEQUEUE)  # where they succeed the endpoint is stopped
 TRANSFER_EVENT, COMMAND_COMPLETION = 32, 33
-SUCCESS, STOPPED_CODES, HALTING_CODES = 1, (26, 27, 28), (3, 4, 5, 6, 36)
-EMPTY_CODES = (14, 15)  # Ring Underrun, Ring Overrun: no TRB is meant (4.10.3.1)
+SUCCESS, TRB_ERROR, STOPPED_CODES, HALTING_CODES = 1, 5, (26, 27, 28), (3, 4, 5, 6, 36)
+SERVICE_CODES = (14, 15, 23)  # Ring Underrun, Ring Overrun, Missed Service Error: no TRB is passed by them (4.10.3)
 
 
 def kind(words):
@@ -46,9 +47,19 @@ def endpoint(words):
     return words[3] >> 16 & 31
 
 
+def stops(words, is_isochronous):
+    """Whether a Transfer Event says that its endpoint works no more; no error halts an isochronous one (4.10.2)."""
+    return code(words) in STOPPED_CODES + ((TRB_ERROR,) if is_isochronous else HALTING_CODES)
+
+
 def drops_all(words):
     """Configure Endpoint with DC 1."""
     return words[3] >> 9 & 1
+
+
+def is_isochronous(context):
+    """EP Type 1 or 5 in word 1 of an Endpoint Context (6.2.3)."""
+    return context >> 3 & 3 == 1
 
 
 def streams(context):

@@ -1,5 +1,5 @@
 #!/usr/bin/env python3
-"""Makes traces of a recorded log: convert.py [--blocks N] [--format 1] LOG OUT
+"""Makes traces of a recorded log: convert.py [--blocks N] [--format N] LOG OUT
 
 Writes OUT.1.xtrace, OUT.1.xsched and OUT.1.notes for the first run of the controller, OUT.2.* for the second, and so on.
 """
@@ -21,12 +21,12 @@ from rings import LEAST_BLOCKS, MOST_BLOCKS, Finder
 from runs import Splitter
 from steps import Schedule
 
-MOST_LINES = {1: 1 << 20, 3: (1 << 32) - 2}  # of a trace, by its version
+MOST_LINES = {1: 1 << 20, 3: (1 << 32) - 2, 4: (1 << 32) - 2}  # of a trace, by its version
 MOST_HELD = 1 << 20  # items and stores that are held before what is needed of them is looked at
 
 
-# blocks: how many a ring has whose Link is never written, or None; version: that of the traces that are made
-Options = namedtuple('Options', 'blocks version', defaults=(None, 3))
+# blocks: how many a ring has whose Link is never written, or None; version: the latest that a trace may be of
+Options = namedtuple('Options', 'blocks version', defaults=(None, 4))
 
 
 def add_options(parser):
@@ -35,7 +35,8 @@ def add_options(parser):
 
 
 def add_format(parser):
-    parser.add_argument('--format', type=int, choices=(1, 3), default=3, help='version of the traces: 3, in which rings come and go, or 1')
+    parser.add_argument('--format', type=int, choices=(1, 3, 4), default=4, help='version of the traces: 4, with isochronous transfers, '
+                        'or 3 where a trace has none; 3, in which rings come and go; or 1')
 
 
 def block_count(text):
@@ -71,7 +72,7 @@ class Trace:
         plain, finder = content.rows, content.finder
         producers = descriptors.follow(plain, finder.rings, content.commands)
         rows, cut = descriptors.declared(plain, producers, options.version)
-        header = [f'xtrace {options.version}', f'ctx {context_size:02x}'] + [ring.line() for ring in finder.rings if ring.comes is None]
+        header = row_list.head(options.version, rows, context_size, finder.rings)
         rows, full = limited(rows, len(header), options.version)
         ends_early = full or finder.cut is not None or cut is not None
         self.run_notes = run.notes

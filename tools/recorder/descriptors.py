@@ -120,7 +120,7 @@ class Follower:
 
     def read_event(self, row):
         words, at = row.fields, blocks.pointer(row.fields)
-        if blocks.kind(words) == blocks.TRANSFER_EVENT and at in self.owner and blocks.code(words) not in blocks.EMPTY_CODES:
+        if blocks.kind(words) == blocks.TRANSFER_EVENT and at in self.owner and blocks.code(words) not in blocks.SERVICE_CODES:
             self.owner[at].passed(at, blocks.code(words) not in blocks.STOPPED_CODES)
         if blocks.kind(words) == blocks.COMMAND_COMPLETION and at in self.owner:
             self.owner[at].passed(at, True)

@@ -95,7 +95,7 @@ class Leading(namedtuple('Leading', 'link states changed')):
 
 class Finder:
     """Gives each ring that is named its segments; `options.blocks` is the count where a Link isn't written. In version 1 all rings stand in
-    the header; in version 3 a transfer ring comes where it is needed, and goes where its last endpoint has let it go."""
+    the header; in later ones a transfer ring comes where it is needed, and goes where its last endpoint has let it go."""
 
     def __init__(self, areas, memory, fetched, passed, options):
         self.areas, self.memory, self.option, self.version = areas, memory, options.blocks, options.version

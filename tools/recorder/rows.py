@@ -1,6 +1,7 @@
 """The rows of a run before descriptors are declared: writes to the areas, registers, doorbells and events read."""
 from collections import namedtuple
 
+import blocks
 from qemu_log import Bell, Seen, count_of
 
 # made_up: a `w` row for a word that no store was seen to leave; if_set: to be left out where the trace's memory has 0 there; rank: its
@@ -25,6 +26,19 @@ def text(row):
         return 'nop %02x %016x' % row.fields
     number, words = row.fields
     return f'sub {number:02x} ' + ' '.join(f'{word:08x}' for word in words)
+
+
+def is_isochronous(row):
+    """A TD that no version before 4 has, or an event of the service of an isochronous endpoint."""
+    if row.kind == 'sub':
+        return blocks.kind(row.fields[1]) == blocks.ISOCH
+    return row.kind == 'ev' and blocks.kind(row.fields) == blocks.TRANSFER_EVENT and blocks.code(row.fields) in blocks.SERVICE_CODES
+
+
+def head(latest, rows, context_size, rings):
+    """The lines before these rows: of version 3 where the latest that was asked for is a later one, and nothing in them is that one's."""
+    version = latest if latest < 4 or any(map(is_isochronous, rows)) else 3
+    return [f'xtrace {version}', f'ctx {context_size:02x}'] + [ring.line() for ring in rings if ring.comes is None]
 
 
 def writes(areas, rings, memory, cut):

@@ -99,7 +99,7 @@ class Schedule:
         if item.interrupter:
             return
         kind, at = blocks.kind(item.words), blocks.pointer(item.words)
-        stops = blocks.code(item.words) in blocks.HALTING_CODES + blocks.STOPPED_CODES
+        stops = blocks.stops(item.words, self.is_isochronous(item.words, at))
         if kind == blocks.TRANSFER_EVENT and stops:
             self.rung.discard((blocks.slot(item.words), blocks.endpoint(item.words)))
         if kind == blocks.TRANSFER_EVENT and stops and at in self.owner:
@@ -111,6 +111,11 @@ class Schedule:
                 self.stop(command)
         name = {blocks.TRANSFER_EVENT: 'report', blocks.COMMAND_COMPLETION: 'finish'}.get(kind, 'other')
         self.lines.append(name + ' %08x %08x %08x %08x' % item.words)
+
+    def is_isochronous(self, words, at):
+        """Whether an event that names this block is an isochronous endpoint's."""
+        uses = self.owner[at].uses if at in self.owner else []
+        return any(use.is_isochronous for use in uses if (use.slot, use.index) == (blocks.slot(words), blocks.endpoint(words)))
 
     def give_back(self, ring, at):
         """What QEMU had fetched beyond the block at which it halted or stopped is no take."""

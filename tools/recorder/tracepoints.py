@@ -70,7 +70,7 @@ def events_of(lines):
 
 class Follower:
     """Makes rows of events in order. `indices`: the endpoint of each ring, by its number of allocation, as doorbells tell it; `slots`: the
-    slot context behind each Address Device. In version 3 a ring in memory of an earlier one comes where it is made, and the earlier one
+    slot context behind each Address Device. From version 3 on a ring in memory of an earlier one comes where it is made, and the earlier one
     goes there."""
 
     def __init__(self, events, version, indices=(), slots=()):
@@ -373,7 +373,7 @@ class Tracepoints:
         return rows[:place] + made + rows[place + 1:]
 
 
-def converted(lines, version=3):
+def converted(lines, version=4):
     """The texts of the trace and of its notes, and a line on it."""
     run = Tracepoints(lines, version)
     plain = [row._replace(key=number) for number, row in enumerate(run.rows)]
@@ -381,7 +381,7 @@ def converted(lines, version=3):
     commands = [command._replace(read=moved[command.read]) for command in run.commands]
     producers = descriptors.follow(plain, run.rings, commands)
     rows, cut = descriptors.declared(plain, producers, version)
-    header = [f'xtrace {version}', f'ctx {run.size:02x}'] + [ring.line() for ring in run.rings if ring.comes is None]
+    header = row_list.head(version, rows, run.size, run.rings)
     text = [row_list.text(row) for row in rows]
     notes = [NOT_JUDGED] + run.follower.notes + of_cut(plain, cut)
     text, full = limited(text, len(header), version)
