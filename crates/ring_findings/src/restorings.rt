@@ -119,7 +119,7 @@ fn note_word(case: &mut Case, base: u64, index: usize, want: u32, have: u32) {
             &[Number(number), Word(want)],
         ),
     }
-    if want ^ have == 1 {
+    if number == 3 && want ^ have == 1 {
         case.note("a withdrawn TRB keeps the Cycle bit of its lap", &[]);
     }
 }
