@@ -87,6 +87,7 @@ class Run:
     """The rows of a trace, and the steps beside them."""
 
     version = 1
+    type_above_control = 4  # the EP Type of the endpoints behind the first one
 
     def __init__(self, rings, segments):
         self.rows, self.steps, self.memory = [], [], {}
@@ -164,7 +165,7 @@ class Run:
         for number, ring in enumerate(rings):
             index = first + number
             flags |= 1 << index
-            self.write(at + 32 * (index + 1) + 4, 4 << 3)
+            self.write(at + 32 * (index + 1) + 4, (4 if index == 1 else self.type_above_control) << 3)
             self.write(at + 32 * (index + 1) + 8, ring.bases[0] & 0xffffffff | 1)
             if ring.bases[0] >> 32:
                 self.write(at + 32 * (index + 1) + 12, ring.bases[0] >> 32)

@@ -22,6 +22,7 @@ says what most rows are:
     linux      TDs of one to three TRBs, in turn on seven rings of two pages side by side, as Linux gives and reads them: all words are stored, and USBSTS
                and ERDP are written for each event (version 3)
     tds        TDs of 256 TRBs on one ring of 64 segments of 4,096 TRBs, given in the same way (version 3)
+    sound      isochronous TDs of one TRB, eight at a time on a ring of two pages, given in the same way, of which one is missed and one fails (version 4)
 """
 import io, sys
 
@@ -29,7 +30,7 @@ import long_replays
 from long_replays import (ADDRESS_DEVICE, CHAIN, COMMAND_COMPLETION, CONFIGURE_ENDPOINT, CONTEXTS, DCBAAP, ENABLE_SLOT, EVENT, FIRST_RING, NO_OP, SEGMENT, SET_TR_DEQUEUE, STOP_ENDPOINT, Ring)
 
 DISABLE_SLOT, EVALUATE_CONTEXT = 10, 13
-NORMAL = 1 << 10
+NORMAL, ISOCH = 1 << 10, 5 << 10
 COMING = 250  # rings: a trace may name 256
 PAGE = 0x1000
 IOC = 1 << 5
@@ -303,6 +304,20 @@ def on_word_rings(file, rings, segments, blocks, apart, sizes, lines):
             given += 1
 
 
+def sound(file, lines):
+    """The events of a missed TD and of one that fails stop nothing; what was missed comes back with the event behind it."""
+    run = Run(file, 0, 0, 0, 1, 4)
+    run.type_above_control = 1
+    run.rings = [WordRing(run, FIRST_RING + number, 0x8000_0000 + number * 2 * PAGE, 2, 256, PAGE) for number in range(2)]
+    run.start()
+    slot, index, ring = run.bind_all()[1]
+    while run.count < lines:
+        given = [ring.give((number * PAGE, 0, 192, ISOCH | IOC)) for number in range(8)]
+        run.row('db %02x %02x' % (slot, index))
+        for at, code in zip(given, (1, 1, 23, 1, 4, 1, 1, 1)):
+            run.report(at, slot, index, code)
+
+
 def configured(run, slot, context, dropped):
     """A Configure Endpoint, which drops these endpoints where there are some."""
     if dropped:
@@ -324,7 +339,7 @@ KINDS = {'ring': lambda file, lines: on_rings(file, 1, 64, 4096, lines, False, 6
          'contexts': lambda file, lines: contexts(file, 1, 1, 4096, lines), 'areas': lambda file, lines: contexts(file, 250, 64, 16, lines),
          'devices': devices, 'devices40': devices40, 'bound': lambda file, lines: bound(file, 252, 1, lines),
          'bound30': lambda file, lines: bound(file, 8, 30, lines), 'moves': moves, 'soiled': soiled, 'cancels': cancels, 'rounds': rounds, 'comes': comes,
-         'linux': lambda file, lines: on_word_rings(file, 7, 2, 256, PAGE, (1, 2, 3), lines), 'tds': lambda file, lines: on_word_rings(file, 1, 64, 4096, SEGMENT, (256,), lines)}
+         'linux': lambda file, lines: on_word_rings(file, 7, 2, 256, PAGE, (1, 2, 3), lines), 'tds': lambda file, lines: on_word_rings(file, 1, 64, 4096, SEGMENT, (256,), lines), 'sound': sound}
 
 
 def main(words):

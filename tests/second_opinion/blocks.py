@@ -7,16 +7,12 @@ NO_OP_COMMAND = 23
 TRANSFER_EVENT, COMMAND_COMPLETION = 32, 33
 
 TRANSFER_TYPES = {NORMAL, SETUP_STAGE, DATA_STAGE, STATUS_STAGE, ISOCH, EVENT_DATA, NO_OP}
-LEFT_OUT_TRANSFER_TYPES = {ISOCH, EVENT_DATA}
 COMMAND_TYPES = {*range(9, 18), NO_OP_COMMAND}
 LEFT_OUT_COMMAND_TYPES = {*range(18, 23), 24, 25, *range(48, 64)}
 EVENT_TYPES = set(range(32, 40))
 
-SUCCESS, SHORT_PACKET, TRB_ERROR = 1, 13, 5
-SUCCESS_CODES = {SUCCESS, SHORT_PACKET}
-HALTING_CODES = {3, 4, 6, 36}
-STOPPED_CODES = {26, 27, 28}
-TRANSFER_CODES = SUCCESS_CODES | HALTING_CODES | STOPPED_CODES | {TRB_ERROR}
+# the code of a command that was done
+SUCCESS = 1
 
 
 def bits(word, low, count):
@@ -81,26 +77,28 @@ def has_setup_data(block):
 
 def is_transfer_arrangement(blocks):
     first, rest = blocks[0], blocks[1:]
-    if type_of(first) in (NORMAL, DATA_STAGE):
+    if type_of(first) in (NORMAL, DATA_STAGE, ISOCH):
         return all(type_of(block) == NORMAL for block in rest)
     if type_of(first) == SETUP_STAGE:
         return has_setup_data(first) and not rest
     return type_of(first) in (STATUS_STAGE, NO_OP) and not rest
 
 
-def has_left_out_transfer_type(blocks):
-    return any(type_of(block) in LEFT_OUT_TRANSFER_TYPES for block in blocks)
+def has_left_out_transfer_type(blocks, has_isoch):
+    """Event Data blocks; Isoch blocks where the version has none."""
+    left_out = {EVENT_DATA} if has_isoch else {EVENT_DATA, ISOCH}
+    return any(type_of(block) in left_out for block in blocks)
 
 
-def is_bad_transfer(blocks):
+def is_bad_transfer(blocks, has_isoch):
     if is_badly_formed(blocks) or any(type_of(block) not in TRANSFER_TYPES for block in blocks):
         return True
-    return not has_left_out_transfer_type(blocks) and not is_transfer_arrangement(blocks)
+    return not has_left_out_transfer_type(blocks, has_isoch) and not is_transfer_arrangement(blocks)
 
 
-def is_left_out_transfer(blocks):
-    """Isochronous or Event Data blocks, or an interrupter target other than 0."""
-    return has_left_out_transfer_type(blocks) or any(bits(block[2], 22, 10) != 0 for block in blocks)
+def is_left_out_transfer(blocks, has_isoch):
+    """Blocks of a left out type, or an interrupter target other than 0."""
+    return has_left_out_transfer_type(blocks, has_isoch) or any(bits(block[2], 22, 10) != 0 for block in blocks)
 
 
 def is_bad_command(blocks):

@@ -37,11 +37,16 @@ def endpoint_type(known, context, index):
     return bits(known.word(endpoint_context(known, context, index) + 4), 3, 3)
 
 
+def is_isochronous(known, context, index):
+    """The context of an endpoint says so. The default control endpoint never is."""
+    return index > 1 and endpoint_type(known, context, index) in (1, 5)
+
+
 def is_left_out_endpoint(known, context, index):
     """An endpoint with streams; before version 3 an isochronous one too."""
     streams = bits(known.word(endpoint_context(known, context, index)), 10, 5)
-    is_isochronous = endpoint_type(known, context, index) in (1, 5)
-    return (is_isochronous and known.trace.version < 3) or streams > 0
+    has_left_out_type = endpoint_type(known, context, index) in (1, 5) and known.trace.version < 3
+    return has_left_out_type or streams > 0
 
 
 def binding_in(known, context, index):

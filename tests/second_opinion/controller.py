@@ -2,7 +2,8 @@
 
 What binds, moves, stops and starts rings is read from what the rows tell. Whether a step that posts an event is possible isn't asked here.
 """
-from blocks import COMMAND_COMPLETION, LINK, STOP_ENDPOINT, SUCCESS, SUCCESS_CODES, TRANSFER_EVENT, aligned, code, cycle, endpoint, is_set, pointer, slot, type_of
+from blocks import COMMAND_COMPLETION, LINK, STOP_ENDPOINT, SUCCESS, TRANSFER_EVENT, aligned, code, cycle, endpoint, is_set, pointer, slot, type_of
+from codes import OF_SERVICE, PASSED, said_by
 from trace import Doorbell, Event, Register, Write
 
 
@@ -61,7 +62,7 @@ class Controller:
             self.at[self.trace.command_ring.number] = aligned(crcr, 64), crcr & 1
         elif isinstance(row, Doorbell):
             self.rung(known, row)
-        elif isinstance(row, Event) and type_of(row.block) == TRANSFER_EVENT and code(row.block) not in SUCCESS_CODES:
+        elif isinstance(row, Event) and type_of(row.block) == TRANSFER_EVENT and said_by(known, row.block) not in (PASSED, OF_SERVICE):
             self.active.discard(known.ring_of(slot(row.block), endpoint(row.block)).number)
         elif isinstance(row, Event) and type_of(row.block) == COMMAND_COMPLETION:
             self.finished(known, row)

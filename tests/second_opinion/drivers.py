@@ -1,14 +1,13 @@
 """Traces of random drivers beside random controllers, picked by a seed.
 
-A driver makes one step after another: a command with its contexts, a descriptor, a write, a doorbell, an event, ERDP; in versions 2 and
-3 rings come and go besides, and descriptors are withdrawn. A row that
-breaks no rule, by the plain rules, stands in the trace. One that breaks a rule is dropped; the trace up to it is remembered.
+A driver makes one step after another: a command with its contexts, a descriptor, a write, a doorbell, an event, ERDP; from version 2
+on rings come and go besides, and descriptors are withdrawn, and in version 4 endpoints are isochronous. A row that breaks no rule, by the plain rules, stands in the trace. One that breaks a rule is dropped; the trace up to it is remembered.
 """
 import random
 
 import contexts
 from blocks import (ADDRESS_DEVICE, CONFIGURE_ENDPOINT, COMMAND_COMPLETION, DATA_STAGE, DISABLE_SLOT, ENABLE_SLOT, EVALUATE_CONTEXT,
-                    LINK, NORMAL, NO_OP, NO_OP_COMMAND, RESET_DEVICE, RESET_ENDPOINT, SETUP_STAGE, SET_TR_DEQUEUE, STATUS_STAGE,
+                    EVENT_DATA, ISOCH, LINK, NORMAL, NO_OP, NO_OP_COMMAND, RESET_DEVICE, RESET_ENDPOINT, SETUP_STAGE, SET_TR_DEQUEUE, STATUS_STAGE,
                     STOP_ENDPOINT, TRANSFER_EVENT, with_cycle)
 from known import Known
 from rings import Ring, Segment, is_shape
@@ -26,6 +25,12 @@ FITTING = {
     'Configured': [CONFIGURE_ENDPOINT] * 2 + [RESET_DEVICE, DISABLE_SLOT],
     'Running': [STOP_ENDPOINT], 'Halted': [RESET_ENDPOINT], 'Stopped': [SET_TR_DEQUEUE], 'Error': [SET_TR_DEQUEUE],
 }
+# lists of block types that a driver declares, and those of version 4 besides, of which the last three are no form of it
+FORMS = [[NO_OP], [NORMAL], [NORMAL] * 2, [NORMAL] * 3, [SETUP_STAGE], [DATA_STAGE, NORMAL], [STATUS_STAGE]]
+FORMS_OF_FOUR = [[ISOCH], [ISOCH, NORMAL], [ISOCH, NORMAL, NORMAL]] * 3 + [[ISOCH, ISOCH], [NORMAL, ISOCH], [ISOCH, EVENT_DATA]]
+# codes of Transfer Events, and those of isochronous endpoints
+CODES = [1, 1, 1, 1, 13, 6, 5, 26, 27]
+ISOCHRONOUS_CODES = [1, 1, 13, 2, 3, 4, 18, 20, 31, 36, 14, 15, 23, 23, 6, 5, 26, 27]
 # how often a step of which a row was dropped is taken back whole
 TAKEN_BACK = 0.97
 
@@ -42,7 +47,7 @@ class Driver:
     def __init__(self, seed, unmade):
         self.pick = random.Random(seed)
         self.unmade = unmade
-        self.trace = Trace(self.pick.choice([1, 2, 3, 3]), self.pick.choice([32, 64]), self.some_rings(), 0, [])
+        self.trace = Trace(self.pick.choice([1, 2, 3, 4, 4]), self.pick.choice([32, 64]), self.some_rings(), 0, [])
         self.trace.first = 3 + len(self.trace.rings)
         self.before = []
         self.known = Known(self.trace)
@@ -99,7 +104,7 @@ class Driver:
         segments = self.known.event_segments
         for i, segment in enumerate(segments):
             self.write(TABLE + 16 * i, *halves(segment.base), segment.count)
-        if self.trace.version == 3 and self.pick.random() < 0.3:
+        if self.trace.version >= 3 and self.pick.random() < 0.3:
             self.make(Register('erstsz', self.pick.choice([0, len(segments), len(segments) + 1])))
             self.make(Register('erdp', self.pick.choice([0, 8, segments[0].base, TABLE])))
         self.make(Register('erstsz', len(segments)))
@@ -137,7 +142,7 @@ class Driver:
             block = with_cycle(self.known.queue(ring)[position], ring.cycle(position))
             self.write(ring.address(position), *block[:3])
             self.make(Write(ring.address(position) + 12, block[3]))
-            if self.trace.version == 3 and self.pick.random() < 0.2:
+            if self.trace.version >= 3 and self.pick.random() < 0.2:
                 self.store_again(ring.address(position), block)
 
     def give_link(self, ring, crossing):
@@ -246,8 +251,8 @@ class Driver:
         return self.pick.choice(enabled if enabled and self.pick.random() < 0.95 else endpoints)
 
     def standing(self, ring, spot):
-        """The pointer and cycle state of a spot, in version 3 rarely with another cycle state."""
-        other = 1 if self.trace.version == 3 and self.pick.random() < 0.05 else 0
+        """The pointer and cycle state of a spot, from version 3 on rarely with another cycle state."""
+        other = 1 if self.trace.version >= 3 and self.pick.random() < 0.05 else 0
         return ring.spot_address(spot) | ring.spot_cycle(spot) ^ other
 
     def some_target(self, slot, endpoint):
@@ -259,19 +264,19 @@ class Driver:
 
     def write_context(self, kind, slot, endpoint, context):
         added = [1] if kind == ADDRESS_DEVICE else [i for i in (2, 3) if self.pick.random() < 0.6]
-        if self.trace.version == 3 and kind == CONFIGURE_ENDPOINT and endpoint > 1 and self.pick.random() < 0.6:
+        if self.trace.version >= 3 and kind == CONFIGURE_ENDPOINT and endpoint > 1 and self.pick.random() < 0.6:
             added = [endpoint]
         dropped = [i for i in (2, 3) if kind != ADDRESS_DEVICE and self.pick.random() < self.drops(slot, i, i in added)]
         self.write(context, sum(1 << i for i in dropped), sum(1 << i for i in [0, *added]))
         for index in added:
             address = contexts.endpoint_context(self.known, context, index)
             pointer = self.some_ring_for(slot, index) if self.pick.random() < 0.9 else self.some_target(slot, index)
-            kind_of_endpoint = 4 if index == 1 else self.pick.choice([2, 3, 6, 7, 2, 3, 6, 7, 0, 1])
+            kind_of_endpoint = 4 if index == 1 else self.pick.choice([2, 3, 6, 7, 2, 3, 6, 7, 0, 1] + ([1, 5] * 4 if self.trace.has_isoch else []))
             self.write(address + 4, kind_of_endpoint << 3)
             self.write(address + 8, *halves(pointer))
 
     def drops(self, slot, index, is_added):
-        """How often an endpoint is dropped: in version 3 mostly where it is there and added again."""
+        """How often an endpoint is dropped: from version 3 on mostly where it is there and added again."""
         if self.trace.version < 3:
             return 0.4
         is_there = self.known.endpoint_state(slot, index) != 'Disabled'
@@ -281,7 +286,7 @@ class Driver:
         ring = self.known.ring_of(slot, index)
         if index == 1 and ring and self.pick.random() < 0.7:
             return self.standing(ring, self.known.floor(ring))
-        if self.trace.version == 3 and self.pick.random() < 0.8:
+        if self.trace.version >= 3 and self.pick.random() < 0.8:
             left = [other for other in self.known.rings if self.known.was_bound(other) and not self.known.endpoints_with(other)]
             ring = self.pick.choice(left) if left and (ring is None or self.pick.random() < 0.2) else ring
             if ring:
@@ -300,8 +305,9 @@ class Driver:
             self.give(ring)
 
     def declare_some(self, ring):
-        forms = [[NO_OP], [NORMAL], [NORMAL] * 2, [NORMAL] * 3, [SETUP_STAGE], [DATA_STAGE, NORMAL], [STATUS_STAGE]]
-        kinds = self.pick.choice(forms)
+        self.declare_form(ring, self.pick.choice(FORMS + FORMS_OF_FOUR if self.trace.has_isoch else FORMS))
+
+    def declare_form(self, ring, kinds):
         blocks = [(self.pick.randrange(4) << 12, 0, 8, kind << 10 | (16 if i + 1 < len(kinds) else 0) | (64 if kind == SETUP_STAGE else 0))
                   for i, kind in enumerate(kinds)]
         self.make(Declare(ring.number, tuple(blocks)))
@@ -335,7 +341,9 @@ class Driver:
         self.event(ring.address(self.known.next_command), self.pick.choice(codes), COMMAND_COMPLETION << 10 | slot << 24)
 
     def transfer(self):
-        self.transfer_of(*self.some_enabled_endpoint(), [1, 1, 1, 1, 13, 6, 5, 26, 27])
+        slot, endpoint = self.some_enabled_endpoint()
+        is_isochronous = self.trace.has_isoch and (self.known.is_isochronous(slot, endpoint) or self.pick.random() < 0.1)
+        self.transfer_of(slot, endpoint, ISOCHRONOUS_CODES if is_isochronous else CODES)
 
     def transfer_of(self, slot, endpoint, codes):
         ring = self.known.ring_of(slot, endpoint)
@@ -344,6 +352,31 @@ class Driver:
         spots = ring.spots_from(self.known.floor(ring), self.known.declared(ring))
         spot = self.pick.choice(spots[:self.pick.choice([1, 2, 3, 20])])
         self.event(ring.spot_address(spot), self.pick.choice(codes), TRANSFER_EVENT << 10 | slot << 24 | endpoint << 16)
+
+    # ---- isochronous endpoints
+
+    def play(self):
+        """An isochronous endpoint, where there is one or can be made one, gets descriptors; events tell of them, of errors and of its service."""
+        found = lambda: [at for at in self.resting_endpoints() if self.known.is_isochronous(*at)]
+        if not found():
+            self.enable_endpoints(5)
+        slot, index = self.pick.choice(found() or [self.some_enabled_endpoint()])
+        ring = self.known.ring_of(slot, index) or self.pick.choice(self.known.driver_rings)
+        for _ in range(self.pick.randrange(4)):
+            self.try_step(lambda driver: driver.declare_form(ring, driver.pick.choice(FORMS_OF_FOUR)))
+        self.try_step(lambda driver: driver.give_all(ring))
+        self.try_step(lambda driver: driver.make(Doorbell(slot, index)))
+        for _ in range(self.pick.randrange(6)):
+            self.try_step(lambda driver: driver.transfer_of(slot, index, ISOCHRONOUS_CODES))
+            self.try_step(lambda driver: driver.stray_block_of(ring))
+        self.try_step(lambda driver: driver.event(0, driver.pick.choice([14, 15, 23]), TRANSFER_EVENT << 10 | slot << 24 | index << 16))
+        self.read_all()
+
+    def stray_block_of(self, ring):
+        """A bit of a word of some block changes, sometimes: also of one that was missed."""
+        if self.pick.random() < 0.2:
+            address = self.pick.choice(ring.places) + 4 * self.pick.randrange(4)
+            self.make(Write(address, self.known.word(address) ^ 1 << self.pick.randrange(32)))
 
     def other_event(self):
         self.event(0, 1, self.pick.randrange(34, 40) << 10)
@@ -381,13 +414,15 @@ class Driver:
 
     def some_endpoint_with_work(self):
         """One that runs or is stopped, where there is one, or can be made one."""
-        resting = lambda: [at for at in ((slot, index) for slot in SLOTS for index in (1, 2, 3)) if self.known.endpoint_state(*at) in ('Running', 'Stopped')]
-        if not resting():
+        if not self.resting_endpoints():
             self.enable_endpoints(5)
-        return self.pick.choice(resting() or [self.some_enabled_endpoint()])
+        return self.pick.choice(self.resting_endpoints() or [self.some_enabled_endpoint()])
+
+    def resting_endpoints(self):
+        return [at for at in ((slot, index) for slot in SLOTS for index in (1, 2, 3)) if self.known.endpoint_state(*at) in ('Running', 'Stopped')]
 
     def withdraw(self, ring):
-        """A descriptor, mostly one that the controller can't have come to, or in version 3 isn't known to have passed."""
+        """A descriptor, mostly one that the controller can't have come to, or from version 3 on isn't known to have passed."""
         least = self.known.ceiling(ring) if self.pick.random() < 0.6 else self.known.floor(ring).number
         begins = [p for p in range(self.known.declared(ring)) if self.known.descriptor_length(ring, p) > 0 and not self.known.was_withdrawn(ring, p)]
         fitting = [p for p in begins if p >= least]
@@ -475,7 +510,7 @@ class Driver:
         if self.pick.random() < 0.8:
             self.try_step(lambda driver: driver.whole_command(driver.some_kind(slot, index), slot, index))
 
-    # ---- what stands at the beginning of most traces of versions 2 and 3
+    # ---- what stands at the beginning of most traces of versions 2 to 4
 
     def prepare(self):
         """A slot with endpoints, whose rings have gone round up to twice."""
@@ -514,9 +549,10 @@ class Driver:
 
     STEPS = [(command, 30), (descriptor, 20), (give_some, 8), (doorbell, 12), (stray_write, 4), (clear_device_context, 1),
              (completion, 25), (transfer, 30), (other_event, 1), (read_on, 8)]
-    # of versions 2 and 3 besides, and of version 3
+    # from version 2 on besides, from version 3 on, and from version 4 on
     STEPS_OF_TWO = [(cancel, 40), (replace_ring, 16), (ring_goes, 2), (ring_comes, 6)]
     STEPS_OF_THREE = [(suspend, 14), (bind_anew, 30)]
+    STEPS_OF_FOUR = [(play, 40)]
 
     def try_step(self, step):
         """A step one of whose rows is dropped is mostly dropped whole."""
@@ -531,8 +567,8 @@ class Driver:
         self.try_step(Driver.start)
         if self.trace.version > 1 and self.pick.random() < 0.8:
             self.prepare()
-        possible = self.STEPS + (self.STEPS_OF_TWO if self.trace.version > 1 else []) + (self.STEPS_OF_THREE if self.trace.version > 2 else [])
-        for step in self.pick.choices(*zip(*possible), k=steps):
+        later = [self.STEPS_OF_TWO, self.STEPS_OF_THREE, self.STEPS_OF_FOUR][:self.trace.version - 1]
+        for step in self.pick.choices(*zip(*self.STEPS, *(step for steps_of in later for step in steps_of)), k=steps):
             self.try_step(step)
 
 

@@ -1,8 +1,8 @@
 """What a row tells (xHCI 4.5.3, 4.6, 4.7, 4.8.3, 4.9.2): pairs of a fact and its value from this row on, in their order."""
 import contexts
-from blocks import (ADDRESS_DEVICE, CONFIGURE_ENDPOINT, COMMAND_COMPLETION, DISABLE_SLOT, ENABLE_SLOT, HALTING_CODES, RESET_DEVICE,
-                    RESET_ENDPOINT, SET_TR_DEQUEUE, STOPPED_CODES, STOP_ENDPOINT, SUCCESS, SUCCESS_CODES, TRANSFER_EVENT, TRB_ERROR,
-                    aligned, code, endpoint, slot, type_of)
+from blocks import (ADDRESS_DEVICE, CONFIGURE_ENDPOINT, COMMAND_COMPLETION, DISABLE_SLOT, ENABLE_SLOT, RESET_DEVICE, RESET_ENDPOINT,
+                    SET_TR_DEQUEUE, STOP_ENDPOINT, SUCCESS, TRANSFER_EVENT, aligned, code, endpoint, slot, type_of)
+from codes import ERROR, HALTED, PASSED, STOPPED, said_by
 from commands import adds_endpoints, slot_after_success
 from rings import Data, is_data
 from trace import Doorbell, Event, Register, Write
@@ -62,22 +62,22 @@ def of_transfer(known, block):
     at = known.spot_of_event(block)
     if at is None:
         return
-    ring, spot = at
-    if code(block) in SUCCESS_CODES:
+    (ring, spot), said = at, said_by(known, block)
+    if said == PASSED:
         yield ('floor', ring.number), ring.after(spot.number)
-    elif code(block) in HALTING_CODES or code(block) == TRB_ERROR:
-        yield from of_error(block, ring, spot)
-    elif code(block) in STOPPED_CODES:
+    elif said in (HALTED, ERROR):
+        yield from of_error(block, ring, spot, said)
+    elif said == STOPPED:
         yield ('floor', ring.number), spot
         yield ('held', ring.number), min(spot.number + 1, known.given_count(ring)) if is_data(spot) else spot.number
         yield ('stop seen', slot(block), endpoint(block)), True
 
 
-def of_error(block, ring, spot):
+def of_error(block, ring, spot, said):
     yield ('floor', ring.number), ring.after(spot.number)
     yield ('held', ring.number), spot.number + 1
-    yield ('endpoint', slot(block), endpoint(block)), 'Error' if code(block) == TRB_ERROR else 'Halted'
-    if code(block) in HALTING_CODES:
+    yield ('endpoint', slot(block), endpoint(block)), 'Error' if said == ERROR else 'Halted'
+    if said == HALTED:
         yield ('must move', slot(block), endpoint(block)), True
 
 
@@ -101,6 +101,8 @@ def of_success(known, command, slot_of_event):
         yield ('slot', number), state
     if command.type == DISABLE_SLOT:
         yield ('device', number), None
+    for index in contexts.endpoints_added_by(known, command):
+        yield ('isochronous', number, index), contexts.is_isochronous(known, command.pointer, index)
     yield from disabled(number, disabled_by(known, command))
     yield from of_placed_endpoints(known, command)
     if command.type in (STOP_ENDPOINT, RESET_ENDPOINT):

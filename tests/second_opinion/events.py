@@ -1,13 +1,13 @@
 """Which events no controller can have posted (xHCI 4.5.3, 4.6, 4.8.3, 4.10, 6.4.2)."""
-from blocks import (ENABLE_SLOT, HALTING_CODES, STOP_ENDPOINT, SUCCESS, SUCCESS_CODES, TRANSFER_CODES, TRB_ERROR, bits, code, endpoint,
-                    is_set, pointer, slot)
+from blocks import ENABLE_SLOT, STOP_ENDPOINT, SUCCESS, bits, code, endpoint, is_set, pointer, slot
+from codes import ERROR, HALTED, NEVER, OF_SERVICE, PASSED, said_by
 from commands import endpoint_after_success, is_stop_of, names_slot, slot_after_success
 from rings import is_data
 
 
-def is_in_profile(block):
+def is_in_profile(known, block):
     """A Transfer Event without Event Data (ED), with a code of the profile."""
-    return not is_set(block[3], 2) and code(block) in TRANSFER_CODES
+    return not is_set(block[3], 2) and said_by(known, block) is not None
 
 
 def may_be_taken(known):
@@ -25,18 +25,20 @@ def is_possible_stop(known, ring, spot, number, index):
 
 
 def is_impossible_transfer(known, block):
-    number, index = slot(block), endpoint(block)
+    number, index, said = slot(block), endpoint(block), said_by(known, block)
     at = known.spot_of_event(block)
-    if known.endpoint_state(number, index) == 'Disabled' or at is None:
+    if known.endpoint_state(number, index) == 'Disabled':
         return True
+    if said == OF_SERVICE or at is None:
+        return said != OF_SERVICE
     ring, spot = at
     is_begun = is_data(spot) and spot.number < known.ceiling(ring)
     is_working = known.endpoint_state(number, index) == 'Running' and known.is_open(ring)
-    if code(block) in SUCCESS_CODES:
+    if said == PASSED:
         return not is_begun
-    if code(block) in HALTING_CODES or code(block) == TRB_ERROR:
+    if said in (HALTED, ERROR):
         return not is_begun or not is_working
-    return not is_working or not is_possible_stop(known, ring, spot, number, index)
+    return said == NEVER or not is_working or not is_possible_stop(known, ring, spot, number, index)
 
 
 def can_succeed(known, command, slot_of_event):

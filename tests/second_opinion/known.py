@@ -358,6 +358,10 @@ class Known(RingList):
         """The ring of an endpoint, or None."""
         return self.ring(self.last(('ring of', slot_number, index), None))
 
+    def is_isochronous(self, slot_number, index):
+        """By the context that added the endpoint last."""
+        return self.last(('isochronous', slot_number, index), False)
+
     def endpoints_with(self, ring):
         """The slots and indexes of the endpoints that have a ring."""
         return [fact[1:] for fact, number in self.facts().items() if fact[0] == 'ring of' and number == ring.number]

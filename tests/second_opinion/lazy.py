@@ -4,7 +4,8 @@ By hand: lazy.py TRACE prints what `xhcitrace schedule` must print of an accepte
 """
 import sys
 
-from blocks import COMMAND_COMPLETION, STOPPED_CODES, STOP_ENDPOINT, SUCCESS, SUCCESS_CODES, TRANSFER_EVENT, code, endpoint, slot, type_of
+from blocks import COMMAND_COMPLETION, STOP_ENDPOINT, SUCCESS, TRANSFER_EVENT, code, endpoint, slot, type_of
+from codes import OF_SERVICE, PASSED, STOPPED, said_by
 from controller import posted
 from known import histories
 from rings import Data, is_data
@@ -32,7 +33,7 @@ def ends_need(known, row, number):
 
 def behind_reported(known, row, number):
     """One more than the position of the ring's block whose success the row reads; 0 where it reads none."""
-    at = known.spot_of_event(row.block) if is_event(row, TRANSFER_EVENT) and code(row.block) in SUCCESS_CODES else None
+    at = known.spot_of_event(row.block) if is_event(row, TRANSFER_EVENT) and said_by(known, row.block) == PASSED else None
     return at[1].number + 1 if at and at[0].number == number else 0
 
 
@@ -57,11 +58,11 @@ def stopped_at(ring, spot, count):
 
 
 def goals_of_report(known, block, later):
-    at = known.spot_of_event(block)
-    if at is None:
+    at, said = known.spot_of_event(block), said_by(known, block)
+    if at is None or said == OF_SERVICE:
         return []
     ring, spot = at
-    if code(block) not in STOPPED_CODES:
+    if said != STOPPED:
         return [behind(ring, spot.number + 1)]
     return [behind(known.command_ring, known.next_command + 1), stopped_at(ring, spot, need(later, ring.number))]
 

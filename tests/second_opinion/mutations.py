@@ -81,7 +81,7 @@ def with_a_descriptor_withdrawn(lines, i, pick):
 
 
 def with_another_version(lines, i, pick):
-    return [b'xtrace %d' % pick.choice([1, 2, 2, 3, 3]), *lines[1:]]
+    return [b'xtrace %d' % pick.choice([1, 2, 2, 3, 3, 4, 4]), *lines[1:]]
 
 
 OF_ROWS = [without_a_row, with_a_row_twice, with_two_rows_swapped, with_a_row_elsewhere, with_a_digit_changed, with_a_bit_changed]

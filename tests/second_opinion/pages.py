@@ -126,7 +126,8 @@ def use_line(known, ring):
         return f'{name}, Transfer Ring ' + ('that an endpoint had' if known.was_bound(ring) else 'of no endpoint')
     slot, index = place
     due = ', Set TR Dequeue Pointer due' if known.must_move(*place) else ', completion of Stop Endpoint due' if known.was_stop_seen(*place) else ''
-    return f'{name}, Transfer Ring of slot {slot}, DCI {index} ({known.endpoint_state(*place)}{due})'
+    of_kind = ', isochronous' if known.is_isochronous(*place) else ''
+    return f'{name}, Transfer Ring of slot {slot}, DCI {index} ({known.endpoint_state(*place)}{of_kind}{due})'
 
 
 def ring_lines(trace, count, ring, leased):

@@ -76,7 +76,7 @@ def ring_full(known, row):
 def bad_descriptor(known, row):
     """The blocks have no form of a descriptor of this ring."""
     is_command = known.ring(row.ring).kind == 'cmd'
-    return is_bad_command(row.blocks) if is_command else is_bad_transfer(row.blocks)
+    return is_bad_command(row.blocks) if is_command else is_bad_transfer(row.blocks, known.trace.has_isoch)
 
 
 # ---- 17 and 22: registers
@@ -142,9 +142,9 @@ def not_in_profile(known, row):
     """Blocks are declared, an endpoint is added, a Link is given, or an event is read that the profile leaves out."""
     if isinstance(row, Declare):
         is_command = known.ring(row.ring).kind == 'cmd'
-        return any(is_left_out_command(block) for block in row.blocks) if is_command else is_left_out_transfer(row.blocks)
+        return any(is_left_out_command(block) for block in row.blocks) if is_command else is_left_out_transfer(row.blocks, known.trace.has_isoch)
     if isinstance(row, Event):
-        return type_of(row.block) == TRANSFER_EVENT and not is_in_profile(row.block)
+        return type_of(row.block) == TRANSFER_EVENT and not is_in_profile(known, row.block)
     command = known.command_given_by(row)
     interrupts = any(is_set(link[3], 5) for _, _, link in links_given(known, row))
     return interrupts or (command is not None and adds_left_out_endpoint(known, command))
@@ -169,7 +169,7 @@ def impossible_event(known, row):
     if cycle(block) != ring.cycle(known.reads) or type_of(block) not in EVENT_TYPES:
         return True
     if type_of(block) == TRANSFER_EVENT:
-        return is_in_profile(block) and is_impossible_transfer(known, block)
+        return is_in_profile(known, block) and is_impossible_transfer(known, block)
     return type_of(block) == COMMAND_COMPLETION and is_impossible_completion(known, block)
 
 

@@ -73,7 +73,7 @@ class BadNumber(Exception):
 
 
 class Trace(RingList):
-    """A header and rows; `version` is 1, 2 or 3, `rings` those of the header, `first` the number of the first row's line."""
+    """A header and rows; `version` is 1 to 4, `rings` those of the header, `first` the number of the first row's line."""
 
     def __init__(self, version, context_bytes, rings, first, rows):
         self.version = version
@@ -81,6 +81,11 @@ class Trace(RingList):
         self.rings = rings
         self.first = first
         self.rows = rows
+
+    @property
+    def has_isoch(self):
+        """Isochronous endpoints are used."""
+        return self.version >= 4
 
     @property
     def ever(self):
@@ -205,7 +210,7 @@ def read_line(line, content, is_ended, version, rings, is_begun):
 def read_trace(text):
     """The trace of a text (bytes), or BadLine."""
     lines = lines_of(text)
-    versions = {(b'xtrace %d' % version, True): version for version in (1, 2, 3)}
+    versions = {(b'xtrace %d' % version, True): version for version in (1, 2, 3, 4)}
     if not lines or lines[0] not in versions:
         raise BadLine(1, 1)
     if len(lines) < 2 or lines[1] not in ((b'ctx 20', True), (b'ctx 40', True)):

@@ -15,8 +15,9 @@ CODES = {
     0: 'Invalid', 1: 'Success', 2: 'Data Buffer Error', 3: 'Babble Detected Error', 4: 'USB Transaction Error', 5: 'TRB Error',
     6: 'Stall Error', 7: 'Resource Error', 8: 'Bandwidth Error', 9: 'No Slots Available Error', 11: 'Slot Not Enabled Error',
     12: 'Endpoint Not Enabled Error', 13: 'Short Packet', 14: 'Ring Underrun', 15: 'Ring Overrun', 17: 'Parameter Error',
-    19: 'Context State Error', 24: 'Command Ring Stopped', 25: 'Command Aborted', 26: 'Stopped', 27: 'Stopped - Length Invalid',
-    28: 'Stopped - Short Packet', 36: 'Split Transaction Error'}
+    18: 'Bandwidth Overrun Error', 19: 'Context State Error', 20: 'No Ping Response Error', 23: 'Missed Service Error',
+    24: 'Command Ring Stopped', 25: 'Command Aborted', 26: 'Stopped', 27: 'Stopped - Length Invalid', 28: 'Stopped - Short Packet',
+    31: 'Isoch Buffer Overrun', 36: 'Split Transaction Error'}
 
 HARMS = {
     1: 'it takes a TRB that was not submitted, or not the next one',

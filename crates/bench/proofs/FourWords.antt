@@ -1,8 +1,5 @@
 -- Four words are those of a block
-use Rattle.std.proofs.Common.{◌≡◌, ◌<◌, ◌^◌, ◌∷◌, ℕ, zero, suc, [], arith, refl, sym, subst, length}
-use Rattle.std.specs.List.{slice_index}
-use Rattle.trb.specs.declared.block.Block.{Block}
-use Rattle.trb.specs.Block.{IsBlock}
+use Rattle.bench.proofs.Words.{◌≡◌, ◌<◌, ◌^◌, ◌∷◌, ℕ, zero, suc, [], arith, refl, sym, subst, length, slice_index, Block, IsBlock}
 
 each_below : (i j k l : ℕ) → i < 2 ^ 32 → j < 2 ^ 32 → k < 2 ^ 32 → l < 2 ^ 32 → (n : ℕ) → slice_index (i ∷ j ∷ k ∷ l ∷ []) n < 2 ^ 32
 each_below i j k l p q r s zero = p

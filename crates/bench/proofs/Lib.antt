@@ -1,2 +1,3 @@
 pub mod RowsBeside
 pub mod FourWords
+pub mod Words

@@ -1,24 +1,5 @@
 -- A run beside rows is a run beside these rows and more
-use Rattle.std.proofs.Common.{◌≡◌, ◌++◌, ◌∙◌, ℕ, Bool, true, false, List, [], ◌∷◌, Option, Some, None, Ok, Err, refl, ap, sym, subst, if◌then◌else◌}
-use Rattle.std.proofs.lemmas.Option.{none-some}
-use Rattle.std.specs.Prelude.{option_map, option_and_then}
-use Rattle.traces.specs.declared.header.Header.{Header}
-use Rattle.traces.specs.declared.ring.Ring.{Ring}
-use Rattle.traces.specs.declared.row.Row.{Row}
-use Rattle.traces.specs.declared.row.Row.TheVariants.{Sub, Write, Reg, Bell, Read, Ring as RingRow, Free as FreeRow, Nop as NopRow}
-use Rattle.traces.specs.declared.step.Step.{Step}
-use Rattle.traces.specs.declared.step.Step.TheVariants.{NextRow, Look, Report, Finish, Other, Scribble}
-use Rattle.world_state.specs.World.{World}
-use Rattle.world_state.specs.DriverRows.{row_done}
-use Rattle.world_state.specs.RingRows.{may_come}
-use Rattle.world_state.specs.Steps.{counted, made}
-use Rattle.controller_model.specs.Controllers.{IsBeside}
-use Rattle.controller_model.specs.Following.{IsStep}
-use Rattle.controller_model.specs.declared.controller.Controller.{Controller}
-use Rattle.controller_model.specs.declared.fault.StepFault.TheVariants.{NotPossible}
-use Rattle.controller_model.specs.declared.seen.Seen.{Seen}
-use Rattle.bench.specs.Benches.{with_row}
-use Rattle.world_state.specs.Scenes.{Scene, row_made, row_next, scene_reached, step_made, with_coming, with_left, with_world}
+use Rattle.bench.proofs.Words.{◌≡◌, ◌++◌, ◌∙◌, ℕ, Bool, true, false, List, [], ◌∷◌, Option, Some, None, Ok, Err, refl, ap, sym, subst, if◌then◌else◌, none-some, option_map, option_and_then, Header, Ring, Row, Sub, Write, Reg, Bell, Read, RingRow, FreeRow, NopRow, Step, NextRow, Look, Report, Finish, Other, Scribble, World, row_done, may_come, counted, made, IsBeside, IsStep, Controller, NotPossible, Seen, with_row, Scene, row_made, row_next, scene_reached, step_made, with_coming, with_left, with_world}
 
 abbrev pub more : List Row → Scene → Scene
 more rest x = record x { rows = x.rows ++ rest }

@@ -17,6 +17,9 @@ const MOST_DRAWS: u32 = 64;
 /// Babble, USB Transaction Error, Stall, Split Transaction Error and TRB Error (xHCI 6.4.5).
 const BREAKING: [u8; 5] = [3, 4, 6, 36, 5];
 
+/// The errors of an isochronous endpoint, which none of them halts, and TRB Error: it has no handshake, and so no Stall (xHCI 4.10.2).
+const PASSING: [u8; 8] = [2, 3, 4, 18, 20, 31, 36, 5];
+
 /// When a controller does what it may do.
 #[derive(Clone, Copy, Debug, PartialEq, Eq)]
 pub enum Policy {
@@ -285,6 +288,10 @@ impl Adversary {
         if !controller.has_event_room() {
             return None;
         }
+        let service = self.service(controller, ring, slot, endpoint);
+        if service.is_some() {
+            return service;
+        }
         let takes = controller.unreported(ring);
         let asked = oldest_with(controller.memory(), takes, IOC);
         if is_alone(asked, takes.len()) {
@@ -299,6 +306,32 @@ impl Adversary {
             None => transfer_event(*takes.get(asked?)?, 1, 0, slot, endpoint, cycle),
         };
         Some(Step::Report { event })
+    }
+
+    /// That an isochronous endpoint found no TD in time, or missed a service interval, if that is drawn: it names no TRB (xHCI 4.10.3).
+    fn service<M: WordMemory + Drop>(
+        &mut self,
+        controller: &Controller<M>,
+        ring: u8,
+        slot: u8,
+        endpoint: u8,
+    ) -> Option<Step>
+        requires { endpoint < 32 }
+    {
+        if !serves(controller, slot, endpoint)
+            || !controller.is_active(ring)
+            || !self.dice.chance(self.profile.errors)
+        {
+            return None;
+        }
+        let code = match self.dice.below(2) {
+            0 => 23,
+            _ => 14 + endpoint % 2,
+        };
+        let cycle = controller.event_cycle();
+        Some(Step::Report {
+            event: transfer_event(0, code, 0, slot, endpoint, cycle),
+        })
     }
 
     /// A Short Packet, if one is drawn: the oldest TRB that asks for an event of it, and how many of its bytes don't come (6.4.2.1).
@@ -343,7 +376,11 @@ impl Adversary {
         if !self.dice.chance(self.profile.errors) {
             return None;
         }
-        let code = self.dice.one_of(&BREAKING);
+        let code = if serves(controller, slot, endpoint) {
+            self.dice.one_of(&PASSING)
+        } else {
+            self.dice.one_of(&BREAKING)
+        };
         let cycle = controller.event_cycle();
         Some(Step::Report {
             event: transfer_event(at, code, 0, slot, endpoint, cycle),
@@ -385,6 +422,13 @@ impl Adversary {
         }
         Some(step)
     }
+}
+
+/// Whether an endpoint is used as an isochronous one.
+fn serves<M: WordMemory + Drop>(controller: &Controller<M>, slot: u8, endpoint: u8) -> bool
+    requires { endpoint < 32 }
+{
+    controller.live().version.has_isoch() && controller.is_isochronous(slot, endpoint)
 }
 
 /// All that it may do is gone through from the beginning.

@@ -1,24 +1,5 @@
 -- What is noted of a run as it goes on, and what is told at its end
-use Rattle.std.proofs.Common.{◌≡◌, ◌∙◌, ◌∷◌, ℕ, false, List, [], Option, Some, None, Result, Ok, Err, OnOk, refl, ap, subst, sym, length}
-use Rattle.std.proofs.lemmas.Bool.{false≢true}
-use Rattle.std.specs.Prelude.{is_some}
-use Rattle.std.proofs.lemmas.Option.{none-some}
-use Rattle.traces.specs.declared.header.Header.{Header}
-use Rattle.traces.specs.declared.row.Row.{Row}
-use Rattle.traces.specs.declared.step.Step.{Step}
-use Rattle.world_state.specs.Harms.{harm_of}
-use Rattle.world_state.specs.Scenes.{Scene}
-use Rattle.world_state.specs.declared.harm.Harm.{Harm}
-use Rattle.ownership_rules.specs.declared.refusal.Refusal.{Refusal}
-use Rattle.bench.specs.Benches.{IsBench, IsRowJudged}
-use Rattle.bench.specs.Lives.{JudgesNext}
-use Rattle.bench.specs.declared.live.Live.{Live}
-use Rattle.bench.specs.declared.written.Written.{Written}
-use Rattle.bench_runs.specs.declared.course.Course.{Course}
-use Rattle.bench_runs.specs.Runs.{IsCourse, IsEndAt, IsEndSoFar, IsNoted, IsOver, end_of, ended_with, noted_with}
-use Rattle.bench_runs.specs.declared.end.Ended.{Ended}
-use Rattle.bench_runs.specs.declared.end.Ended.TheVariants.{NoHarm, Refused, Harm as HarmAt, NotPossible, BadLine}
-use Rattle.bench_runs.specs.declared.end.RefusedRow.{RefusedRow}
+use Rattle.bench_runs.proofs.Words.{◌≡◌, ◌∙◌, ◌∷◌, ℕ, false, List, [], Option, Some, None, Result, Ok, Err, OnOk, refl, ap, subst, sym, length, false≢true, is_some, none-some, Header, Row, Step, harm_of, Scene, Harm, Refusal, IsBench, IsRowJudged, JudgesNext, Live, Written, Course, IsCourse, IsEndAt, IsEndSoFar, IsNoted, IsOver, end_of, ended_with, noted_with, Ended, NoHarm, Refused, HarmAt, NotPossible, BadLine, RefusedRow}
 
 -- where it hadn't ended, it ends where there is harm
 so_far : (h : Header) (past : List Row) (steps : List Step) (x : Scene) (harm : Option Harm) → harm ≡ harm_of x.header x.world →

@@ -1,1 +1,3 @@
 pub mod Courses
+pub mod Words
+pub mod Laws

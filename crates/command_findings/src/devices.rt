@@ -3,7 +3,7 @@ use commands::{Command, EndpointState};
 use guest_memory::Addr;
 use ring_knowledge::RingGiving;
 use row_history::{
-    Case, Shown, Unfinished, binds_ring, command_at, command_name, endpoint_state_name, last_halt,
+    Case, Shown, Unfinished, binds_ring, command_at, command_name, endpoint_state_name,
     name_two_endpoints, note_dropped, ring_at, start, unfinished_beside, unfinished_on,
 };
 use traces::Ring;
@@ -88,7 +88,7 @@ fn note_halted(case: &mut Case, slot: u8, target: u8, state: EndpointState) {
             "Set TR Dequeue Pointer to the next TD first (xHCI 4.6.8)",
         ),
     };
-    case.mark(last_halt(case.before, slot, target), label, &[]);
+    case.mark(case.known.halted_by(slot, target), label, &[]);
     case.say(note);
     case.advise(help);
 }

@@ -13,7 +13,7 @@ use rule_pages::{Subject, subject_called};
 use std::alloc::{AllocError, Global};
 
 /// The version, and the formats that are read.
-const VERSION: &str = "1.0 (xtrace 1 to 3, xplan 1, xsched 1, XHCICRT1)";
+const VERSION: &str = "1.0 (xtrace 1 to 4, xplan 1, xsched 1, XHCICRT1)";
 
 const STATUSES: &str = "\
 Without a command it checks the trace on standard input.

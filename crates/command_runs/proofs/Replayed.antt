@@ -1,6 +1,5 @@
 -- That the answer to a trace and a schedule is right
-use Rattle.command_runs.proofs.Words.{Answer, IfSome, IsReplayBeside, IsReplayed, List, Memory, None, Ok, Option, Schedule, Some, TraceText, schedule_of, subst, ℕ, ◌≡◌}
-use Rattle.answers.specs.declared.answer.Answer.TheVariants.{BadLine, Replayed}
+use Rattle.command_runs.proofs.Words.{Answer, IfSome, IsReplayBeside, IsReplayed, List, Memory, None, Ok, Option, Schedule, Some, TraceText, schedule_of, subst, ℕ, ◌≡◌, BadLine, Replayed}
 
 pub beside_right : (trace : TraceText) (schedule : Schedule) (text : List ℕ) (a : Answer) → schedule_of text ≡ Ok schedule.steps → IsReplayed trace schedule a →
     IsReplayBeside trace (Some text) a

@@ -6,7 +6,7 @@ pub use Rattle.answers.specs.Answers.{answer_of_cert_fault, answer_of_fault, ans
 pub use Rattle.answers.specs.Inputs.{opened}
 pub use Rattle.answers.specs.Keeping.{IsKept, IsKeptInPart, kept_bytes}
 pub use Rattle.answers.specs.declared.answer.Answer.{Answer}
-pub use Rattle.answers.specs.declared.answer.Answer.TheVariants.{Accepted, Memory, Verified}
+pub use Rattle.answers.specs.declared.answer.Answer.TheVariants.{Accepted, BadLine, Memory, Replayed, Verified}
 pub use Rattle.answers.specs.declared.answer.FoundHarm.{FoundHarm}
 pub use Rattle.certificate.specs.Pieces.{fault_of}
 pub use Rattle.certificate.specs.Spelling.{spelling}
@@ -23,8 +23,8 @@ pub use Rattle.command_runs.specs.ScheduleAnswers.{IsScheduleAnswer, IsScheduled
 pub use Rattle.command_runs.specs.ShowAnswers.{IsPageAnswer, IsShowAnswer}
 pub use Rattle.command_runs.specs.TraceTexts.{IsFirstBad, IsTextOf, IsTraceAnswer, IsUnread}
 pub use Rattle.command_runs.specs.VerifyAnswers.{IsNoCertificate, IsUncertified, IsVerdictBeside, IsVerified}
-pub use Rattle.command_runs.specs.VersionNotes.{in_version_three, is_behind}
-unfoldable pub use Rattle.command_runs.specs.VersionNotes.{breaks_no_rule_of_three}
+pub use Rattle.command_runs.specs.VersionNotes.{in_version, is_behind}
+unfoldable pub use Rattle.command_runs.specs.VersionNotes.{breaks_no_rule_of}
 pub use Rattle.ownership_checker.specs.Following.{IsToldBad, IsToldSoFar, ToldSoFar, told_as_it_comes}
 pub use Rattle.ownership_checker.specs.RingPasses.Accepted.{IsSound}
 pub use Rattle.ownership_checker.specs.RingPasses.Reading.{OfTrace}
@@ -35,7 +35,6 @@ pub use Rattle.ownership_rules.specs.Rules.{trace_verdict}
 pub use Rattle.ownership_rules.specs.declared.refusal.Refusal.{Refusal}
 pub use Rattle.ring_knowledge.specs.declared.lease.Lease.{Lease}
 pub use Rattle.std.proofs.Common.{Bool, Err, List, None, Ok, Option, Result, Some, ap, arith, false, inl, inr, length, nat_lt, not, refl, subst, sym, true, ℕ, ◌∙◌, ◌≡◌, ◌≢◌}
-pub use Rattle.std.proofs.lemmas.List.Elements.{All-weaker}
 pub use Rattle.std.specs.Io.KnownBytes.{Consumes}
 pub use Rattle.std.specs.Prelude.{IfErr, IfOk, IfSome, is_some}
 pub use Rattle.trace_reader.proofs.Streaming.Streams.{known_text}
@@ -49,6 +48,6 @@ pub use Rattle.trace_reader.specs.declared.fault.ReadFault.TheVariants.{Memory a
 pub use Rattle.trace_reader.specs.declared.row_reader.fault.StreamFault.{StreamFault}
 pub use Rattle.trace_reader.specs.declared.row_reader.fault.StreamFault.TheVariants.{Device as NoDevice, Line, Memory as NoMemory}
 pub use Rattle.traces.specs.Header.{IsHeader}
-pub use Rattle.traces.specs.TraceRows.{IsRowOf, IsTraceRow}
 pub use Rattle.traces.specs.declared.header.Header.{Header}
 pub use Rattle.traces.specs.declared.schedule.Schedule.{Schedule}
+pub use Rattle.traces.specs.declared.version.Version.{Version}

@@ -1,5 +1,5 @@
 //! What explains an answer to a trace, in its parts.
-use crate::version_note::{VERSION_NOTE, breaks_older_rules_alone};
+use crate::version_note::version_note;
 use crate::waiting_note::words_on_waiting;
 use crate::why_no::{WhyNo, why_no};
 use answers::{Answer, FoundHarm, Remarks, harm_note, remarks_on_leases};
@@ -127,11 +127,9 @@ fn told_on_row(
     if let Some(harm) = harm {
         told.parts.notes.push(harm_note(alloc, harm)?)?;
     }
-    if breaks_older_rules_alone(alloc, text, row)? {
+    if let Some(note) = version_note(alloc, text, row)? {
         class = Cause::Unjudged;
-        told.parts
-            .notes
-            .push(String::from_str(alloc, VERSION_NOTE)?)?;
+        told.parts.notes.push(String::from_str(alloc, note)?)?;
     }
     told.refused = Some(RefusedRow {
         row,

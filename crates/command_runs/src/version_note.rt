@@ -1,8 +1,8 @@
-//! What is told of a row that an older version of the format refuses, and version 3 doesn't.
+//! What is told of a row that a version of the format refuses, and a later one doesn't.
 ghost use Rattle.std.specs.Prelude.{◌≡◌, IfOk, string_bytes};
 ghost use Rattle.answers.specs.Telling.{IsNote};
 ghost use Rattle.trace_reader.specs.Entries.{text_of};
-ghost use Rattle.command_runs.specs.VersionNotes.{breaks_no_rule_of_three, in_version_three};
+ghost use Rattle.command_runs.specs.VersionNotes.{breaks_no_rule_of, in_version};
 
 use crate::waiting_note::waiting_note;
 use answers::{Answer, Asked, explain_trace};
@@ -10,14 +10,11 @@ use diagnostics::{Class, Colors, Explanation, note_line};
 use guest_memory::SparseMemory;
 use ownership_checker::{LeaseCount, Passed, pass_kept};
 use std::alloc::{AllocError, Global};
-use trace_reader::{ReadFault, Trace, read_trace};
+use trace_reader::{ReadFault, Trace, read_long_trace};
 use traces::{Header, Version};
 
-/// That version 3 doesn't refuse a row.
-pub(crate) const VERSION_NOTE: &str = "judged by version 3 this row breaks no rule";
-
-/// What a person is told of a verdict, beside its line; of a refused row also whether version 3 refuses it, and of an accepted trace
-/// what waits at its end.
+/// What a person is told of a verdict, beside its line; of a refused row also which later version doesn't refuse it, and of an accepted
+/// trace what waits at its end.
 pub(crate) fn note_on_check(
     alloc: Global,
     asked: &Asked,
@@ -45,9 +42,9 @@ pub(crate) fn explain_check(
     }
     match answer {
         Answer::Refused { row, .. } | Answer::HarmShown { row, .. } => {
-            if breaks_older_rules_alone(alloc, text, *row)? {
+            if let Some(note) = version_note(alloc, text, *row)? {
                 told.class = Class::Unjudged;
-                let words = version_words(alloc, asked.colors, *row)?;
+                let words = version_words(alloc, asked.colors, *row, note)?;
                 told.text.push_str(&words)?;
             }
         }
@@ -60,39 +57,44 @@ pub(crate) fn explain_check(
     Ok(told)
 }
 
-/// Whether a row of a trace, the first one that its version refuses, breaks no rule of version 3; of a trace of version 3, or of none, no row does so.
-pub(crate) fn breaks_older_rules_alone(
+/// Which later version, 3 before 4, doesn't refuse a row of a trace, the first one that its own version refuses; nothing where none is such.
+/// Versions 1 and 2 refuse by rules that no later one has.
+pub(crate) fn version_note(
     alloc: Global,
     text: &[u8],
     row: u32,
-) -> Result<bool, AllocError> {
-    let trace = match read_trace(alloc, text) {
+) -> Result<Option<&'static str>, AllocError> {
+    let trace = match read_long_trace(alloc, text) {
         Ok(trace) => trace,
-        Err(ReadFault::Line { .. }) => return Ok(false),
+        Err(ReadFault::Line { .. }) => return Ok(None),
         Err(ReadFault::Memory) => return Err(AllocError),
     };
-    match trace.header.version {
-        Version::Three => Ok(false),
-        Version::One | Version::Two => breaks_no_rule_of_three(alloc, trace, row),
+    let version = trace.header.version;
+    if !version.is_lenient() && breaks_no_rule_of(alloc, Version::Three, &trace, row)? {
+        return Ok(Some("judged by version 3 this row breaks no rule"));
     }
+    if !version.has_isoch() && breaks_no_rule_of(alloc, Version::Four, &trace, row)? {
+        return Ok(Some("judged by version 4 this row breaks no rule"));
+    }
+    Ok(None)
 }
 
-/// Whether version 3 refuses neither this row of a trace nor one before it.
-fn breaks_no_rule_of_three(alloc: Global, trace: Trace, row: u32) -> Result<bool, AllocError>
-    ensures { IfOk result (λ none. none ≡ breaks_no_rule_of_three (text_of trace) row) }
+/// Whether a version refuses neither this row of a trace nor one before it.
+fn breaks_no_rule_of(
+    alloc: Global,
+    version: Version,
+    trace: &Trace,
+    row: u32,
+) -> Result<bool, AllocError>
+    ensures { IfOk result (λ none. none ≡ breaks_no_rule_of version (text_of trace.now) row) }
 {
-    let Trace {
-        header,
-        first,
-        rows,
-    } = trace;
-    let header = in_version_three(header);
+    let header = in_version(alloc, version, &trace.header)?;
     let log = LeaseCount::new(alloc, &header)?;
     match pass_kept(
         alloc,
         header,
-        first,
-        rows.as_slice(),
+        trace.first,
+        trace.rows.as_slice(),
         log,
         SparseMemory::new(alloc),
     )? {
@@ -101,19 +103,22 @@ fn breaks_no_rule_of_three(alloc: Global, trace: Trace, row: u32) -> Result<bool
     }
 }
 
-/// The same header, for rows that version 3 judges.
-fn in_version_three(header: Header) -> Header
-    ensures { result ≡ in_version_three header }
+/// The same header, for rows that another version judges.
+fn in_version(alloc: Global, version: Version, header: &Header) -> Result<Header, AllocError>
+    ensures { IfOk result (λ made. made ≡ in_version version header.now) }
 {
-    Header {
-        version: Version::Three,
-        context_size: header.context_size,
-        rings: header.rings,
-    }
+    let mut made = header.copy(alloc)?;
+    made.version = version;
+    Ok(made)
 }
 
-/// That version 3 doesn't refuse a row. It stands behind what is told of the row, under its number.
-fn version_words(alloc: Global, colors: Colors, row: u32) -> Result<String, AllocError> {
+/// That a later version doesn't refuse a row. It stands behind what is told of the row, under its number.
+fn version_words(
+    alloc: Global,
+    colors: Colors,
+    row: u32,
+    note: &str,
+) -> Result<String, AllocError> {
     let width = format!(in alloc; "{row}")?.len();
-    note_line(alloc, colors, width, VERSION_NOTE)
+    note_line(alloc, colors, width, note)
 }

@@ -2,7 +2,7 @@
 use Rattle.std.specs.Prelude.{ℕ, ◌==◌, ◌&&◌, Bool, true, false, List, [], ◌∷◌, map, nat_le, unwrap_or}
 use Rattle.guest_memory.specs.Memory.{put}
 use Rattle.contexts.specs.declared.size.ContextSize.{ContextSize}
-use Rattle.contexts.specs.Contexts.{added_endpoints, is_dropped, context_pointer, context_cycle}
+use Rattle.contexts.specs.Contexts.{added_endpoints, is_dropped, context_pointer, context_cycle, has_isochronous, input_add_flag}
 use Rattle.commands.specs.declared.command.Command.{Command}
 use Rattle.commands.specs.declared.command.Command.TheVariants.{NoOp, EnableSlot, DisableSlot, AddressDevice, ConfigureEndpoint, EvaluateContext, ResetEndpoint, StopEndpoint, SetTrDequeue, ResetDevice}
 use Rattle.commands.specs.declared.state.SlotState.{SlotState}
@@ -15,6 +15,8 @@ pub data Change : Type 0 where
   SlotGoesOn : (slot : ℕ) → Change
   -- the controller lets go of the slot's device context
   DeviceLeft : (slot : ℕ) → Change
+  -- of the endpoints of the slot that the first test names those are isochronous that the second one names
+  Types : (slot : ℕ) (which isochronous : ℕ → Bool) → Change
   -- the endpoints of the slot that the test names are disabled, and have no ring
   Disables : (slot : ℕ) (which : ℕ → Bool) → Change
   -- the endpoint is in this state, and its ring is the one at the pointer, from there on and with this cycle state
@@ -33,6 +35,10 @@ placed_by_context size memory s c i =
 abbrev pub is_above_control : ℕ → Bool
 is_above_control i = nat_le 2 i
 
+-- the endpoints that a context adds have the types that it says
+abbrev pub typed_by_context : ContextSize → (ℕ → ℕ) → ℕ → ℕ → Change
+typed_by_context size memory s c = Types s (input_add_flag memory c) (has_isochronous size memory c)
+
 -- what the success of a command does, in order; n is the slot of its completion. Endpoints are dropped before any is added
 unfoldable pub changes : ContextSize → (ℕ → ℕ) → ℕ → Command → List Change
 changes size memory n NoOp = []
@@ -40,7 +46,7 @@ changes size memory n EnableSlot = SlotGoesOn n ∷ []
 changes size memory n (DisableSlot s) = SlotGoesOn s ∷ DeviceLeft s ∷ Disables s (λ i. true) ∷ []
 changes size memory n (AddressDevice s bsr c) = SlotGoesOn s ∷ placed_by_context size memory s c 1 ∷ []
 changes size memory n (ConfigureEndpoint s false c) =
-    SlotGoesOn s ∷ Disables s (is_dropped memory c) ∷ map (placed_by_context size memory s c) (added_endpoints memory c)
+    SlotGoesOn s ∷ typed_by_context size memory s c ∷ Disables s (is_dropped memory c) ∷ map (placed_by_context size memory s c) (added_endpoints memory c)
 changes size memory n (ConfigureEndpoint s true c) = SlotGoesOn s ∷ Disables s is_above_control ∷ []
 changes size memory n (EvaluateContext s c) = []
 changes size memory n (ResetEndpoint s i) = Resets s i ∷ []
@@ -56,6 +62,7 @@ slot_gone_on c states s = put states s (unwrap_or (slot_success c (states s)) (s
 abbrev pub touches : ℕ → ℕ → Change → Bool
 touches s i (SlotGoesOn t) = false
 touches s i (DeviceLeft t) = false
+touches s i (Types t which isochronous) = false
 touches s i (Disables t which) = s == t && which i
 touches s i (Places t j p cycle state) = s == t && i == j
 touches s i (Stops t j) = s == t && i == j

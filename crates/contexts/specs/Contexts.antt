@@ -1,5 +1,5 @@
 -- Contexts as words of memory: xHCI 6.1 (DCBAA), 6.2.1, 6.2.3, 6.2.5
-use Rattle.std.specs.Prelude.{ℕ, ◌+◌, ◌*◌, ◌/◌, ◌%◌, ◌^◌, ◌==◌, ◌&&◌, Bool, List, nat_le, filter}
+use Rattle.std.specs.Prelude.{ℕ, ◌+◌, ◌*◌, ◌/◌, ◌%◌, ◌^◌, ◌==◌, ◌&&◌, Bool, List, nat_le, nat_lt, filter}
 use Rattle.std.specs.List.{range_with_len}
 use Rattle.guest_memory.specs.Memory.{long_at}
 use Rattle.contexts.specs.declared.size.ContextSize.{ContextSize}
@@ -63,7 +63,7 @@ endpoint_cycle memory e = has_flag (memory (e + 8)) 0
 abbrev pub endpoint_pointer : (ℕ → ℕ) → ℕ → ℕ
 endpoint_pointer memory e = long_at memory (e + 8) / 16 * 16
 
--- EP Type 1 and 5 are isochronous, which the profile leaves out
+-- EP Type 1 and 5 are isochronous
 abbrev pub is_isochronous : ℕ → Bool
 is_isochronous t = t % 4 == 1
 
@@ -73,3 +73,7 @@ context_pointer size memory a i = endpoint_pointer memory (input_endpoint size a
 
 abbrev pub context_cycle : ContextSize → (ℕ → ℕ) → ℕ → ℕ → Bool
 context_cycle size memory a i = endpoint_cycle memory (input_endpoint size a i)
+
+-- it says that the endpoint is isochronous; a context has 31 endpoints, of which the first is the default control endpoint
+abbrev pub has_isochronous : ContextSize → (ℕ → ℕ) → ℕ → ℕ → Bool
+has_isochronous size memory a i = nat_lt i 32 && (nat_le 2 i && is_isochronous (endpoint_type memory (input_endpoint size a i)))

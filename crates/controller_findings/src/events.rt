@@ -3,13 +3,13 @@ use commands::{Command, EndpointState};
 use ring_knowledge::RingRecord;
 use row_history::{
     Case, Shown, code_name, command_name, endpoint_state_name, given_back, is_handed_over,
-    last_event, last_halt, last_register, last_write, line_of, note_dropped, position_at, reads,
+    last_event, last_register, last_write, line_of, mark_adding, note_dropped, position_at, reads,
     register_value, ring_at, ring_known, ring_of_kind, slot_state_name, start, submission,
     trb_named, type_name,
 };
 use segments::Place;
 use traces::{Register, Ring};
-use trb::{Block, BlockKind, RingKind};
+use trb::{Block, BlockKind, RingKind, is_success};
 
 /// An event that no controller can have posted.
 pub fn impossible_event(case: &mut Case, event: Block) {
@@ -290,9 +290,23 @@ fn note_transfer(case: &mut Case, event: Block) {
         }
         return;
     };
-    if let Some((ring, known)) = ring_known(case, id) {
+    if is_stall_of_isochronous(case, event) {
+        case.note(
+            "{} is isochronous, and has no handshake: nothing stalls there (xHCI 4.10.2)",
+            &[Shown::Endpoint(slot, endpoint)],
+        );
+        mark_adding(case, slot, endpoint);
+        case.advise(
+            "look at the hook for events, and at EP Type in the Input Context that added the endpoint",
+        );
+    } else if let Some((ring, known)) = ring_known(case, id) {
         note_pointer(case, event, ring, known);
     }
+}
+
+/// Whether an event is a Stall of an isochronous endpoint, where the version judges those.
+fn is_stall_of_isochronous(case: &Case, event: Block) -> bool {
+    event.code() == 6 && case.known.devices.code_told(case.header, event) != 6
 }
 
 /// Notes of the endpoint that an event names in which state it is. The text has a place for each.
@@ -356,7 +370,8 @@ fn note_named_trb(case: &mut Case, event: Block, ring: &Ring, known: &RingRecord
     case.mark(gave, "this row hands the TRB to the controller", &[]);
     let (slot, endpoint) = (event.slot(), event.endpoint());
     let state = case.known.devices.endpoint_state(slot, endpoint);
-    if !matches!(event.code(), 1 | 13) && state != EndpointState::Running {
+    let code = case.known.devices.code_told(case.header, event);
+    if !is_success(code) && state != EndpointState::Running {
         note_endpoint(
             case,
             event,
@@ -413,7 +428,7 @@ fn note_no_bell(case: &mut Case, slot: u8, endpoint: u8) {
         return;
     }
     case.mark(
-        last_halt(case.before, slot, endpoint),
+        case.known.halted_by(slot, endpoint),
         "with this event the controller came to a halt",
         &[],
     );

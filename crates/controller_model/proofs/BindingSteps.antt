@@ -1,6 +1,5 @@
 -- What letting a ring go and getting one do to what the world has of each ring
-use Rattle.controller_model.proofs.MiddleLaws.{arith, rules, ◌≡◌, ◌≢◌, ◌∷◌, ◌∙◌, if◌then◌else◌, ℕ, Bool, true, false, Option, Some, None, length, refl, ap, eq-eqb, ne_eqb, cond-true, put_pair, EndpointState, is_ring, World, Placed, takes_of, inactive, is_had_by_another, placed, ring_held, released, freed, bound, ◌==◌, ◌&&◌, not, put_same, put_other, put_pair_id, put_pair_twice, put_pair_map}
-use Rattle.controller_model.proofs.HadByAnother.{any_same}
+use Rattle.controller_model.proofs.MiddleLaws.{arith, rules, ◌≡◌, ◌≢◌, ◌∷◌, ◌∙◌, if◌then◌else◌, ℕ, Bool, true, false, Option, Some, None, length, refl, ap, eq-eqb, ne_eqb, cond-true, put_pair, EndpointState, is_ring, World, Placed, takes_of, inactive, is_had_by_another, placed, ring_held, released, freed, bound, ◌==◌, ◌&&◌, not, put_same, put_other, put_pair_id, put_pair_twice, put_pair_map, any_same}
 
 module _ (w : World) (s i : ℕ) where
   -- the endpoints that have ring q, after this one gets another one or none

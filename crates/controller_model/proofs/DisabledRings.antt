@@ -1,5 +1,5 @@
 -- What is kept of rings while endpoints are disabled
-use Rattle.controller_model.proofs.MiddleLaws.{rules, ◌≡◌, ◌<◌, ◌==◌, ◌&&◌, ◌∙◌, if◌then◌else◌, ℕ, not, Bool, true, false, List, Option, Some, None, refl, sym, ap, subst, arith, Header, is_ring, World, RingState, disabled, has_one_of, Kept, Off, Follows, FollowsEndpoints, FollowsHolder, FollowsRings, IsEndpoint, ring_held, turned_off, here, elsewhere, place_of, put_pair_here, put_pair_there, put_pair_map, any_alike}
+use Rattle.controller_model.proofs.LowerLaws.{rules, ◌≡◌, ◌<◌, ◌==◌, ◌&&◌, ◌∙◌, if◌then◌else◌, ℕ, not, Bool, true, false, List, Option, Some, None, refl, sym, ap, subst, arith, Header, is_ring, World, RingState, disabled, has_one_of, Kept, Off, Follows, FollowsEndpoints, FollowsHolder, FollowsRings, IsEndpoint, ring_held, turned_off, here, elsewhere, place_of, put_pair_here, put_pair_there, put_pair_map, any_alike}
 
 -- an endpoint that has no ring is disabled
 pub rings_off : (h : Header) (w : World) (s i : ℕ) (rings : List RingState) → ((r : ℕ) → IsEndpoint s i → is_ring r (w.ring_of s i) ≡ false) →
@@ -26,11 +26,12 @@ disabled_below h words before k w s p q same first f =
           } in
           assumption (holder, ap (λ b. w.is_active r && not b) (any_alike _ _ 1 31 (λ i low high. ap (λ b. b && is_ring r (w.ring_of s i)) (sym (same i (omega arith))))) ∙ old.active);
     } in
-    let endpoints : FollowsEndpoints k.endpoints.items (disabled w s q).endpoint_state (disabled w s q).ring_of = record {
+    let endpoints : FollowsEndpoints k.endpoints.items (disabled w s q).endpoint_state (disabled w s q).ring_of (disabled w s q).isochronous = record {
       each = λ t j x below at.
           let old = f.endpoints.each t j x below at in (
             ap (λ b. if t == s && b then Off else w.endpoint_state t j) (sym (same j below)) ∙ old.0,
             ap (λ b. if t == s && b then None else w.ring_of t j) (sym (same j below)) ∙ old.1,
+            old.2,
           );
       no_more = λ t j many. still (t == s && q j) (w.ring_of t j) (first.endpoints.no_more t j many);
       low = λ t j r has. first.endpoints.low t j r (had (t == s && q j) (w.ring_of t j) r has);

@@ -1,5 +1,5 @@
 -- Endpoints are disabled one after another
-use Rattle.controller_model.proofs.MiddleLaws.{rules, ◌≡◌, ◌+◌, ◌<◌, ◌≤◌, ◌==◌, ◌&&◌, ◌||◌, ◌∙◌, if◌then◌else◌, ◌∷◌, ℕ, suc, zero, not, Bool, true, false, List, [], Option, None, refl, ap, inl, inr, arith, nat_lt, eq-eqb, ne_eqb, lt-ltb, le-ltb, list_any, range_with_len, cases_eq, cases_lt, is_ring, World, disabled, has_one_of, freed, turned_off, put_pair_twice, or_false, none_in_range, and_true}
+use Rattle.controller_model.proofs.LowerLaws.{rules, ◌≡◌, ◌+◌, ◌<◌, ◌≤◌, ◌==◌, ◌&&◌, ◌||◌, ◌∙◌, if◌then◌else◌, ◌∷◌, ℕ, suc, zero, not, Bool, true, false, List, [], Option, None, refl, ap, inl, inr, arith, nat_lt, eq-eqb, ne_eqb, lt-ltb, le-ltb, list_any, range_with_len, cases_eq, cases_lt, is_ring, World, disabled, has_one_of, freed, turned_off, put_pair_twice, or_false, none_in_range, and_true}
 
 -- of a range with i, the test holds at most there
 any_at : (m : Bool) (i from n : ℕ) → from ≤ i → i < from + n → list_any (λ j. j == i && m) (range_with_len from n) ≡ m

@@ -1,5 +1,5 @@
 -- Whether another endpoint has a ring, by who is kept as having it
-use Rattle.controller_model.proofs.MiddleLaws.{◌≡◌, ◌==◌, ◌&&◌, ◌∙◌, ℕ, not, Bool, true, false, Option, Some, None, refl, sym, ap, inl, inr, arith, eq-eqb, list_any, range_with_len, cases_Bool, false≢true, is_ring, World, Holder, is_had_by_another, FollowsHolder, IsEndpoint, is_other, here, elsewhere, place_of, any_in_range, none_in_range}
+use Rattle.controller_model.proofs.LowerLaws.{◌≡◌, ◌==◌, ◌&&◌, ◌∙◌, ℕ, not, Bool, true, false, Option, Some, None, refl, sym, ap, inl, inr, arith, eq-eqb, list_any, range_with_len, cases_Bool, false≢true, is_ring, World, Holder, is_had_by_another, FollowsHolder, IsEndpoint, is_other, here, elsewhere, place_of, any_in_range, none_in_range}
 
 -- the tests of a range are the same
 pub any_same : (test other : ℕ → Bool) (from n : ℕ) → ((k : ℕ) → test k ≡ other k) → list_any test (range_with_len from n) ≡ list_any other (range_with_len from n)

@@ -1,6 +1,5 @@
 -- Who has a ring, after an endpoint lets it go and after one gets it
-use Rattle.controller_model.proofs.Words.{rules, ◌≡◌, ◌<◌, ◌==◌, ◌&&◌, ◌∙◌, if◌then◌else◌, ℕ, Bool, true, false, Option, Some, None, eq-eqb, ne_eqb, cond-true, cond-false, false≢true, put_pair, Holder, FollowsHolder, IsEndpoint, is_endpoint, is_holder}
-use Rattle.world_state.proofs.Pairs.{put_pair_same}
+use Rattle.controller_model.proofs.Words.{rules, ◌≡◌, ◌<◌, ◌==◌, ◌&&◌, ◌∙◌, if◌then◌else◌, ℕ, Bool, true, false, Option, Some, None, eq-eqb, ne_eqb, cond-true, cond-false, false≢true, put_pair, Holder, FollowsHolder, IsEndpoint, is_endpoint, is_holder, put_pair_same}
 
 -- the same place, or another one
 pub data Place (s i t j : ℕ) : Type 0 where

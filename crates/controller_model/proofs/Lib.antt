@@ -1,6 +1,7 @@
 pub mod WorkedReplays
 pub mod WorkedShowing
 pub mod WorkedScenes
+pub mod WorkedIsochronous
 pub mod HeldLemmas
 pub mod Borders
 pub mod DeclaredLemmas
@@ -33,6 +34,7 @@ pub mod BindingSteps
 pub mod BindingLemmas
 pub mod DisabledWorlds
 pub mod DisabledRings
+pub mod TypedWorlds
 pub mod AddedLemmas
 pub mod EffectLemmas
 pub mod TrialLemmas

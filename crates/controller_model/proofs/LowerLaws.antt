@@ -1,28 +1,27 @@
 -- Words and lemmas, passed on to the files above them
 pub use Rattle.controller_model.proofs.AddedLemmas.{all_made, first_of, none_left}
-pub use Rattle.world_state.proofs.AddedEndpoints.{adds_end, adds_next}
 pub use Rattle.controller_model.proofs.BellLemmas.{command_id-none, command_id-some, follows_same, found_by_id}
 pub use Rattle.controller_model.proofs.Borders.{is_border-append, is_border-end, is_border-past}
 pub use Rattle.controller_model.proofs.ChangeLemmas.{Made, made_of, none_of}
-pub use Rattle.world_state.proofs.PlacingCommands.{command_well}
 pub use Rattle.controller_model.proofs.EffectLemmas.{gone, one, onward}
 pub use Rattle.controller_model.proofs.EventPlaces.{dequeue_set}
-pub use Rattle.world_state.proofs.EventPlaces.{position_is}
-pub use Rattle.world_state.proofs.FirstFound.{first_at-found, first_at-nowhere}
 pub use Rattle.controller_model.proofs.HeldLemmas.{held_four}
 pub use Rattle.controller_model.proofs.HistoryLemmas.{KeepsRest, is_last-none, is_last-some, keeps_nothing, keeps_placed, keeps_took, shows_nothing, shows_placed, shows_took}
+pub use Rattle.controller_model.proofs.HolderLemmas.{elsewhere, here, holder_left, holder_taken, place_of, put_pair_here, put_pair_id, put_pair_map, put_pair_there, put_pair_twice}
 pub use Rattle.controller_model.proofs.LookBranches.{busy, may_scribble_is, or_false, read_is}
 pub use Rattle.controller_model.proofs.LookLemmas.{noted_follows}
 pub use Rattle.controller_model.proofs.NamedPlaces.{at_block, at_crossing, names, one_in_lap}
-pub use Rattle.controller_model.proofs.NextRowLemmas.{first_left, row_next_is, step_failed, step_made_is, step_mapped}
+pub use Rattle.controller_model.proofs.NextRowLemmas.{first_left, follows_made, row_next_is, step_failed, step_made_is, step_mapped}
+pub use Rattle.controller_model.proofs.NothingTaken.{harms_kept, none_any, step_nothing}
 pub use Rattle.controller_model.proofs.OpeningLemmas.{all_at, replicate_at}
 pub use Rattle.controller_model.proofs.ReportPosts.{map_choice, told_posted}
 pub use Rattle.controller_model.proofs.RingLemmas.{put_other, put_same, read_at, ring_changed, slice_get-set_other, slice_get-set_same, with_endpoints, with_rings, with_slots}
 pub use Rattle.controller_model.proofs.RowLemmas.{follows_along, follows_stored, follows_stored_block}
-pub use Rattle.controller_model.proofs.SafetyLemmas.{and_true, any_more, context_named, harm_is, listed, take_past, waits_idle, waits_so}
-pub use Rattle.world_state.proofs.Ranges.{any_in_range, none_in_range}
+pub use Rattle.controller_model.proofs.SafetyLemmas.{and_true, any_more, context_named, harm_is, take_past, waits_idle, waits_so}
 pub use Rattle.controller_model.proofs.StepLemmas.{made_stopped, step_counted, step_more, step_uncounted}
+pub use Rattle.controller_model.proofs.TypedWorlds.{typed_below, typed_none, typed_one, typed_same, typed_twice}
+pub use Rattle.controller_model.proofs.WatchLemmas.{any_alike, none_later, still_watched}
 pub use Rattle.controller_model.proofs.WithdrawLemmas.{ends_here, goes_on, withdraws_inside, withdraws_one, withdraws_past}
-pub use Rattle.controller_model.proofs.Words.{AddressDevice, All-push, Block, Bool, ChangesOnly, Command, ConfigureEndpoint, ContextSize, Declarations, Declared, Declares, Endpoint, EndpointState, Erdp, Err, Evt, Follows, FollowsEndpoints, FollowsHolder, FollowsRegisters, FollowsRing, FollowsRings, FollowsScene, FollowsSlots, HasRingHarms, HasRoom, Header, HeaderValue, Holder, IsEndpoint, IsFollowed, IsPart, IsSome, IsStep, Kept, List, Look, None, Off, Ok, Option, Placed, Posted, Read, Register, Registers, Ring, RingHarms, RingHeld, RingState, Row, RowSeen, Running, Scene, Seen, Sees, SetTrDequeue, Slot, SlotState, Some, StepFault, Sub, UnderWay, Usbcmd, World, Write, Xfer, [], address_of, addressed, aligned, and_from, ap, append_assoc, arith, as_declared, base_address, bits, block_at, blocks_of, bound, cases_Bool, cases_eq, cases_lt, changed_at, command_of, common_steps, completed, cond-false, cond-true, cond_both, context_cycle, context_pointer, cycle, drop, endpoint, entries, eq-eqb, eqb-true, err_from_is_err_and, fails_before_first, false, false_from_ne_true, false≢true, filter, find, freed, get_or, has_flag, has_own, held, id_of, if◌then◌else◌, inl, input_context_bytes, inr, is_changed_behind, is_dropped, is_elsewhere, is_event_place, is_holder, is_inside, is_it, is_other, is_ring, is_set, is_some, is_transfer_kind, le-leb, le-ltb, length, length-append, length-remove, length-set, length-take-le, link_target-crossed, list_any, lt-ltb, ltb-false, may_get, may_touch, named_by, named_context, nat_le, nat_lt, ne_eqb, none-some, not, noted, option_and_then, option_copied, option_map, or-true, or_left, or_right, own_ring, place_count, places_from, pointed, pointer, position, position-Some, position_from, put, put_pair, range_with_len, refl, released, remove, ring_cycle_state, ring_held, ring_with, row_made, row_next, rules, same_Some, set, shape_or, slice_get, slice_get_within, slice_index, slot, slot_success, step_made, subst, suc, sym, take, take_all, take_at_read, taken_held, told, true, turned_off, unwrap_or, with_register, word, written_at, zero, ℕ, ◌%◌, ◌&&◌, ◌*◌, ◌++◌, ◌+◌, ◌-◌, ◌<◌, ◌==◌, ◌^◌, ◌||◌, ◌∙◌, ◌∷◌, ◌≡◌, ◌≢◌, ◌≤◌}
-unfoldable pub use Rattle.controller_model.proofs.Words.{activated, added_endpoints, bell_row, changed_by, changed_by_all, changes, command_begun, command_id, counted, crossed, declared, declared_at, declared_next, disabled, effect, emptied, ended, ended_with, event_read, event_shape, finished, finished_as, has_one_of, has_other_words, in_state, inactive, is_had_by_another, is_inside_descriptor, is_out_of_order, is_scribbled, length_from, look_shows, looked, looked_at, made, may_scribble, no_ops, opening, passes_end, placed, placed_on, posted, register_row, reported, ring_having, row_done, run_or_stop, seen_by_look, shape_of, shows, some_ring, split_at, stepped, stored, stored_block, succeeded, taken, taken_on, takes_of, unreported, valued, waits, while_running, with_dequeue, with_reported, with_ring, without_descriptor, without_ring}
-pub use Rattle.world_state.proofs.Pairs.{put_pair_index, put_pair_same, put_pair_slot}
+pub use Rattle.controller_model.proofs.Words.{AddressDevice, All-push, Bell, Block, Bool, BringsNone, Bytes32, ChangesOnly, Command, ConfigureEndpoint, ContextSize, Declarations, Declared, Declares, Ending, Endpoint, EndpointState, Erdp, Err, Evt, Finish, Follows, FollowsEndpoints, FollowsHolder, FollowsRegisters, FollowsRing, FollowsRings, FollowsScene, FollowsSlots, Four, HasRingHarms, HasRoom, Header, HeaderValue, Holder, IsEndpoint, IsFollowed, IsPart, IsSome, IsStep, Kept, List, Look, NextRow, NoHarm, None, NotPossible, Off, Ok, Option, Placed, Posted, Register, Registers, Report, Ring, RingHarms, RingHeld, RingState, Row, RowSeen, Running, Scene, Seen, Sees, SetTrDequeue, Slot, SlotState, Some, Step, StepFault, Sub, Three, UnderWay, Usbcmd, Version, World, Write, Xfer, [], address_of, addressed, adds_end, adds_next, aligned, any_in_range, ap, append_assoc, arith, as_declared, base_address, block_at, blocks_of, bound, cases_Bool, cases_eq, cases_lt, changed_at, command_of, command_well, common_steps, completed, cond-false, cond-true, cond_both, context_cycle, context_pointer, cycle, drop, endpoint, entries, eq-eqb, eqb-true, err_from_is_err_and, fails_before_first, false, false_from_ne_true, false≢true, filter, find, first_at-found, first_at-nowhere, freed, get_or, has_flag, has_isochronous, has_own, held, id_of, if◌then◌else◌, inl, input_add_flag, input_context_bytes, inr, is_dropped, is_elsewhere, is_event_place, is_holder, is_inside, is_it, is_other, is_ring, is_set, is_some, is_transfer_kind, le-ltb, length, length-append, length-remove, length-set, length-take-le, link_target-crossed, list_any, lt-ltb, ltb-false, may_be_inside, may_get, named_by, named_context, nat_le, nat_lt, ne_eqb, none-some, none_in_range, not, noted, option_and_then, option_copied, option_map, or-true, own_ring, place_count, places_from, pointed, pointer, position, position-Some, position_from, position_is, put, put_pair, put_pair_index, put_pair_same, put_pair_slot, range_with_len, refl, released, remove, replicate, ring_cycle_state, ring_held, ring_with, row_made, rules, same_Some, scene_ending, set, shape_or, slice_get, slice_get_within, slice_index, slot, slot_success, step_made, subst, suc, sym, take, take_all, take_at_read, taken_held, told, true, turned_off, unwrap_or, with_coming, with_left, with_register, with_world, word, written_at, zero, ℕ, ◌%◌, ◌&&◌, ◌*◌, ◌++◌, ◌+◌, ◌-◌, ◌<◌, ◌==◌, ◌^◌, ◌||◌, ◌∙◌, ◌∷◌, ◌≡◌, ◌≢◌, ◌≤◌}
+unfoldable pub use Rattle.controller_model.proofs.Words.{activated, added_endpoints, bell_row, changed_by, changed_by_all, changes, command_begun, command_id, counted, crossed, declared, declared_at, declared_next, disabled, effect, emptied, ended, ended_with, event_read, event_shape, finished, finished_as, has_one_of, has_other_words, in_state, inactive, is_had_by_another, is_inside_descriptor, is_out_of_order, length_from, listed, look_shows, looked, looked_at, made, may_come, may_scribble, model_on_literals, no_ops, opening, passes_end, placed, placed_on, posted, register_row, reported, ring_having, row_done, run_or_stop, seen_by_look, shape_of, shows, some_ring, split_at, stepped, stored, stored_block, succeeded, taken, taken_on, takes_of, typed, unreported, valued, waits, while_running, with_dequeue, with_reported, with_ring, without_descriptor, without_ring}
+pub use Rattle.controller_model.proofs.WorkedReplays.{addressed_steps, three_rings}

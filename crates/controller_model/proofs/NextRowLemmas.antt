@@ -1,6 +1,5 @@
 -- The rows that are left, and how one of them is made
-use Rattle.controller_model.specs.declared.life.Rings.{Rings}
-use Rattle.controller_model.proofs.Words.{arith, ℕ, Follows, FollowsScene, Kept, Row, row_made, Scene, row_next, step_made, with_left, with_world, ◌≡◌, ◌≢◌, ◌∷◌, List, [], slice_get, Option, Some, None, Err, Result, option_map, ap, refl, Step, NextRow, World, stepped, Seen, StepFault, IsStep}
+use Rattle.controller_model.proofs.Words.{Rings, arith, ℕ, Follows, FollowsScene, Kept, Row, row_made, Scene, row_next, step_made, with_left, with_world, ◌≡◌, ◌≢◌, ◌∷◌, List, [], slice_get, Option, Some, None, Err, Result, option_map, ap, refl, Step, NextRow, World, stepped, Seen, StepFault, IsStep}
 
 pub nothing_left : {X : Type 0} (xs : List X) → slice_get xs 0 ≡ None → xs ≡ []
 nothing_left [] e = refl

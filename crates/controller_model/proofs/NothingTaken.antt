@@ -1,42 +1,15 @@
 -- Steps by which nothing is taken, and which harms they leave
-use Rattle.std.proofs.lemmas.Grind.{common_steps}
-use Rattle.std.proofs.Common.{◌≡◌, ◌≢◌, ◌+◌, ◌==◌, ◌&&◌, ◌∷◌, ◌∙◌, ◌++◌, ℕ, zero, suc, List, [], Bool, true, false, Option, Some, None, refl, sym, ap, subst, arith, rules, option_map, unwrap_or, if◌then◌else◌, not, length, option_and_then, inl, inr, eqb-true}
-use Rattle.std.proofs.lemmas.Bool.{cases_Bool}
-use Rattle.trb.specs.Block.{code}
-use Rattle.event_ring.specs.EventRing.{erdp_address}
-use Rattle.segments.proofs.Words.{Shape}
-use Rattle.guest_memory.specs.Memory.{put}
-use Rattle.trb.specs.declared.block.Block.{Block}
-use Rattle.traces.specs.declared.header.Header.{Header}
-use Rattle.traces.specs.declared.step.Step.{Step}
-use Rattle.traces.specs.declared.step.Step.TheVariants.{Look, Report, Finish, Other, Scribble, NextRow}
-use Rattle.traces.specs.declared.row.Row.{Row}
-use Rattle.commands.specs.declared.command.Command.{Command}
-use Rattle.commands.specs.declared.state.EndpointState.{EndpointState}
-use Rattle.commands.specs.Changes.{Change, SlotGoesOn, DeviceLeft, Disables, Places, Stops, Resets}
-use Rattle.world_state.specs.World.{World, RingEvent, Took, Placed, UnderWay}
+use Rattle.controller_model.proofs.Words.{common_steps, ◌≡◌, ◌≢◌, ◌+◌, ◌==◌, ◌&&◌, ◌∷◌, ◌∙◌, ◌++◌, ℕ, zero, suc, List, [], Bool, true, false, Option, Some, None, refl, sym, ap, subst, arith, rules, option_map, unwrap_or, if◌then◌else◌, not, length, option_and_then, inl, inr, eqb-true, cases_Bool, code, erdp_address, Shape, put, Block, Header, Step, Look, Report, Finish, Other, Scribble, NextRow, Row, Command, EndpointState, Change, SlotGoesOn, DeviceLeft, Disables, Places, Stops, Resets, World, RingEvent, Took, Placed, UnderWay, Sub, Write, Reg, Bell, Read, RingRow, FreeRow, NopRow, Register, Usbcmd, Usbsts, Dnctrl, Crcr, Dcbaap, Config, Iman, Imod, Erstsz, Erstba, Erdp, same_Some, Scene, row_made, row_next, step_made, with_coming, with_left, with_world, AddsNone, BringsNone, HasRingHarms, TakesNothing, is_coming, may_be_inside, RingHarms, Ring, fun_ext, slice_get, or_from, list_any}
 unfoldable use Rattle.world_state.specs.World.{stored, stored_block}
 unfoldable use Rattle.world_state.specs.Harms.{is_out_of_order, has_other_words, is_inside_descriptor}
 unfoldable use Rattle.world_state.specs.Posts.{posted, reported, reported_on, report_code, report_success, report_error, report_stop, with_reported, stopped_with, other_posted}
-unfoldable use Rattle.world_state.specs.Bindings.{is_had_by_another, changed_by, changed_by_all, placed, placed_on, disabled, in_state, inactive, effect}
+unfoldable use Rattle.world_state.specs.Bindings.{is_had_by_another, changed_by, changed_by_all, placed, placed_on, disabled, typed, in_state, inactive, effect}
 unfoldable use Rattle.world_state.specs.Finishes.{finished, finished_as, ended, ended_with, succeeded}
 unfoldable use Rattle.world_state.specs.Steps.{made, stepped, counted, scribbled, while_running}
-use Rattle.traces.specs.declared.row.Row.TheVariants.{Sub, Write, Reg, Bell, Read, Ring as RingRow, Free as FreeRow, Nop as NopRow}
-use Rattle.traces.specs.declared.register.Register.{Register}
-use Rattle.traces.specs.declared.register.Register.TheVariants.{Usbcmd, Usbsts, Dnctrl, Crcr, Dcbaap, Config, Iman, Imod, Erstsz, Erstba, Erdp}
 unfoldable use Rattle.world_state.specs.DriverRows.{activated, bell_row, declared, endpoint_bell, event_read, register_row, row_done, run_or_stop, started_with, valued, with_dequeue}
-use Rattle.std.proofs.lemmas.Option.{same_Some}
-use Rattle.world_state.specs.Scenes.{Scene, row_made, row_next, step_made, with_coming, with_left, with_world}
 unfoldable use Rattle.world_state.specs.RingRows.{without_descriptor}
-use Rattle.controller_model.specs.RingHarms.{AddsNone, BringsNone, HasRingHarms, TakesNothing, is_coming, may_be_inside}
-use Rattle.controller_model.specs.declared.safety.RingHarms.{RingHarms}
-use Rattle.traces.specs.declared.ring.Ring.{Ring}
 unfoldable use Rattle.traces.specs.Header.{shape_of, some_ring}
 unfoldable use Rattle.world_state.specs.Harms.{waits}
-use Rattle.std.proofs.Math.Path.{fun_ext}
-use Rattle.controller_model.proofs.Words.{slice_get}
-use Rattle.event_ring.proofs.Words.{or_from}
-use Rattle.segments.proofs.Words.{list_any}
 
 pub adds_same : (older newer : List RingEvent) → newer ≡ older → AddsNone older newer
 adds_same older newer same = search rules
@@ -100,7 +73,7 @@ unfolding placed_on
 placed_on_nothing w v s i a c state x7 e = search (rules, None, Some, if_none, placed_nothing)
 
 changed_nothing : (h : Header) (c : Command) (w v : World) (change : Change) → changed_by h c w change ≡ Some v → TakesNothing w v
-unfolding changed_by disabled in_state
+unfolding changed_by disabled typed in_state
 changed_nothing h c w v x4 e = search (rules, events_same, of_some, placed_on_nothing, inactive_events)
 
 and_then : {X Y : Type 0} (f : X → Option Y) (o : Option X) (v : Y) → option_and_then f o ≡ Some v → (x : X) × (o ≡ Some x) × (f x ≡ Some v)

@@ -1,5 +1,5 @@
 -- What a Transfer Event says doesn't rest on its own post
-use Rattle.controller_model.proofs.Words.{arith, rules, ◌≡◌, ◌+◌, ◌==◌, if◌then◌else◌, ℕ, Bool, Option, position, option_map, Block, Header, World, stored, stored_block, unreported, posted, report_code, report_error, report_stop, report_success, reported_on, stopped_with, with_reported, told}
+use Rattle.controller_model.proofs.Words.{arith, rules, ◌≡◌, ◌+◌, ◌==◌, if◌then◌else◌, ℕ, Bool, Option, position, option_map, Block, Header, World, stored, stored_block, unreported, posted, code_posted, report_code, report_error, report_stop, report_success, reported_on, stopped_with, with_reported, told}
 
 map_twice : {A B C : Type 0} (f : B → C) (g : A → B) (o : Option A) → option_map (λ n. f (g n)) o ≡ option_map f (option_map g o)
 map_twice f g o = grind arith
@@ -15,11 +15,11 @@ module _ (h : Header) (w : World) (b : Block) (r a : ℕ) where
       map_twice (λ v. posted h v b) (λ n. with_reported h w r (w.reported r + n + 1)) (position (λ x. x == a) (unreported w r))
 
   module _ (s i : ℕ) where
-    code_posted : (c : ℕ) → report_code h (posted h w b) c s i r a ≡ option_map (λ v. posted h v b) (report_code h w c s i r a)
+    report_posted : (c : ℕ) → report_code h (posted h w b) c s i r a ≡ option_map (λ v. posted h v b) (report_code h w c s i r a)
     unfolding report_code report_error with_reported posted stored stored_block unreported report_stop stopped_with
-    code_posted c = search (rules, option_map, map_choice, success_posted)
+    report_posted c = search (rules, option_map, map_choice, success_posted)
 
 module _ (h : Header) (w : World) (b : Block) where
   pub told_posted : (o : Option ℕ) → reported_on h w b o ≡ option_map (λ v. posted h v b) (told h w b o)
-  unfolding reported_on
-  told_posted o = grind (arith, code_posted)
+  unfolding reported_on code_posted
+  told_posted o = grind (arith, report_posted)

@@ -57,6 +57,6 @@ pub with_slots : {h : Header} {words : ℕ → ℕ} {k : Kept} {w : World} → F
     (FollowsSlots k.slots.items w.slot_state w.scribbles → Follows h words k w) → Follows h words k w
 with_slots slots whole = whole slots
 
-pub with_endpoints : {h : Header} {words : ℕ → ℕ} {k : Kept} {w : World} → FollowsEndpoints k.endpoints.items w.endpoint_state w.ring_of →
-    (FollowsEndpoints k.endpoints.items w.endpoint_state w.ring_of → Follows h words k w) → Follows h words k w
+pub with_endpoints : {h : Header} {words : ℕ → ℕ} {k : Kept} {w : World} → FollowsEndpoints k.endpoints.items w.endpoint_state w.ring_of w.isochronous →
+    (FollowsEndpoints k.endpoints.items w.endpoint_state w.ring_of w.isochronous → Follows h words k w) → Follows h words k w
 with_endpoints endpoints whole = whole endpoints

@@ -1,6 +1,5 @@
 -- Rings that come and go: what is kept of the others
-use Rattle.controller_model.proofs.LowerLaws.{rules, remove, position-Some, fails_before_first, emptied, with_ring, without_descriptor, without_ring, length_from, no_ops, split_at, ◌≡◌, ◌≢◌, ◌==◌, ◌∷◌, ◌++◌, ◌<◌, ◌∙◌, if◌then◌else◌, ℕ, zero, suc, true, false, [], List, Some, None, not, find, filter, get_or, length, position, arith, ap, sym, refl, cases_eq, cond-true, cond-false, eq-eqb, ne_eqb, Header, Ring, ring_with, World, ring_held, put_same, put_other}
-use Rattle.controller_model.proofs.Words.{inl, inr, listed}
+use Rattle.controller_model.proofs.LowerLaws.{rules, remove, position-Some, fails_before_first, emptied, with_ring, without_descriptor, without_ring, length_from, no_ops, split_at, ◌≡◌, ◌≢◌, ◌==◌, ◌∷◌, ◌++◌, ◌<◌, ◌∙◌, if◌then◌else◌, ℕ, zero, suc, true, false, [], List, Some, None, not, find, filter, get_or, length, position, arith, ap, sym, refl, cases_eq, cond-true, cond-false, eq-eqb, ne_eqb, Header, Ring, ring_with, World, ring_held, put_same, put_other, inl, inr, listed}
 
 -- ---- the rings that are there
 

@@ -1,6 +1,5 @@
 -- When a command can succeed
-use Rattle.controller_model.proofs.LowerLaws.{arith, rules, ◌≡◌, ◌+◌, ◌≤◌, ◌^◌, ℕ, Bool, true, false, Option, Some, None, is_some, nat_lt, option_and_then, ltb-false, ContextSize, context_pointer, input_context_bytes, Command, AddressDevice, ConfigureEndpoint, SetTrDequeue, named_context, changes, Header, ring_having, World, changed_by, changed_by_all, effect, is_had_by_another, passes_end, succeeded, HasRoom, may_get, gone}
-use Rattle.controller_model.proofs.BindingLemmas.{may_get_is}
+use Rattle.controller_model.proofs.MiddleLaws.{arith, rules, ◌≡◌, ◌+◌, ◌≤◌, ◌^◌, ℕ, Bool, true, false, Option, Some, None, is_some, nat_lt, option_and_then, ltb-false, ContextSize, context_pointer, input_context_bytes, Command, AddressDevice, ConfigureEndpoint, SetTrDequeue, named_context, changes, Header, ring_having, World, changed_by, changed_by_all, effect, is_had_by_another, passes_end, succeeded, HasRoom, may_get, gone, may_get_is}
 
 pub one_some : (o : Option World) → is_some (option_and_then (λ v. Some v) o) ≡ is_some o
 one_some o = grind arith

@@ -1,6 +1,5 @@
 -- Whether another endpoint has a ring, by the rings of one slot's endpoints and who has it elsewhere
-use Rattle.controller_model.proofs.MiddleLaws.{rules, ◌≡◌, ◌≢◌, ◌∷◌, ◌+◌, ◌<◌, ◌≤◌, ◌==◌, ◌&&◌, ◌||◌, ◌∙◌, ℕ, suc, zero, [], length, set, slice_get, unwrap_or, not, Bool, true, false, List, Option, Some, None, refl, sym, ap, inl, inr, arith, eq-eqb, ne_eqb, list_any, range_with_len, cases_eq, cases_Bool, is_ring, World, Holder, EndpointState, is_had_by_another, placed, FollowsHolder, is_holder, Sees, has_own, is_elsewhere, own_ring, slice_get-set_other, put_pair_same, put_pair_index, put_pair_there, any_in_range, none_in_range, any_alike}
-use Rattle.controller_model.proofs.HadByAnother.{and_false}
+use Rattle.controller_model.proofs.MiddleLaws.{rules, ◌≡◌, ◌≢◌, ◌∷◌, ◌+◌, ◌<◌, ◌≤◌, ◌==◌, ◌&&◌, ◌||◌, ◌∙◌, ℕ, suc, zero, [], length, set, slice_get, unwrap_or, not, Bool, true, false, List, Option, Some, None, refl, sym, ap, inl, inr, arith, eq-eqb, ne_eqb, list_any, range_with_len, cases_eq, cases_Bool, is_ring, World, Holder, EndpointState, is_had_by_another, placed, FollowsHolder, is_holder, Sees, has_own, is_elsewhere, own_ring, slice_get-set_other, put_pair_same, put_pair_index, put_pair_there, any_in_range, none_in_range, any_alike, and_false}
 
 module _ (w v : World) (rings : List (Option ℕ)) (s i r : ℕ) (sees : Sees rings s w v) where
   row_of : ℕ → Bool

@@ -1,5 +1,5 @@
 -- Words that are watched: what a write of another word leaves
-use Rattle.controller_model.proofs.LowerLaws.{rules, ◌≡◌, ◌≢◌, ◌+◌, ◌<◌, ◌≤◌, ◌==◌, if◌then◌else◌, ℕ, zero, suc, Bool, false, nat_le, nat_lt, refl, sym, arith, le-ltb, eq-eqb, ne_eqb, le-leb, lt-ltb, list_any, range_with_len, cond-true, cond-false, false≢true, and_from, or_left, or_right, put, is_changed_behind, may_touch, none_in_range}
+use Rattle.controller_model.proofs.Words.{rules, ◌≡◌, ◌≢◌, ◌+◌, ◌<◌, ◌≤◌, ◌==◌, if◌then◌else◌, ℕ, zero, suc, Bool, false, nat_le, nat_lt, refl, sym, arith, le-ltb, eq-eqb, ne_eqb, le-leb, lt-ltb, list_any, range_with_len, cond-true, cond-false, false≢true, and_from, or_left, or_right, put, is_changed_behind, may_touch, none_in_range}
 
 -- tests that agree on a range find the same there
 pub any_alike : (p q : ℕ → Bool) (from n : ℕ) → ((i : ℕ) → from ≤ i → i < from + n → p i ≡ q i) → list_any p (range_with_len from n) ≡ list_any q (range_with_len from n)

@@ -24,7 +24,7 @@ started behind =
     ∷ behind
 
 -- a slot is enabled, and Address Device starts its Default Control Endpoint
-abbrev addressed : List Row → List Row
+abbrev pub addressed : List Row → List Row
 addressed behind =
     started
     (Sub 0 (record { w = 0 ∷ 0 ∷ 0 ∷ 9216 ∷ [] } ∷ [])
@@ -42,7 +42,7 @@ addressed behind =
     ∷ Read (record { w = 65552 ∷ 0 ∷ 16777216 ∷ 16811009 ∷ [] })
     ∷ behind)
 
-abbrev addressed_steps : List Step → List Step
+abbrev pub addressed_steps : List Step → List Step
 addressed_steps behind = replicate 12 NextRow ++ (Look 0 ∷ Finish (record { w = 65536 ∷ 0 ∷ 16777216 ∷ 16811009 ∷ [] }) ∷ replicate 9 NextRow ++ (Look 0 ∷ Finish (record { w = 65552 ∷ 0 ∷ 16777216 ∷ 16811009 ∷ [] }) ∷ behind))
 
 pub event_ring_fills : scene_ending (three_rings 4) (started []) (replicate 9 NextRow ++ (replicate 16 (Other (record { w = 16777216 ∷ 0 ∷ 16777216 ∷ 34817 ∷ [] })))) ≡ NotPossible 25

@@ -1,7 +1,7 @@
 -- How what the program keeps stands for the world
-use Rattle.std.specs.Prelude.{◌≡◌, ℕ, ◌+◌, ◌*◌, ◌%◌, ◌<◌, ◌≤◌, ◌^◌, if◌then◌else◌, Bool, true, List, ◌∷◌, Option, Some, None, IsSome, slice_get, option_map, ◌==◌, ◌&&◌, not, length, map, filter, ◌-◌, nat_le, false, Result, Ok, Err}
+use Rattle.std.specs.Prelude.{◌≡◌, ℕ, ◌+◌, ◌*◌, ◌%◌, ◌<◌, ◌≤◌, ◌^◌, if◌then◌else◌, Bool, true, List, ◌∷◌, Option, Some, None, IsSome, slice_get, option_map, ◌==◌, ◌&&◌, not, length, nat_le, false, Result, Ok, Err}
 use Rattle.commands.specs.declared.command.Command.{Command}
-use Rattle.commands.specs.declared.command.Command.TheVariants.{AddressDevice, ConfigureEndpoint, ResetEndpoint, StopEndpoint, SetTrDequeue}
+use Rattle.commands.specs.declared.command.Command.TheVariants.{AddressDevice}
 use Rattle.controller_model.specs.declared.seen.Seen.{Seen}
 use Rattle.controller_model.specs.declared.fault.StepFault.{StepFault}
 use Rattle.controller_model.specs.declared.fault.StepFault.TheVariants.{NotPossible, Spent, Memory}
@@ -17,6 +17,7 @@ use Rattle.traces.specs.declared.register.Register.TheVariants.{Usbcmd, Usbsts, 
 use Rattle.traces.specs.Register.{register_or_zero, base_address, ring_cycle_state}
 use Rattle.guest_memory.specs.Memory.{put, put_pair}
 use Rattle.traces.specs.Header.{shape_of, ring_with, is_ring}
+use Rattle.traces.specs.Versions.{has_isoch}
 use Rattle.world_state.specs.World.{World, RingEvent, Took, Placed, UnderWay}
 use Rattle.world_state.specs.Takes.{next_take, takes_of}
 use Rattle.segments.specs.Descriptors.{declared_at}
@@ -27,16 +28,15 @@ use Rattle.controller_model.specs.declared.kept.RingState.{RingState}
 use Rattle.controller_model.specs.declared.kept.Holder.{Holder}
 use Rattle.controller_model.specs.declared.disabling.Named.{Named}
 use Rattle.controller_model.specs.declared.disabling.Named.TheVariants.{All, AboveControl, Dropped}
-use Rattle.commands.specs.Changes.{Change, is_above_control, placed_by_context}
-use Rattle.contexts.specs.Contexts.{has_flag, input_add_flag, input_context_bytes}
-use Rattle.contexts.specs.declared.size.ContextSize.{ContextSize}
-use Rattle.std.specs.List.{range_with_len}
+use Rattle.commands.specs.Changes.{is_above_control}
+use Rattle.contexts.specs.Contexts.{has_flag}
 use Rattle.controller_model.specs.declared.kept.Slot.{Slot}
 use Rattle.controller_model.specs.declared.kept.Endpoint.{Endpoint}
 use Rattle.controller_model.specs.declared.kept.Events.{Events}
 use Rattle.controller_model.specs.declared.kept.Pending.{Pending}
 use Rattle.trb.specs.Block.{code, slot, endpoint, pointer as pointer_of}
-use Rattle.world_state.specs.Posts.{report_code}
+use Rattle.trb.specs.CompletionCode.{is_of_service}
+use Rattle.world_state.specs.Posts.{code_posted, report_code}
 use Rattle.world_state.specs.Bindings.{is_had_by_another}
 use Rattle.controller_model.specs.Held.{held, held_by}
 use Rattle.controller_model.specs.Declarations.{Declares}
@@ -119,8 +119,9 @@ pub record FollowsRegisters (k : Registers) (register : Register → Option ℕ)
 pub record FollowsSlots (slots : List Slot) (state : ℕ → SlotState) (scribbles : ℕ → Bool) : Type 0 where
   pub each : (s : ℕ) (x : Slot) → slice_get slots s ≡ Some x → (state s ≡ x.state) × (scribbles s ≡ x.scribbles)
 
-pub record FollowsEndpoints (endpoints : List Endpoint) (state : ℕ → ℕ → EndpointState) (ring_of : ℕ → ℕ → Option ℕ) : Type 0 where
-  pub each : (s i : ℕ) (x : Endpoint) → i < 32 → slice_get endpoints (s * 32 + i) ≡ Some x → (state s i ≡ x.state) × (ring_of s i ≡ x.ring)
+pub record FollowsEndpoints (endpoints : List Endpoint) (state : ℕ → ℕ → EndpointState) (ring_of : ℕ → ℕ → Option ℕ) (isochronous : ℕ → ℕ → Bool) : Type 0 where
+  pub each : (s i : ℕ) (x : Endpoint) → i < 32 → slice_get endpoints (s * 32 + i) ≡ Some x →
+      (state s i ≡ x.state) × (ring_of s i ≡ x.ring) × (isochronous s i ≡ x.is_isochronous)
   -- there are no other endpoints
   pub no_more : (s i : ℕ) → 32 ≤ i → ring_of s i ≡ None
   pub low : (s i r : ℕ) → ring_of s i ≡ Some r → r < 256
@@ -142,7 +143,7 @@ pub record Follows (h : Header) (words : ℕ → ℕ) (k : Kept) (w : World) : T
   pub beyond : (a : ℕ) → 2 ^ 64 ≤ a → words a ≡ 0
   pub rings : FollowsRings h (ring_held w) k.rings.items
   pub slots : FollowsSlots k.slots.items w.slot_state w.scribbles
-  pub endpoints : FollowsEndpoints k.endpoints.items w.endpoint_state w.ring_of
+  pub endpoints : FollowsEndpoints k.endpoints.items w.endpoint_state w.ring_of w.isochronous
   pub events : FollowsEvents k.events w.posted w.reads w.dequeue
   pub under_way : w.under_way ≡ option_map under_way_of k.under_way
   pub looked : w.looked_outside ≡ k.looked_outside
@@ -202,7 +203,9 @@ pointed w r crcr = record w {
 -- what a Transfer Event says of an endpoint's ring, if it has one, before it is posted
 abbrev pub told : Header → World → Block → Option ℕ → Option World
 told h w b None = None
-told h w b (Some r) = report_code h w (code b) (slot b) (endpoint b) r (pointer_of b)
+told h w b (Some r) =
+    if has_isoch h.version && is_of_service (code b) then Some w
+    else report_code h w (code_posted h w b) (slot b) (endpoint b) r (pointer_of b)
 
 -- slot 0 and index 0 are no endpoint's
 abbrev pub is_endpoint : ℕ → ℕ → Bool

@@ -19,6 +19,7 @@ use crate::kept::Kept;
 use crate::memory::block_at;
 use crate::rings::deactivate;
 use crate::slots::{go_on, leave_device};
+use crate::types::type_added;
 use commands::{Command, EndpointState};
 use guest_memory::WordMemory;
 use std::alloc::AllocError;
@@ -120,8 +121,8 @@ fn place_all<M: WordMemory>(
     Ok(())
 }
 
-/// Configure Endpoint drops endpoints, and then adds some; with DC it drops all but the default control endpoint
-/// (xHCI 4.6.6).
+/// Configure Endpoint drops endpoints, and then adds some, whose types it sets before; with DC it drops all but the default
+/// control endpoint (xHCI 4.6.6).
 fn configure<M: WordMemory>(
     header: &Header,
     memory: &M,
@@ -143,6 +144,7 @@ fn configure<M: WordMemory>(
         disable(kept, slot, Named::AboveControl);
         return Ok(());
     }
+    type_added(memory, header.context_size, kept, slot, context);
     let flags = block_at(memory, context).w[0];
     disable(kept, slot, Named::Dropped(flags));
     place_all(header, memory, kept, slot, context)?;

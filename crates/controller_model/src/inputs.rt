@@ -1,7 +1,7 @@
 ghost use Rattle.std.specs.Prelude.{◌≡◌, ℕ, ◌+◌, ◌<◌, ◌%◌, ◌≤◌, ◌^◌};
-ghost use Rattle.contexts.specs.Contexts.{context_cycle, context_pointer, input_add_flag, input_context_bytes};
+ghost use Rattle.contexts.specs.Contexts.{context_cycle, context_pointer, has_isochronous, input_add_flag, input_context_bytes};
 
-use contexts::{ContextSize, EndpointContext, InputContext};
+use contexts::{ContextSize, EndpointContext, InputContext, endpoint_type};
 use guest_memory::WordMemory;
 
 /// Whether the input context adds an endpoint (xHCI 6.2.5.1).
@@ -36,4 +36,21 @@ pub(crate) fn context_of<M: WordMemory>(
         None => unreachable!(),
         Some(input) => input.endpoint(index),
     }
+}
+
+/// Whether the input context says that an endpoint is isochronous: EP Type 1 and 5 (xHCI 6.2.3), but for the default control
+/// endpoint.
+pub(crate) fn has_isochronous<M: WordMemory>(
+    memory: &M,
+    size: ContextSize,
+    context: u64,
+    index: u8,
+) -> bool
+    requires aligned { context % 16 ≡ 0 }
+    requires end { context + input_context_bytes size ≤ 2 ^ 64 }
+    requires last { index < 32 }
+    ensures { result ≡ has_isochronous size (M.words memory.now) context index }
+{
+    let ep_type = endpoint_type(memory, size, context, index);
+    index >= 2 && ep_type % 4 == 1
 }

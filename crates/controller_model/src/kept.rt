@@ -59,6 +59,8 @@ pub struct Slot {
 pub struct Endpoint {
     pub(crate) state: EndpointState,
     pub(crate) ring: Option<u8>,
+    /// The input context that added it last says so (xHCI 6.2.3).
+    pub(crate) is_isochronous: bool,
 }
 
 /// How many events were posted and read, and the event position that ERDP names.

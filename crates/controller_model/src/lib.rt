@@ -36,6 +36,7 @@ mod stamps;
 mod steps;
 mod successes;
 mod trials;
+mod types;
 mod views;
 mod watches;
 mod world;

@@ -80,11 +80,12 @@ fn slots(alloc: Global) -> Result<Vec<Slot>, AllocError>
 
 /// The endpoints, before the first row.
 fn endpoints(alloc: Global) -> Result<Vec<Endpoint>, AllocError>
-    ensures { IfOk result (λ endpoints. endpoints.items ≡ replicate (256 * 32) (record { state = Off; ring = None })) }
+    ensures { IfOk result (λ endpoints. endpoints.items ≡ replicate (256 * 32) (record { state = Off; ring = None; is_isochronous = false })) }
 {
     let endpoint = Endpoint {
         state: EndpointState::Disabled,
         ring: None,
+        is_isochronous: false,
     };
     vec![in alloc; endpoint; 256 * 32]
 }

@@ -1,13 +1,14 @@
 ghost use Rattle.std.specs.Prelude.{◌≡◌, ℕ, ◌+◌, ◌-◌, ◌==◌, ◌&&◌, ◌<◌, ◌≤◌, ◌^◌, not, false, length, position, IfSome, Err, Option};
 ghost use Rattle.trb.specs.Bits.{is_set};
 ghost use Rattle.trb.specs.Block.{code, endpoint, kind, pointer, slot, word};
-ghost use Rattle.trb.specs.CompletionCode.{is_success, is_halting, is_trb_error, is_stopping};
+ghost use Rattle.trb.specs.CompletionCode.{counted_code, is_success, is_halting, is_of_service, is_trb_error, is_stopping};
 ghost use Rattle.trb.specs.Kind.{is_transfer_event};
 ghost use Rattle.commands.specs.Command.{is_stop_of};
 ghost use Rattle.commands.specs.States.{is_running};
 ghost use Rattle.segments.specs.Places.{address_of};
 ghost use Rattle.traces.specs.declared.header.Header.{Header as HeaderValue};
 ghost use Rattle.traces.specs.Header.{event_shape};
+ghost use Rattle.traces.specs.Versions.{has_isoch};
 ghost use Rattle.world_state.specs.World.{World};
 ghost use Rattle.world_state.specs.Takes.{unreported};
 ghost use Rattle.controller_model.specs.declared.seen.Seen.TheVariants.{Posted};
@@ -24,7 +25,10 @@ use crate::seen::Seen;
 use commands::{Command, EndpointState, is_stop_of};
 use guest_memory::WordMemory;
 use traces::Header;
-use trb::{Block, BlockKind, is_halting, is_stopping, is_success, is_trb_error};
+use trb::{
+    Block, BlockKind, counted_code, is_halting, is_of_service, is_stopping, is_success,
+    is_trb_error,
+};
 
 /// So many more takes of a ring are reported, the oldest first.
 fn report_takes(kept: &mut Kept, ring: u8, count: usize)
@@ -215,18 +219,37 @@ fn is_report(block: &Block) -> bool
     matches!(block.kind(), BlockKind::TransferEvent) && block.w[3] / 4 % 2 != 1
 }
 
+/// Whether an event tells of the service of its endpoint, as isochronous ones have it, and of no block (xHCI 4.10.3).
+fn tells_of_service(header: &Header, block: &Block) -> bool
+    ensures { result ≡ (has_isoch header.now.version && is_of_service (code block.now)) }
+{
+    header.version.has_isoch() && is_of_service(block.code())
+}
+
+/// How the code of an event counts, by whether its endpoint is isochronous.
+fn code_at(header: &Header, is_isochronous: bool, block: &Block) -> u8
+    ensures { result ≡ counted_code (has_isoch header.now.version && is_isochronous) (code block.now) }
+{
+    counted_code(header.version.has_isoch() && is_isochronous, block.code())
+}
+
 /// What a Transfer Event says, at the endpoint that it names, where that has a ring.
-fn report_on(kept: &mut Kept, block: &Block) -> bool
-    ensures change { (h : HeaderValue) (words : ℕ → ℕ) (w : World) → Follows h words kept.old w →
-        IsChange result (told h w block.now (w.ring_of (slot block.now) (endpoint block.now))) (Follows h words kept.new) }
+fn report_on(header: &Header, kept: &mut Kept, block: &Block) -> bool
+    ensures change { (words : ℕ → ℕ) (w : World) → Follows header.now words kept.old w →
+        IsChange result (told header.now w block.now (w.ring_of (slot block.now) (endpoint block.now))) (Follows header.now words kept.new) }
     ensures refused { result ≡ false → kept.new ≡ kept.old }
     ensures rest { KeepsRun kept.old kept.new }
 {
     let slot = block.slot();
     let index = block.endpoint();
-    match endpoint_of(kept, slot, index).ring {
+    let endpoint = endpoint_of(kept, slot, index);
+    match endpoint.ring {
         None => false,
-        Some(ring) => report_code(kept, block.code(), slot, index, ring, block.pointer()),
+        Some(_) if tells_of_service(header, block) => true,
+        Some(ring) => {
+            let code = code_at(header, endpoint.is_isochronous, block);
+            report_code(kept, code, slot, index, ring, block.pointer())
+        }
     }
 }
 
@@ -255,7 +278,7 @@ pub(crate) fn report<M: WordMemory>(
     if !is_report(block) {
         return Err(StepFault::NotPossible);
     }
-    if !report_on(kept, block) {
+    if !report_on(header, kept, block) {
         return Err(StepFault::NotPossible);
     }
     let at = post(shape, memory, kept, block, step)?;

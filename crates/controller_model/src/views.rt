@@ -84,6 +84,14 @@ impl<M: WordMemory + Drop> Controller<M> {
         endpoint_of(&self.kept, slot, endpoint).state
     }
 
+    /// Whether an endpoint is isochronous, by its slot and DCI: the context that added it last says so (xHCI 6.2.3).
+    pub fn is_isochronous(&self, slot: u8, endpoint: u8) -> bool
+        requires { endpoint < 32 }
+        ensures { (x : Scene) → IsBeside M.words self.now x → result ≡ x.world.isochronous slot endpoint }
+    {
+        endpoint_of(&self.kept, slot, endpoint).is_isochronous
+    }
+
     /// The command that was taken and isn't finished.
     pub fn under_way(&self) -> Option<Pending>
         ensures { (x : Scene) → IsBeside M.words self.now x → option_map under_way_of result ≡ x.world.under_way }

@@ -1,9 +1,5 @@
 -- A diagnostic that is told is a diagnostic of its own line and matter
-use Rattle.std.proofs.Common.{◌≡◌, ℕ, List, Result, Ok, Err, IfOk}
-use Rattle.diagnostics.specs.Layout.{IsToldOf, told_text}
-use Rattle.diagnostics.specs.declared.diagnostic.Diagnostic.{Diagnostic}
-use Rattle.diagnostics.specs.declared.diagnostic.View.{View}
-use Rattle.diagnostics.specs.declared.diagnostic.Matter.{Matter}
+use Rattle.diagnostics.proofs.Words.{◌≡◌, ℕ, List, Result, Ok, Err, IfOk, IsToldOf, told_text, Diagnostic, View, Matter}
 
 pub told_of : {A E : Type 0} (bytes : A → List ℕ) (r : Result A E) (view : View) (it : Diagnostic) (matter : Matter) (line : ℕ) →
     it.matter ≡ matter → it.refused.line ≡ line → IfOk r (λ told. bytes told ≡ told_text view it) →

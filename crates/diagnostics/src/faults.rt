@@ -176,7 +176,7 @@ fn header_fault(
 ) -> Result<Why, AllocError> {
     let begins = match kind {
         TextKind::Trace =>
-            "a trace begins with `xtrace 1`, 2 or 3 and `ctx 20` or `ctx 40`, a line each",
+            "a trace begins with `xtrace 1`, 2, 3 or 4 and `ctx 20` or `ctx 40`, a line each",
         TextKind::Plan =>
             "a plan begins with `xplan 1`, and its second line is `ring ID cmd|xfer BASE:COUNT ..`",
         TextKind::Schedule =>
@@ -213,6 +213,7 @@ fn is_header(bytes: &[u8], line: u32, kind: TextKind) -> bool {
             bytes == b"xtrace 1".as_slice()
                 || bytes == b"xtrace 2".as_slice()
                 || bytes == b"xtrace 3".as_slice()
+                || bytes == b"xtrace 4".as_slice()
         } else {
             bytes == b"ctx 20".as_slice() || bytes == b"ctx 40".as_slice()
         },
@@ -344,13 +345,14 @@ fn form_fault(
     )
 }
 
-/// Whether the rows of a trace may have rings that come and go, and TDs that are withdrawn: its version is 2 or 3.
+/// Whether the rows of a trace may have rings that come and go, and TDs that are withdrawn: its version is 2 or a later one.
 fn has_ring_rows(text: &[u8]) -> bool {
-    text.starts_with(b"xtrace 2\n") || is_of_version_three(text)
+    text.starts_with(b"xtrace 2\n") || has_many_lines(text)
 }
 
-fn is_of_version_three(text: &[u8]) -> bool {
-    text.starts_with(b"xtrace 3\n")
+/// Whether a trace may have more lines than are kept: its version is 3 or 4.
+fn has_many_lines(text: &[u8]) -> bool {
+    text.starts_with(b"xtrace 3\n") || text.starts_with(b"xtrace 4\n")
 }
 
 /// A row of a trace of version 1 that only later versions have.
@@ -443,11 +445,13 @@ fn limit_fault(
 
 /// A trace of more lines than its version has, or than a command takes that keeps its rows.
 fn too_many_lines(alloc: Global, text: &[u8], line: u32) -> Result<Why, AllocError> {
-    if !is_of_version_three(text) {
+    if !has_many_lines(text) {
         return Ok(Why {
             head: String::from_str(alloc, "a trace of version 1 or 2 has at most 1048576 lines")?,
             earlier: None,
-            note: Some("`check`, `verify` and `show` take up to 4294967294 lines of version 3"),
+            note: Some(
+                "`check`, `verify` and `show` take up to 4294967294 lines of version 3 or 4",
+            ),
             help: "begin the trace with `xtrace 3`, or take the first lines: head -n 1048576",
         });
     }
@@ -465,7 +469,7 @@ fn too_many_lines(alloc: Global, text: &[u8], line: u32) -> Result<Why, AllocErr
         )?,
         earlier: None,
         note: Some(
-            "`check`, `verify`, `show` and tools/picture take up to 4294967294 lines of version 3",
+            "`check`, `verify`, `show` and tools/picture take up to 4294967294 lines of version 3 or 4",
         ),
         help: "take the first ones: head -n 1048576",
     })

@@ -117,7 +117,7 @@ fn step_help(step: &[u8]) -> &'static str {
         "look" =>
             "a controller fetches from a ring whose doorbell rang since it was bound, moved, stopped or halted, and takes no command while one is under way",
         "report" =>
-            "a Transfer Event names a TRB that was taken and isn't reported (a Stopped event also the one that is fetched next), with a code that its endpoint's state allows and the Cycle bit of its place, where the Event Ring has room",
+            "a Transfer Event names a TRB that was taken and isn't reported (a Stopped event also the one that is fetched next; in `xtrace 4` one with code 14, 15 or 23 anything), with a code that its endpoint's state and type allow and the Cycle bit of its place, where the Event Ring has room",
         "finish" =>
             "a Command Completion Event names the command that was taken and isn't completed, with a code and a slot that it allows and the Cycle bit of its place, where the Event Ring has room",
         "other" =>

@@ -1,12 +1,5 @@
 -- The words of std, of the crates below and of this crate's own definitions that its proofs cite, passed on by one file
 pub use Rattle.contexts.proofs.BitsOfWords.{above_control, flag_is, unchanged}
-pub use Rattle.event_ring.proofs.Words.{place_at-Data}
-pub use Rattle.std.proofs.Common.{Err, IfSome, Ok, Result, set, take}
-pub use Rattle.std.proofs.Math.ListN.{length-set}
-pub use Rattle.std.proofs.lemmas.Grind.{common_steps}
-pub use Rattle.std.proofs.lemmas.List.Edits.{length-remove}
-pub use Rattle.std.specs.List.{remove}
-pub use Rattle.world_state.proofs.EventPlaces.{is_place, no_place}
 pub use Rattle.driver_rows.specs.ContextRules.Contents.{IsAligned, has_bad_content_by, is_left_out_by}
 unfoldable pub use Rattle.driver_rows.specs.ContextRules.Contents.{adds_bad, adds_left_out, is_bad_added_in, is_left_out_in, lacks_control}
 pub use Rattle.driver_rows.specs.ContextRules.Entries.{touches_event_segment, touches_segment}
@@ -24,17 +17,18 @@ pub use Rattle.driver_rows.specs.RingBindings.Slots.{is_below, names_below}
 pub use Rattle.driver_rows.specs.RingRows.GivenCommands.{GivesCommandAt}
 pub use Rattle.driver_rows.specs.RingRows.RingSteps.{HasOneMore, IsClear, IsTransferAt}
 pub use Rattle.driver_rows.specs.RingRows.Withdrawing.{NamesTransfer}
-unfoldable pub use Rattle.ownership_rules.specs.Withdrawals.{is_no_descriptor, is_passed, withdraws_badly}
 pub use Rattle.driver_rows.specs.WriteEffects.Starting.{EntryFits, IsInserted, IsWith, LiesOnWords, MayBeGiven, address_taken, binds_ring_if}
 pub use Rattle.driver_rows.specs.declared.bindings.binding.RingBinding.{RingBinding}
 pub use Rattle.driver_rows.specs.declared.bindings.context.Bound.{Bound}
 pub use Rattle.driver_rows.specs.declared.bindings.context.Dequeue.{Dequeue}
+pub use Rattle.event_ring.proofs.Words.{place_at-Data}
 pub use Rattle.event_ring.specs.EventRing.{is_table_fault}
 pub use Rattle.guest_memory.specs.Memory.{long_at}
 unfoldable pub use Rattle.ownership_rules.specs.Commands.{adds_isochronous, adds_streams, has_bad_entry, is_bad_added, is_bad_device, is_busy, shares_slot, streams_in, takes_bad_device, type_in}
 unfoldable pub use Rattle.ownership_rules.specs.Moves.{binds_again, was_ring_bound}
 unfoldable pub use Rattle.ownership_rules.specs.Older.{has_busy_slot, has_left_out_endpoint, older, places_badly, stricter, writes_to_owned}
 unfoldable pub use Rattle.ownership_rules.specs.Registers.{is_bad_size, is_bad_table, is_written, is_wrong_size}
+unfoldable pub use Rattle.ownership_rules.specs.Withdrawals.{is_no_descriptor, is_passed, withdraws_badly}
 pub use Rattle.ownership_rules.specs.declared.refusal.Refusal.TheVariants.{BadCommand, BadMove, Busy, LinkFault, NotAsSubmitted, NotWhole, WriteToOwned}
 pub use Rattle.ring_knowledge.proofs.GivenWords.{given_from}
 pub use Rattle.ring_knowledge.specs.declared.register_record.RegisterRecord.{RegisterRecord}
@@ -58,21 +52,26 @@ pub use Rattle.safety.proofs.RowFrames.{SameRegisters, write_leaves}
 pub use Rattle.safety.proofs.RowRegister.{event_place}
 pub use Rattle.safety.proofs.UnfinishedBehind.{listed_unfinished}
 pub use Rattle.safety.proofs.UnfinishedLists.{fails_in, in_range}
-pub use Rattle.safety.proofs.Words.{AddressDevice, AfterStop, All, BadErdp, BadRegister, Bell, Binding, Block, BlockKind, Bool, Command, Config, ConfigureEndpoint, Contains, ContextSize, Crcr, Dcbaap, Declares, DeviceKeeps, DisableSlot, DriverKeeps, EnableSlot, EndpointState, Erdp, Erstba, Erstsz, EvaluateContext, Evt, Header, IsComing, IsDriverRing, IsHeader, IsIn, IsShape, IsTransferRing, Known, List, NoOp, None, NotDeclared, NotInProfile, Opens, Option, Refusal, Reg, Register, ResetDevice, ResetEndpoint, Restores, Ring, RingChange, RingKind, RingView, Row, SetTrDequeue, Shape, Some, StopEndpoint, Sub, Test, Usbcmd, Withdraws, Write, Writes, Xfer, [], address_aligned, address_ends, address_inside, address_of, and_from, and_left, and_parts, and_right, any_of, ap, append-nil, arith, base_address, block_at, broken_of, cases_Bool, cases_eq, cases_lt, ceiling_within, changed, clash, command_by_kind, command_of, cond-false, cond-true, cond_both, cons_option, cycle_of, cycle_of_bit, declared, device_context_bytes, endpoint_type, eq-eqb, eqb-true, erdp_address, false, false_from_ne_true, false≢true, filter, filter_map, find, floor_number, fun_ext, get_or, gives, gives_crossing_is, gives_is, has_flag, id_of, if◌then◌else◌, inl, input_add_flag, input_context_bytes, input_drop_flag, inr, is_command_kind, is_command_left_out, is_driver_kind, is_dropped, is_event_kind, is_event_place, is_in, is_inside, is_none, is_off, is_reached_within, is_ring, is_set, is_shape, is_some, is_stopped, is_transfer_kind, is_transfer_ring, kind, le-ltb, length, length-append, link_address, link_address_inside, link_aligned, link_ends, list_all, list_any, list_any_at, lt-ltb, ltb-false, ltb-true, map, may_stand_together, named_context, named_endpoint, named_slot, nat_le, nat_lt, ne_eqb, none-some, not, not-false, not-true, not_from_false, option_and_then, option_map, or_from, or_left, or_parts, or_right, overlap, placed_by_context, position, position-Some, position_given_is, put, put_pair, range_with_len, refl, register_or_zero, reset_bit, ring_with, rings_overlap, rules, run_bit, same_Some, same_words, shape_facts, shape_or, slice_get, slice_get_within, slice_index, slot, slot_entry, some_of, subst, suc, sym, table_bytes, touches-word, true, unwrap_or, with_cycle, word, zero, ℕ, ◌%◌, ◌&&◌, ◌*◌, ◌++◌, ◌+◌, ◌-◌, ◌/◌, ◌<◌, ◌==◌, ◌^◌, ◌||◌, ◌∙◌, ◌∷◌, ◌≡◌, ◌≢◌, ◌≤◌, ◌⊎◌}
+pub use Rattle.safety.proofs.Words.{AddressDevice, AfterStop, All, BadErdp, BadRegister, Bell, Binding, Block, BlockKind, Bool, Command, Config, ConfigureEndpoint, Contains, ContextSize, Crcr, Dcbaap, Declares, DeviceKeeps, DisableSlot, DriverKeeps, EnableSlot, EndpointState, Erdp, Erstba, Erstsz, EvaluateContext, Evt, Header, IsComing, IsDriverRing, IsHeader, IsIn, IsShape, IsTransferRing, Known, List, NoOp, None, NotDeclared, NotInProfile, Opens, Option, Refusal, Reg, Register, ResetDevice, ResetEndpoint, Restores, Ring, RingChange, RingKind, RingView, Row, SetTrDequeue, Shape, Some, StopEndpoint, Sub, Test, Usbcmd, Withdraws, Write, Writes, Xfer, [], address_aligned, address_ends, address_inside, address_of, and_from, and_left, and_parts, and_right, any_of, ap, append-nil, arith, base_address, block_at, broken_of, cases_Bool, cases_eq, cases_lt, ceiling_within, changed, clash, command_by_kind, command_of, cond-false, cond-true, cond_both, cons_option, cycle_of, cycle_of_bit, declared, device_context_bytes, eq-eqb, eqb-true, erdp_address, false, false_from_ne_true, false≢true, filter, filter_map, find, floor_number, fun_ext, get_or, gives, gives_crossing_is, gives_is, has_flag, id_of, if◌then◌else◌, inl, input_add_flag, input_context_bytes, input_drop_flag, inr, is_command_kind, is_command_left_out, is_driver_kind, is_dropped, is_event_kind, is_event_place, is_in, is_inside, is_none, is_off, is_reached_within, is_ring, is_set, is_shape, is_some, is_stopped, is_transfer_kind, is_transfer_ring, kind, le-ltb, length, length-append, link_address, link_address_inside, link_aligned, link_ends, list_all, list_any, list_any_at, lt-ltb, ltb-false, ltb-true, map, may_stand_together, named_context, named_endpoint, named_slot, nat_le, nat_lt, ne_eqb, none-some, not, not-false, not-true, not_from_false, option_and_then, option_map, or_from, or_left, or_parts, or_right, overlap, placed_by_context, position, position-Some, position_given_is, put, put_pair, range_with_len, refl, register_or_zero, reset_bit, ring_with, rings_overlap, rules, run_bit, same_Some, same_words, shape_facts, shape_or, slice_get, slice_get_within, slice_index, slot, slot_entry, some_of, subst, suc, sym, table_bytes, touches-word, true, unwrap_or, with_cycle, word, zero, ℕ, ◌%◌, ◌&&◌, ◌*◌, ◌++◌, ◌+◌, ◌-◌, ◌/◌, ◌<◌, ◌==◌, ◌^◌, ◌||◌, ◌∙◌, ◌∷◌, ◌≡◌, ◌≢◌, ◌≤◌, ◌⊎◌}
 unfoldable pub use Rattle.safety.proofs.Words.{added_endpoints, awaits_binding, binding_in, binds, binds_ring, broken, ceiling, changes, changes_owned, command_at, command_given, command_id, context_ranges, covers, crossings_given, declaration_tests, device_named, device_ranges, driver_rings, drops, due_positions, endpoint_rung, entry_of, entry_ranges, event_ring, event_shape, flips_passed, forgotten, given_by, given_of, has_bad_content, has_bad_context, has_repeats, has_stopped, holds_of, interrupts, is_among, is_bad_area, is_bad_bell, is_bad_binding, is_bad_command, is_bad_crcr, is_bad_dequeue, is_bad_doorbell, is_bad_erdp, is_bad_free, is_bad_move, is_bad_place, is_bad_register, is_bad_ring, is_bad_segment, is_bad_stay, is_bad_withdraw, is_being_bound, is_being_moved, is_declared_as, is_driver_ring, is_early_start, is_had, is_in_range_lease, is_kept, is_late_reset, is_move, is_no_first_block, is_not_declared, is_not_restored, is_not_whole, is_open, is_other_than_declared, is_placed, is_placement, is_soiled, is_taken, is_the_controllers, is_touched, is_unwritten, is_wrong_link, is_wrong_start, leads_wrong, learned, lease_bytes, lease_start, lenient, lenient_tests, may_pass, moves_ring, names_disabled_endpoint, names_disabled_slot, names_no_place, no_device, on_crossing, on_position, on_ring, open_ranges, positions_given, range_of_command, range_of_context, range_of_device, range_of_entry, register_tests, register_written, restored_on, ring_bound, ring_having, ring_moved, ring_restored, run_or_stop, rung, segment_ranges, shape_of, shows_first_lap, slots, some_command, some_crossed, some_flips, some_given, table_range, taken_device, tests, touches_endpoint, touches_ring, unfinished, unfinished_positions, unrestored, valued, with_device, with_ring, with_word, without_ring, write_tests, written}
 pub use Rattle.safety.proofs.WriteBeside.{beside_old, rules_of}
 pub use Rattle.safety.proofs.WrittenKnown.{after_write, taken, written_device, written_device_none, written_memory, written_ring}
+pub use Rattle.safety.specs.RingChanges.Histories.{IsKept}
 pub use Rattle.segments.proofs.Search.{position-None}
 unfoldable pub use Rattle.segments.specs.Givings.{link_of}
 pub use Rattle.segments.specs.Places.{links}
-pub use Rattle.std.proofs.Common.{IfErr, OnOk}
+pub use Rattle.std.proofs.Common.{Err, IfErr, IfSome, Ok, OnOk, Result, set, take}
+pub use Rattle.std.proofs.Math.ListN.{length-set}
 pub use Rattle.std.proofs.Math.Seq.{take-length}
+pub use Rattle.std.proofs.lemmas.Grind.{common_steps}
 pub use Rattle.std.proofs.lemmas.List.{get_or_default}
+pub use Rattle.std.proofs.lemmas.List.Edits.{length-remove}
 pub use Rattle.std.proofs.lemmas.List.Elements.{filter_map-append}
 pub use Rattle.std.proofs.lemmas.List.Folds.{list_any_none}
 pub use Rattle.std.proofs.lemmas.Nat.Bits.{bit_at-pow_other, bit_at-zero}
 pub use Rattle.std.proofs.lemmas.Option.{slice_get_cases}
 pub use Rattle.std.proofs.lemmas.Result.{on_ok_weaker}
+pub use Rattle.std.specs.List.{remove}
 pub use Rattle.std.specs.List.Sorted.{IsPartitionPoint}
 pub use Rattle.std.specs.Vec.{with_item}
 pub use Rattle.trace_record.proofs.BoundRings.{any_in, binds_same, bound_same}
@@ -121,5 +120,8 @@ pub use Rattle.trace_record.specs.declared.ring_set.RingSet.{RingSet}
 pub use Rattle.trace_record.specs.declared.row_place.RowPlace.{RowPlace}
 pub use Rattle.trace_record.specs.declared.trace_record.TraceRecord.{TraceRecord}
 pub use Rattle.traces.specs.Header.{no_shape}
-pub use Rattle.traces.specs.Versions.{is_three}
+pub use Rattle.traces.specs.Versions.{is_lenient, profile_of}
+pub use Rattle.traces.specs.declared.row.Row.TheVariants.{Free as FreeRow, Nop as NopRow, Ring as RingRow}
 pub use Rattle.trb.specs.Block.{aligned as address}
+pub use Rattle.trb.specs.declared.profile.Profile.{Profile}
+pub use Rattle.world_state.proofs.EventPlaces.{is_place, no_place}

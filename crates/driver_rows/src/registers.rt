@@ -4,7 +4,7 @@ ghost use Rattle.std.specs.List.{list_any};
 ghost use Rattle.segments.specs.Places.{address_of};
 ghost use Rattle.segments.specs.Shape.{IsShape};
 ghost use Rattle.traces.specs.Header.{IsHeader, event_ring, event_shape};
-ghost use Rattle.traces.specs.Versions.{is_three};
+ghost use Rattle.traces.specs.Versions.{is_lenient};
 ghost use Rattle.traces.specs.declared.header.Header.{Header};
 ghost use Rattle.traces.specs.declared.row.Row.TheVariants.{Reg};
 ghost use Rattle.event_ring.specs.EventRing.{erdp_address, is_event_place, is_reached_within};
@@ -113,7 +113,7 @@ fn is_again(registers: &RegisterRecord, register: Register, is_wrong: bool) -> b
 /// Whether ERSTSZ is written after the start or without an event ring or, before version 3, again or with a wrong value.
 fn is_bad_sizing(header: &Header, t: &TraceRecord, value: u64) -> bool
     ensures { (k : Known) (m : ℕ → ℕ) → FollowsTrace header.now k t.now m →
-        result ≡ (((is_written k Register.Erstsz || is_bad_size header.now value) && not (is_three header.now.version)) || (k.started || is_none (event_ring header.now))) }
+        result ≡ (((is_written k Register.Erstsz || is_bad_size header.now value) && not (is_lenient header.now.version)) || (k.started || is_none (event_ring header.now))) }
 {
     if is_refused_size(header, t, value) {
         return true;
@@ -123,9 +123,9 @@ fn is_bad_sizing(header: &Header, t: &TraceRecord, value: u64) -> bool
 
 /// Whether ERSTSZ is written again or with a wrong value, which versions 1 and 2 refuse.
 fn is_refused_size(header: &Header, t: &TraceRecord, value: u64) -> bool
-    ensures { (k : Known) (m : ℕ → ℕ) → FollowsTrace header.now k t.now m → result ≡ ((is_written k Register.Erstsz || is_bad_size header.now value) && not (is_three header.now.version)) }
+    ensures { (k : Known) (m : ℕ → ℕ) → FollowsTrace header.now k t.now m → result ≡ ((is_written k Register.Erstsz || is_bad_size header.now value) && not (is_lenient header.now.version)) }
 {
-    if header.version.is_three() {
+    if header.version.is_lenient() {
         return false;
     }
     is_written(&t.registers, Register::Erstsz) || is_bad_size(t, value)
@@ -291,7 +291,7 @@ fn is_bad_place<M: WordMemory>(
 }
 
 /// Takes a value that is written to ERDP, where it names an event place up to the one that is read next; whether the write of
-/// this register may be. Before the start a value that names no event place has no effect, and may be in version 3.
+/// this register may be. Before the start a value that names no event place has no effect, and may be from version 3 on.
 #[inline(always)]
 fn note_dequeue(
     header: &Header,
@@ -327,7 +327,7 @@ fn set_dequeue(events: &mut Option<EventPlace>, value: u64) -> bool
     }
 }
 
-/// Whether a value of ERDP has no effect, and may be: before the start, in version 3.
+/// Whether a value of ERDP has no effect, and may be: before the start, from version 3 on.
 fn may_be_ignored(
     header: &Header,
     is_started: bool,
@@ -336,12 +336,12 @@ fn may_be_ignored(
 ) -> bool
     requires headed { IsHeader header.now }
     ensures { (k : Known) → k.started ≡ is_started → FollowsEvents header.now k events.now →
-        result ≡ (is_three header.now.version && (not k.started && (is_some (event_ring header.now) && not (is_event_place (event_shape header.now) (erdp_address value))))) }
+        result ≡ (is_lenient header.now.version && (not k.started && (is_some (event_ring header.now) && not (is_event_place (event_shape header.now) (erdp_address value))))) }
 {
     if is_started {
         return false;
     }
-    if !header.version.is_three() {
+    if !header.version.is_lenient() {
         return false;
     }
     has_no_place(header, events, value)

@@ -3,6 +3,7 @@ pub mod CommandRings
 pub mod OneRing
 pub mod Numbered
 pub mod Placed
+pub mod Types
 pub mod Succeeded
 pub mod Rest
 pub mod Slots

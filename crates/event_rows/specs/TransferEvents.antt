@@ -1,2 +1,3 @@
 pub mod NamedSpots
 pub mod Reported
+pub mod Reports

@@ -6,5 +6,6 @@ mod placing;
 mod possible;
 mod rings;
 mod success;
+mod types;
 
 pub use ending::read_completion;

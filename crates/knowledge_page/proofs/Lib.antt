@@ -1,3 +1,4 @@
 pub mod Verdicts
 pub mod RowsFit
 pub mod BaseWords
+pub mod Laws

@@ -158,9 +158,14 @@ fn write_use(page: &mut String, ring: &Ring, devices: &DeviceRecord) -> Result<(
         Some(Served { slot, endpoint }) => {
             let state = endpoint_state_name(devices.endpoint_state(slot, endpoint));
             let due = what_is_due(devices, slot, endpoint);
+            let kind = if devices.is_isochronous(slot, endpoint) {
+                ", isochronous"
+            } else {
+                ""
+            };
             writeln!(
                 page,
-                "ring {id:02x}, Transfer Ring of slot {slot}, DCI {endpoint} ({state}{due})"
+                "ring {id:02x}, Transfer Ring of slot {slot}, DCI {endpoint} ({state}{kind}{due})"
             )
         }
         None if devices.was_bound(id) => {

@@ -1,8 +1,8 @@
 -- The words of std, of the crates below and of this crate's own definitions that its proofs cite, passed on by one file
+pub use Rattle.commands.specs.Changes.{typed_by_context}
 pub use Rattle.commands.specs.declared.state.EndpointState.TheVariants.{Error}
 pub use Rattle.contexts.specs.Contexts.{context_cycle, context_pointer}
 pub use Rattle.contexts.specs.declared.size.ContextSize.TheVariants.{Bytes32}
-pub use Rattle.std.specs.Result.{result_ok}
 pub use Rattle.event_ring.specs.EventRing.{table_bytes}
 pub use Rattle.guest_memory.specs.Memory.{long_at}
 pub use Rattle.leases.specs.CertificateLogs.Agreement.{test_of}
@@ -40,14 +40,18 @@ unfoldable pub use Rattle.ownership_rules.specs.OnLiterals.{rules_on_literals}
 pub use Rattle.ownership_rules.specs.OpenLeases.{Block, DeviceContext, EventSegment, InputContext, Leased, Link, Range, SegmentTable, SlotEntry, Use, same_leased}
 unfoldable pub use Rattle.ownership_rules.specs.OpenLeases.{is_among}
 unfoldable pub use Rattle.ownership_rules.specs.Registers.{is_bad_register, is_written}
+unfoldable pub use Rattle.ownership_rules.specs.Rings.{is_bad_free, is_bad_ring}
 unfoldable pub use Rattle.ownership_rules.specs.Rules.{lenient}
 pub use Rattle.ring_knowledge.proofs.DueNumbers.{link_of-crossed, same_due, same_due_crossing}
 pub use Rattle.ring_knowledge.proofs.Noted.{noted_past}
 pub use Rattle.ring_knowledge.proofs.Words.{Declares, FollowsRing, IsShape, Opens, Register, Segment, and_from, and_parts, crossed_link, crossing_positive, crossings_of, is_crossing_due, length-map, link_crossed, nat_tests, new_ring, or_left, positions_of, reset_bit, run_bit, with_register}
 unfoldable pub use Rattle.ring_knowledge.proofs.Words.{register_written, valued}
+unfoldable pub use Rattle.ring_knowledge.specs.Completions.{typed}
+pub use Rattle.ring_knowledge.specs.Histories.{header_now, known_after, known_now, restored}
+unfoldable pub use Rattle.ring_knowledge.specs.Histories.{forgotten, restored_on, ring_moved, ring_restored}
 unfoldable pub use Rattle.ring_knowledge.specs.Learned.{event_read}
 pub use Rattle.ring_knowledge.specs.Rings.{Crossing, Given, Position}
-unfoldable pub use Rattle.ring_knowledge.specs.Rings.{spot_on}
+unfoldable pub use Rattle.ring_knowledge.specs.Rings.{code_told, spot_on}
 unfoldable pub use Rattle.ring_knowledge.specs.Transfers.{broken_off, passed, stopped_at, transfer_read, transferred, transferred_at}
 unfoldable pub use Rattle.ring_knowledge.specs.Writes.{device_named, no_device}
 pub use Rattle.ring_knowledge.specs.declared.lease.Lease.{Lease}
@@ -84,11 +88,6 @@ pub use Rattle.safety.proofs.WriteBeside.{rules_of}
 pub use Rattle.safety.proofs.WrittenKnown.{after_write, taken, written_device, written_device_none}
 pub use Rattle.safety.specs.Keeps.{IsTransferRing}
 pub use Rattle.safety.specs.Placings.{StillHolds}
-pub use Rattle.traces.specs.Rows.{IsComing}
-unfoldable pub use Rattle.ring_knowledge.specs.Histories.{forgotten, restored_on, ring_moved, ring_restored}
-unfoldable pub use Rattle.ownership_rules.specs.Rings.{is_bad_free, is_bad_ring}
-unfoldable pub use Rattle.traces.specs.LivingRings.{with_ring, without_ring}
-pub use Rattle.ring_knowledge.specs.Histories.{header_now, known_now, restored}
 pub use Rattle.segments.proofs.Giving.{GivesCrossing, due_is}
 pub use Rattle.segments.proofs.Named.{ceiling_within, named_ahead}
 pub use Rattle.segments.proofs.OneGiving.{gives_one}
@@ -105,7 +104,7 @@ pub use Rattle.std.proofs.lemmas.List.Elements.{filter-append}
 pub use Rattle.std.proofs.lemmas.Option.{slice_get_cases}
 pub use Rattle.std.specs.List.{position}
 pub use Rattle.std.specs.Option.{option_copied}
-pub use Rattle.std.specs.Result.{IfOk}
+pub use Rattle.std.specs.Result.{IfOk, result_ok}
 pub use Rattle.trace_record.proofs.OneRingHas.{inside_is, no_driver_event}
 pub use Rattle.trace_record.proofs.RingFinder.CommandRings.{command_id_is, commands_among, driven, no_ring}
 pub use Rattle.trace_record.proofs.RingFinder.FoundRings.{command_found, no_command_ring, ring_here}
@@ -120,12 +119,16 @@ pub use Rattle.trace_record.specs.declared.row_place.RowPlace.{RowPlace}
 pub use Rattle.trace_record.specs.declared.trace_record.TraceRecord.{TraceRecord}
 pub use Rattle.traces.specs.Header.{is_event_kind}
 unfoldable pub use Rattle.traces.specs.Header.{event_ring, event_shape}
+pub use Rattle.traces.specs.LivingRings.{header_after}
+unfoldable pub use Rattle.traces.specs.LivingRings.{with_ring, without_ring}
 pub use Rattle.traces.specs.Register.{base_address}
+pub use Rattle.traces.specs.Rows.{IsComing, is_ring_row}
+pub use Rattle.traces.specs.Versions.{has_isoch}
 pub use Rattle.traces.specs.declared.register.Register.TheVariants.{Dcbaap}
-pub use Rattle.traces.specs.declared.row.Row.TheVariants.{Ring as RingRow, Free as FreeRow}
+pub use Rattle.traces.specs.declared.row.Row.TheVariants.{Free as FreeRow, Nop as NopRow, Ring as RingRow}
 pub use Rattle.traces.specs.declared.version.Version.TheVariants.{Three}
 pub use Rattle.trb.specs.Block.{endpoint}
-pub use Rattle.trb.specs.CompletionCode.{is_halting, is_trb_error}
+pub use Rattle.trb.specs.CompletionCode.{counted_code, is_halting, is_of_service, is_trb_error}
 pub use Rattle.trb.specs.declared.block.Block.{Block as Trb}
 pub use Rattle.trb.specs.declared.fault.Fault.{Fault}
 pub use mathlib.Core.List.{reverse_aux}

@@ -1,6 +1,6 @@
 -- What the answers cite: the words, and this crate's lemmas
 pub use Rattle.leases.proofs.BaseWords.{Begins, Block, Bool, CertificateLog, DeviceContext, EntryFits, FollowedList, FollowsCertificate, FollowsList, Header, HoldsAll, HoldsLents, InputContext, IsFound, IsNextRow, IsOtherRow, IsPlaced, Known, Lease, LeaseBook, Lent, Link, List, MovesOn, None, Option, Range, Row, SegmentTable, SlotEntry, SlotIsFree, Some, [], among_at, ap, arith, cases_Bool, code, command_id, command_place, crossing_positive, driven, endpoint, eqb-true, false, false≢true, floor_number, get_or, index_at, index_in, inl, inr, is_command_kind, is_crossing, is_of_ring, is_passed, is_some, length, link_crossed, map, named, next_command, none_here, number, place_count, refl, ring_here, same_leased, shape_there, share_a_place, slice_get, subst, sym, take, take_all, target, touches, true, unwrap_or, ℕ, ◌%◌, ◌*◌, ◌+◌, ◌<◌, ◌==◌, ◌^◌, ◌||◌, ◌∙◌, ◌∷◌, ◌≡◌, ◌≤◌}
-unfoldable pub use Rattle.leases.proofs.BaseWords.{come_to, comes_before, command_at, device_named, ended_at, ended_where, entry_of, grown, is_among, is_use_free, lents, link_of, open_leases, passed_on, shape_of, taken_device, with_begun}
+unfoldable pub use Rattle.leases.proofs.BaseWords.{code_told, come_to, comes_before, command_at, device_named, ended_at, ended_where, entry_of, grown, is_among, is_use_free, link_of, open_leases, passed_on, shape_of, taken_device, with_begun}
 pub use Rattle.leases.proofs.CertificateLogs.Beginning.{HasBegun, next_begins, nothing_begun}
 pub use Rattle.leases.proofs.CertificateLogs.EndingOne.{another_numbered, another_there, none_numbered, this_numbered, this_there}
 pub use Rattle.leases.proofs.CertificateLogs.Following.{goes_on}

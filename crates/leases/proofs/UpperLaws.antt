@@ -1,6 +1,6 @@
 -- Words and lemmas, passed on to the files above them
-pub use Rattle.leases.proofs.BaseWords.{AllUnended, Apart, AreLent, AreOpen, Begins, Block, BlockKind, Bool, CertificateLog, Command, CommandCompletion, Crossing, DeviceContext, DriverKeeps, EndpointRings, Ends, EntryFits, Erstba, EventFacts, EventSegment, FindsPlaces, FindsRanges, FloorsMove, FollowedList, FollowsCertificate, FollowsList, FollowsRing, FollowsTrace, FreeWasGiven, Given, GivesCrossing, Header, HoldsAll, HoldsLents, IndexTables, InputContext, IsAmong, IsCrossed, IsDriverRing, IsFound, IsGivenBy, IsHeader, IsIn, IsNextRow, IsOnly, IsOnlyAt, IsOtherRing, IsOtherRow, IsPlaced, IsPlacedSo, IsShape, IsTransferRing, Known, KnowsOpen, Lease, LeaseBook, Leased, Lent, Link, List, MovesOn, MovesRing, None, Option, Position, Range, RangeIndexes, Read, Restores, Ring, RingGiving, RingKeeps, RingPlace, RingRecord, RingSpot, RingView, Row, RowPlace, SameDriver, SegmentTable, SetTrDequeue, Shape, SlotEntry, SlotIsFree, Some, Spot, TraceRecord, TransferEvent, Use, Withdraws, Write, [], address_inside, address_of, all_from_one, among_at, among_is, and_false, and_parts, and_then_parts, any_append, ap, append-nil, area_parts, arith, cases_Bool, changed, code, command_found, command_id, command_id_is, command_is_ring, command_of, command_place, command_ring, command_taken, completion_facts, contains_first, crossed_link, crossing_positive, crossings_of, data_not_link, device_context_bytes, driven, due_has_ring, due_is, endpoint, eq-eqb, eqb-true, event_facts, event_same, false, false_unless, false≢true, filter, filter-append, find_some, flat_map, floor_number, floors_grow, from_filter, get_or, get_or-map, gives, gives_crossing, gives_crossing_is, gives_is, gives_one, has_place, if◌then◌else◌, in_among, in_filter, index_at, index_in, inl, inr, is_behind, is_command_completion, is_command_kind, is_crossing, is_crossing_due, is_driver_kind, is_event_kind, is_freed, is_inside, is_moved_past, is_of_ring, is_open_of, is_passed, is_some, is_stopping, is_success, is_transfer_event, is_transfer_kind, kind, leased_is, leb-true, length, length-map, length_from, let_go, link_address, link_address_inside, link_crossed, link_of-crossed, list_any, list_any-append, ltb-true, map, max, moved_when, named, named_ahead, named_context, nat_le, nat_lt, nat_tests, newly_open, next_at_floor, next_command, no_command_ring, no_ring, none-some, none_here, not, not-true, not_found, noted_past, number, number-after, number_at, option_and_then, option_map, or_cases, or_false, or_left, place_count, pointer, position, position_given_is, positions_of, put, range_with_len, refl, restored, ring_elsewhere, ring_found, ring_here, ring_shape, ring_with, rules, rules_of, same_due, same_due_crossing, same_leased, same_number, shape_allowed, shape_there, share_a_place, shares_use, slice_get, slice_get_cases, slice_get_read, slice_get_within, slot, slot_left, slot_ranges, slot_taken, subst, suc, sym, take, take_all, take_more, taking, target, test_of, together, touches, transfer_driver, transfer_not_command, true, unwrap_or, written_device, written_devices, zero, ℕ, ◌%◌, ◌&&◌, ◌*◌, ◌++◌, ◌+◌, ◌-◌, ◌<◌, ◌==◌, ◌^◌, ◌||◌, ◌∙◌, ◌∷◌, ◌≡◌, ◌≢◌, ◌≤◌}
-unfoldable pub use Rattle.leases.proofs.BaseWords.{agree, as_lease, begins_as, begun, begun_at, come_to, comes_before, command_at, command_given, completed, context_ranges, crossings_given, device_named, device_ranges, driver_rings, due_crossings, due_positions, ended_at, ended_where, entry_of, entry_ranges, event_at, event_read, given_by, given_of, grown, has_words_of, in_turn, is_among, is_lent, is_place_free, is_unended, is_use_free, learned, lease_of, leased_crossings, leased_positions, lents, link_of, nothing, on_ring, open_leases, open_on, open_ranges, passed_on, positions_given, precedes, range_of_command, range_of_context, range_of_device, range_of_entry, restored_on, ring_moved, ring_restored, segment_ranges, shape_of, slots, spot_on, table_range, taken_device, transfer_read, transferred_at, unrestored, with_begun, with_device, with_leased, with_word, without_end, written}
+pub use Rattle.leases.proofs.BaseWords.{AllUnended, Apart, AreLent, AreOpen, Begins, Block, BlockKind, Bool, CertificateLog, Command, CommandCompletion, Crossing, DeviceContext, DriverKeeps, EndpointRings, Ends, EntryFits, Erstba, EventFacts, EventSegment, FindsPlaces, FindsRanges, FloorsMove, FollowedList, FollowsCertificate, FollowsList, FollowsRing, FollowsTrace, FreeWasGiven, Given, GivesCrossing, Header, HoldsAll, HoldsLents, IndexTables, InputContext, IsAmong, IsCrossed, IsDriverRing, IsFound, IsGivenBy, IsHeader, IsIn, IsNextRow, IsOnly, IsOnlyAt, IsOtherRing, IsOtherRow, IsPlaced, IsPlacedSo, IsShape, IsTransferRing, Known, KnowsOpen, Lease, LeaseBook, Leased, Lent, Link, List, MovesOn, MovesRing, None, Option, Position, Range, RangeIndexes, Read, Restores, Ring, RingGiving, RingKeeps, RingPlace, RingRecord, RingSpot, RingView, Row, RowPlace, SameDriver, SegmentTable, SetTrDequeue, Shape, SlotEntry, SlotIsFree, Some, Spot, TraceRecord, TransferEvent, Use, Withdraws, Write, [], address_inside, address_of, all_from_one, among_at, among_is, and_false, and_parts, and_then_parts, any_append, ap, append-nil, area_parts, arith, cases_Bool, changed, code, command_found, command_id, command_id_is, command_is_ring, command_of, command_place, command_ring, command_taken, completion_facts, contains_first, counted_code, crossed_link, crossing_positive, crossings_of, data_not_link, device_context_bytes, driven, due_has_ring, due_is, endpoint, eq-eqb, eqb-true, event_facts, event_same, false, false_unless, false≢true, filter, filter-append, find_some, flat_map, floor_number, floors_grow, from_filter, get_or, get_or-map, gives, gives_crossing, gives_crossing_is, gives_is, gives_one, has_isoch, has_place, if◌then◌else◌, in_among, in_filter, index_at, index_in, inl, inr, is_behind, is_command_completion, is_command_kind, is_crossing, is_crossing_due, is_driver_kind, is_event_kind, is_freed, is_inside, is_moved_past, is_of_ring, is_of_service, is_open_of, is_passed, is_some, is_stopping, is_success, is_transfer_event, is_transfer_kind, kind, leased_is, leb-true, length, length-map, length_from, let_go, link_address, link_address_inside, link_crossed, link_of-crossed, list_any, list_any-append, ltb-true, map, max, moved_when, named, named_ahead, named_context, nat_le, nat_lt, nat_tests, newly_open, next_at_floor, next_command, no_command_ring, no_ring, none-some, none_here, not, not-true, not_found, noted_past, number, number-after, number_at, option_and_then, option_map, or_cases, or_false, or_left, place_count, pointer, position, position_given_is, positions_of, put, range_with_len, refl, restored, ring_elsewhere, ring_found, ring_here, ring_shape, ring_with, rules, rules_of, same_due, same_due_crossing, same_leased, same_number, shape_allowed, shape_there, share_a_place, shares_use, slice_get, slice_get_cases, slice_get_read, slice_get_within, slot, slot_left, slot_ranges, slot_taken, subst, suc, sym, take, take_all, take_more, taking, target, test_of, together, touches, transfer_driver, transfer_not_command, true, unwrap_or, written_device, written_devices, zero, ℕ, ◌%◌, ◌&&◌, ◌*◌, ◌++◌, ◌+◌, ◌-◌, ◌<◌, ◌==◌, ◌^◌, ◌||◌, ◌∙◌, ◌∷◌, ◌≡◌, ◌≢◌, ◌≤◌}
+unfoldable pub use Rattle.leases.proofs.BaseWords.{agree, as_lease, begins_as, begun_at, code_told, come_to, comes_before, command_at, command_given, completed, context_ranges, crossings_given, device_named, device_ranges, driver_rings, due_crossings, due_positions, ended_at, ended_where, entry_of, entry_ranges, event_at, event_read, given_by, given_of, grown, has_words_of, in_turn, is_among, is_lent, is_place_free, is_unended, is_use_free, learned, lease_of, leased_crossings, leased_positions, lents, link_of, nothing, on_ring, open_leases, open_on, open_ranges, passed_on, positions_given, precedes, range_of_command, range_of_context, range_of_device, range_of_entry, restored_on, ring_moved, ring_restored, segment_ranges, shape_of, slots, spot_on, table_range, taken_device, transfer_read, transferred_at, unrestored, with_begun, with_device, with_leased, with_word, without_end, written}
 pub use Rattle.leases.proofs.CertificateLogs.Tables.{IsNumbered, block_numbered, link_numbered, number_alike, number_of, places_of, range_numbered, share_alike}
 pub use Rattle.leases.proofs.LeaseBooks.Finishing.{finish_lent}
 pub use Rattle.leases.proofs.LeaseBooks.FreePlaces.{block_free, none_open_shares, none_shares, unlent_free}

@@ -4,7 +4,7 @@ use ring_knowledge::RingRecord;
 use row_history::Shown::{Address, Dequeue, Id, Line, Name, Number, Small};
 use row_history::{
     Binding, Case, Shown, begun_with_0, command_at, endpoint_state_name, has_block, is_handed_over,
-    last_halt, line_of, ring_at, ring_known, submission, unfinished_binding,
+    line_of, ring_at, ring_known, submission, unfinished_binding,
 };
 use segments::{Place, Spot};
 use traces::Ring;
@@ -75,7 +75,7 @@ fn note_dequeue(case: &mut Case, slot: u8, endpoint: u8, pointer: u64, cycle: bo
         );
         if state == EndpointState::Halted {
             case.mark(
-                last_halt(case.before, slot, endpoint),
+                case.known.halted_by(slot, endpoint),
                 "with this event the endpoint halted",
                 &[],
             );
@@ -233,7 +233,7 @@ fn note_added(case: &mut Case, slot: u8, context: u64, endpoint: u8) {
     let state = case.known.devices.endpoint_state(slot, endpoint);
     if endpoint == 1 && state != EndpointState::Disabled {
         note_second(case, bound);
-    } else if case.header.version.is_three() {
+    } else if case.header.version.is_lenient() {
         note_bound(case, bound);
     } else {
         match ring_beginning(case, bound.pointer) {
@@ -580,7 +580,7 @@ fn ring_beginning<'a>(case: &Case<'a>, address: u64) -> Option<&'a Ring> {
 
 /// Whether two pointers name one ring: by versions 1 and 2 a ring is named by its first TRB.
 fn is_one_ring(case: &Case, first: u64, second: u64) -> bool {
-    if !case.header.version.is_three() {
+    if !case.header.version.is_lenient() {
         return first == second && ring_beginning(case, first).is_some();
     }
     match ring_having(case, first) {

@@ -7,8 +7,6 @@ pub use Rattle.driver_rows.proofs.RingRows.Lists.{read_there}
 pub use Rattle.driver_rows.specs.RingRows.GivenCommands.{GivesCommandAt}
 pub use Rattle.driver_rows.specs.RingRows.RingSteps.{IsRingStep, IsTransferAt}
 pub use Rattle.driver_rows.specs.RingRows.Withdrawing.{NamesTransfer}
-pub use Rattle.ownership_rules.specs.Withdrawals.{is_passed}
-unfoldable pub use Rattle.ownership_rules.specs.Withdrawals.{withdraws_badly, is_bad_withdraw, is_left, some_flips}
 pub use Rattle.event_ring.specs.EventPlaceValue.{EventState}
 pub use Rattle.event_rows.proofs.TransferEvents.Reports.{left_out as left_out_transfer}
 pub use Rattle.leases.proofs.LeaseBooks.FirstBook.{first_list}
@@ -37,13 +35,11 @@ pub use Rattle.line_text.specs.Lines.{TextLine, lines_of}
 pub use Rattle.ownership_checker.specs.Following.{EndsAt, IsToldBad, IsToldSoFar, told_behind, told_first, told_with}
 unfoldable pub use Rattle.ownership_checker.specs.Following.{told_as_it_comes}
 pub use Rattle.ownership_checker.specs.JudgedRows.Tracking.{IsLeastFrom, IsStepFrom, IsTracked}
-pub use Rattle.ownership_checker.specs.RingPasses.Accepted.{IsSound}
+pub use Rattle.ownership_checker.specs.RingPasses.Accepted.{IsSound, WalksRead, leases_of}
 pub use Rattle.ownership_checker.specs.RingPasses.Clean.{AreClean, IsLeastOfRow}
 pub use Rattle.ownership_checker.specs.RingPasses.KeptRows.{IsBehindAll}
 pub use Rattle.ownership_checker.specs.RingPasses.Passing.{IsRingLogged, IsRingPassed, NothingFree}
 pub use Rattle.ownership_checker.specs.RingPasses.Reading.{Begins, IfRefusedRow, IsWholeLog, OfTrace, with_rows}
-pub use Rattle.ownership_rules.specs.Rules.{broken_restored, row_broken, trace_verdict, lenient}
-unfoldable pub use Rattle.ownership_rules.specs.Rules.{verdict_from, broken, first_or, lenient_tests, tests}
 pub use Rattle.ownership_checker.specs.declared.lease_count.LeaseCount.{LeaseCount}
 pub use Rattle.ownership_checker.specs.declared.pass.reading.Passed.{Passed}
 pub use Rattle.ownership_checker.specs.declared.pass.ring_pass.RingPass.{RingPass}
@@ -58,9 +54,17 @@ unfoldable pub use Rattle.ownership_rules.specs.Leases.{without_end}
 unfoldable pub use Rattle.ownership_rules.specs.Older.{older, stricter}
 pub use Rattle.ownership_rules.specs.OpenLeases.{Leased, open_leases}
 pub use Rattle.ownership_rules.specs.Refusal.{broken_of, first_broken, first_of}
+pub use Rattle.ownership_rules.specs.Rings.{is_bad_ring, is_transfer_ring}
+unfoldable pub use Rattle.ownership_rules.specs.Rings.{is_bad_free}
+pub use Rattle.ownership_rules.specs.Rules.{broken_restored, lenient, row_broken, trace_verdict}
+unfoldable pub use Rattle.ownership_rules.specs.Rules.{broken, first_or, lenient_tests, tests, verdict_from}
+pub use Rattle.ownership_rules.specs.Withdrawals.{is_passed}
+unfoldable pub use Rattle.ownership_rules.specs.Withdrawals.{is_bad_withdraw, is_left, some_flips, withdraws_badly}
 pub use Rattle.ownership_rules.specs.declared.refusal.Refusal.{Refusal}
 pub use Rattle.ownership_rules.specs.declared.refusal.Refusal.TheVariants.{AfterStop, BadDoorbell, BadFree, BadRing, BadWithdraw, ImpossibleEvent, NotInProfile, NotRestored, WriteToOwned}
 pub use Rattle.ring_knowledge.specs.Completions.{completed}
+pub use Rattle.ring_knowledge.specs.Histories.{header_now, known_after, known_now, restored}
+unfoldable pub use Rattle.ring_knowledge.specs.Histories.{forgotten, restored_on, ring_moved, ring_restored}
 pub use Rattle.ring_knowledge.specs.Known.{Known}
 unfoldable pub use Rattle.ring_knowledge.specs.Known.{nothing}
 unfoldable pub use Rattle.ring_knowledge.specs.Learned.{event_read, learned}
@@ -92,24 +96,19 @@ pub use Rattle.safety.proofs.StillPlacing.{still_reads}
 pub use Rattle.safety.proofs.TestsPassed.{AllFail, clean_tests, tests_fail}
 pub use Rattle.safety.proofs.UnfinishedBehind.{listed_unfinished}
 pub use Rattle.safety.proofs.Words.{no_flips}
-pub use Rattle.ownership_rules.specs.Rings.{is_transfer_ring, is_bad_ring}
 pub use Rattle.safety.specs.Harmless.{DoNoHarm}
 pub use Rattle.safety.specs.Keeps.{DriverKeeps, IsDriverRing, IsTransferRing}
-pub use Rattle.traces.specs.Rows.{IsComing, IsRow, is_ring_row}
-unfoldable pub use Rattle.ring_knowledge.specs.Histories.{forgotten, restored_on, ring_moved, ring_restored}
-unfoldable pub use Rattle.ownership_rules.specs.Rings.{is_bad_free}
 pub use Rattle.safety.specs.RingChanges.Histories.{AreKept, IsKept}
-pub use Rattle.ring_knowledge.specs.Histories.{header_now, known_after, known_now, restored}
 pub use Rattle.safety.specs.RingsKeep.{RingsKeep}
 pub use Rattle.segments.proofs.WalkReads.{walk_reads}
 pub use Rattle.segments.specs.Descriptors.{length_from}
 pub use Rattle.segments.specs.Givings.{flips_passed}
 unfoldable pub use Rattle.segments.specs.Givings.{descriptor_length, is_not_restored, unrestored}
 pub use Rattle.segments.specs.Places.{cycle_of}
-pub use Rattle.segments.specs.RingView.{Restores, RingView, Withdraws as WithdrawsAt, due_positions, floor_number, positions_given}
+pub use Rattle.segments.specs.RingView.{Restores, RingView, Withdraws, Withdraws as WithdrawsAt, due_positions, floor_number, positions_given}
 pub use Rattle.segments.specs.ShapeValue.{Shape}
-pub use Rattle.std.proofs.KnownBytes.{Consumes-trans}
 pub use Rattle.std.proofs.Common.{All, Bool, Err, List, None, Ok, Option, Result, Some, [], add-zero, ap, append-nil, append_assoc, arith, eqb-true, false, filter, get_or, inl, inr, length, lt-ltb, ltb, map, not, refl, rules, slice_get, slice_index, subst, suc, sym, true, zero, ℕ, ◌++◌, ◌+◌, ◌-◌, ◌<◌, ◌==◌, ◌^◌, ◌||◌, ◌∙◌, ◌∷◌, ◌≡◌, ◌≤◌}
+pub use Rattle.std.proofs.KnownBytes.{Consumes-trans}
 pub use Rattle.std.proofs.lemmas.Bool.{and_parts, cases_Bool, false≢true, not-false, or_parts}
 pub use Rattle.std.proofs.lemmas.Bool.Decides.{nat_tests}
 pub use Rattle.std.proofs.lemmas.Grind.{common_steps}
@@ -126,14 +125,15 @@ pub use Rattle.trace_reader.proofs.Streaming.CallsJoined.{calls_say_the_text, li
 pub use Rattle.trace_reader.proofs.Streaming.LineEnds.{ended_if_read}
 pub use Rattle.trace_reader.proofs.Streaming.RowsFit.{answer_fits}
 pub use Rattle.trace_reader.proofs.Streaming.Streams.{end_read, line_read_bad, opened_read, row_numbered, row_read}
+pub use Rattle.trace_reader.specs.Entries.{text_of}
 pub use Rattle.trace_reader.specs.Reading.{State, TraceText}
 unfoldable pub use Rattle.trace_reader.specs.Reading.{trace_of}
 pub use Rattle.trace_reader.specs.Streaming.Ahead.{OfLater, OfText, ahead_of}
 pub use Rattle.trace_reader.specs.Streaming.Answers.{IsCall, has_ended}
 pub use Rattle.trace_reader.specs.Streaming.ReaderState.{IsOpened, IsSameTrace, progress_of}
-pub use Rattle.trace_reader.specs.Streaming.Streams.{HasRead, IfBadLine, IsBadLine, OfStream}
 pub use Rattle.trace_reader.specs.Streaming.RowByRow.{Call, Progress}
 unfoldable pub use Rattle.trace_reader.specs.Streaming.RowByRow.{next_row}
+pub use Rattle.trace_reader.specs.Streaming.Streams.{HasRead, IfBadLine, IsBadLine, OfStream}
 pub use Rattle.trace_reader.specs.Streaming.WholeTexts.{GivenRows, answered, joined_behind, rows_given}
 pub use Rattle.trace_reader.specs.declared.fault.LineFault.{LineFault}
 pub use Rattle.trace_reader.specs.declared.row_reader.fault.StreamFault.{StreamFault}
@@ -157,12 +157,15 @@ pub use Rattle.trace_record.specs.declared.trace_record.TraceRecord.{TraceRecord
 pub use Rattle.traces.specs.Header.{IsHeader, command_ring, event_ring, id_or_none, is_driver_kind, is_transfer_kind, ring_with, shape_of}
 unfoldable pub use Rattle.traces.specs.Header.{command_id, event_shape, event_size}
 pub use Rattle.traces.specs.Limits.{most_streamed_lines}
-pub use Rattle.traces.specs.TraceRows.{IsTraceRow}
+pub use Rattle.traces.specs.LivingRings.{header_after, without_ring}
+unfoldable pub use Rattle.traces.specs.LivingRings.{with_ring}
+pub use Rattle.traces.specs.Rows.{IsComing, IsRow, is_ring_row}
+pub use Rattle.traces.specs.TraceRows.{IsRowOf, IsTraceRow}
 pub use Rattle.traces.specs.declared.header.Header.{Header}
 pub use Rattle.traces.specs.declared.register.Register.TheVariants.{Crcr}
 pub use Rattle.traces.specs.declared.ring.Ring.{Ring}
 pub use Rattle.traces.specs.declared.row.Row.{Row}
-pub use Rattle.traces.specs.declared.row.Row.TheVariants.{Bell, Read, Reg, Sub, Write, Ring as RingRow, Free as FreeRow, Nop as NopRow}
+pub use Rattle.traces.specs.declared.row.Row.TheVariants.{Bell, Free as FreeRow, Nop as NopRow, Read, Reg, Ring as RingRow, Sub, Write}
 pub use Rattle.trb.specs.Block.{aligned, cycle, kind, pointer}
 pub use Rattle.trb.specs.Descriptor.{is_command_left_out}
 pub use Rattle.trb.specs.Kind.{is_event, is_transfer_event}
@@ -171,5 +174,3 @@ pub use Rattle.trb.specs.declared.kind.BlockKind.{BlockKind}
 pub use Rattle.trb.specs.declared.kind.BlockKind.TheVariants.{CommandCompletion, TransferEvent}
 pub use Rattle.trb.specs.declared.ring_kind.RingKind.{RingKind}
 pub use Rattle.trb.specs.declared.ring_kind.RingKind.TheVariants.{Evt, Xfer}
-pub use Rattle.traces.specs.LivingRings.{header_after, without_ring}
-unfoldable pub use Rattle.traces.specs.LivingRings.{with_ring}

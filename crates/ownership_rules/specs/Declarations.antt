@@ -6,6 +6,7 @@ use Rattle.segments.specs.Givings.{has_no_room}
 use Rattle.traces.specs.declared.header.Header.{Header}
 use Rattle.traces.specs.declared.ring.Ring.{Ring}
 use Rattle.traces.specs.Header.{ring_with, shape_of, is_driver_kind}
+use Rattle.traces.specs.Versions.{profile_of}
 use Rattle.ring_knowledge.specs.Known.{Known}
 use Rattle.ownership_rules.specs.Refusal.{Test}
 use Rattle.ownership_rules.specs.declared.refusal.Refusal.TheVariants.{NotDeclared, RingFull, BadDescriptor, NotInProfile}
@@ -19,5 +20,5 @@ module _ (h : Header) where
   declaration_tests k r blocks =
       (NotDeclared, not (is_driver_ring (ring_with h r)))
       ∷ (RingFull, has_no_room (shape_of h r) (k.ring r) (length blocks))
-      ∷ (BadDescriptor, is_bad_descriptor (shape_of h r).kind blocks)
-      ∷ (NotInProfile, is_left_out (shape_of h r).kind blocks) ∷ []
+      ∷ (BadDescriptor, is_bad_descriptor (profile_of h.version) (shape_of h r).kind blocks)
+      ∷ (NotInProfile, is_left_out (profile_of h.version) (shape_of h r).kind blocks) ∷ []

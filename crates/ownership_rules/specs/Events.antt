@@ -6,7 +6,7 @@ use Rattle.trb.specs.declared.kind.BlockKind.TheVariants.{TransferEvent, Command
 use Rattle.trb.specs.Bits.{is_set}
 use Rattle.trb.specs.Block.{word, cycle, kind, pointer, code, slot, endpoint}
 use Rattle.trb.specs.Kind.{is_event, is_transfer_event}
-use Rattle.trb.specs.CompletionCode.{is_success, is_halting, is_trb_error, is_transfer_code}
+use Rattle.trb.specs.CompletionCode.{is_isoch_error, is_of_service, is_success, is_halting, is_stopping, is_trb_error, is_transfer_code}
 use Rattle.segments.specs.declared.spot.Spot.{Spot}
 use Rattle.segments.specs.Places.{address_of, cycle_of}
 use Rattle.segments.specs.Ceiling.{ceiling, is_data_below, is_open, is_stop_spot}
@@ -18,14 +18,11 @@ use Rattle.traces.specs.declared.header.Header.{Header}
 use Rattle.traces.specs.declared.register.Register.TheVariants.{Config}
 use Rattle.traces.specs.Header.{shape_of, command_id, event_shape, event_size}
 use Rattle.traces.specs.Register.{register_or_zero}
+use Rattle.traces.specs.Versions.{has_isoch}
 use Rattle.ring_knowledge.specs.Known.{Known}
-use Rattle.ring_knowledge.specs.Rings.{RingSpot, command_at, event_at, next_command}
+use Rattle.ring_knowledge.specs.Rings.{RingSpot, code_told, command_at, event_at, next_command}
 use Rattle.ownership_rules.specs.Refusal.{Test}
 use Rattle.ownership_rules.specs.declared.refusal.Refusal.TheVariants.{ImpossibleEvent, NotInProfile}
-
--- no Event Data (ED), and a code of the profile
-unfoldable pub is_in_profile : Block → Bool
-is_in_profile b = not (is_set (word b 3) 2) && is_transfer_code (code b)
 
 -- the endpoint is Running, and its ring open
 unfoldable pub is_working : Known → ℕ → ℕ → ℕ → Bool
@@ -44,6 +41,16 @@ can_finish k b (Some c) =
     && (if code b == 1 then can_succeed k.slot_state k.endpoint_state (register_or_zero k.register Config) (slot b) c else not (was_stop_seen k c))
 
 module _ (h : Header) where
+  -- a code of the profile: those of isochronous endpoints, and of their service, only where the version has such transfers
+  unfoldable pub is_code_of_profile : Known → Block → Bool
+  is_code_of_profile k b =
+      is_transfer_code (code b)
+      || (has_isoch h.version && (is_of_service (code b) || (k.isochronous (slot b) (endpoint b) && is_isoch_error (code b))))
+
+  -- no Event Data (ED), and a code of the profile
+  unfoldable pub is_in_profile : Known → Block → Bool
+  is_in_profile k b = not (is_set (word b 3) 2) && is_code_of_profile k b
+
   -- the controller may have come to the next command
   unfoldable pub may_be_taken : Known → Bool
   may_be_taken k = nat_lt (next_command h k) (ceiling (shape_of h (command_id h)) (k.ring (command_id h)))
@@ -57,15 +64,15 @@ module _ (h : Header) where
   can_report k c s i r t =
       if is_success c then is_data_below (ceiling (shape_of h r) (k.ring r)) t
       else if is_halting c || is_trb_error c then is_data_below (ceiling (shape_of h r) (k.ring r)) t && is_working k s i r
-      else is_working k s i r && is_stopping_now k s i && is_stop_spot (shape_of h r) (k.ring r) t
+      else is_stopping c && (is_working k s i r && is_stopping_now k s i && is_stop_spot (shape_of h r) (k.ring r) t)
 
   unfoldable pub can_report_at : Known → Block → Option RingSpot → Bool
-  can_report_at k b None = false
-  can_report_at k b (Some at) = can_report k (code b) (slot b) (endpoint b) at.ring at.spot
+  can_report_at k b None = is_of_service (code b)
+  can_report_at k b (Some at) = can_report k (code_told h k b) (slot b) (endpoint b) at.ring at.spot
 
   unfoldable pub is_impossible_transfer : Known → Block → Bool
   is_impossible_transfer k b =
-      is_in_profile b && (is_off (k.endpoint_state (slot b) (endpoint b)) || not (can_report_at k b (event_at h k b)))
+      is_in_profile k b && (is_off (k.endpoint_state (slot b) (endpoint b)) || not (can_report_at k b (event_at h k b)))
 
   unfoldable pub is_impossible_completion : Known → Block → Bool
   is_impossible_completion k b =
@@ -87,4 +94,4 @@ module _ (h : Header) where
       || is_impossible_by_kind k (kind b) b
 
   unfoldable pub event_tests : Known → Block → List Test
-  event_tests k b = (ImpossibleEvent, is_impossible k b) ∷ (NotInProfile, is_transfer_event (kind b) && not (is_in_profile b)) ∷ []
+  event_tests k b = (ImpossibleEvent, is_impossible k b) ∷ (NotInProfile, is_transfer_event (kind b) && not (is_in_profile k b)) ∷ []

@@ -6,7 +6,7 @@ use Rattle.traces.specs.declared.row.Row.{Row}
 use Rattle.traces.specs.declared.register.Register.TheVariants.{Erstsz, Erdp}
 use Rattle.traces.specs.declared.row.Row.TheVariants.{Write, Reg, Nop as NopRow}
 use Rattle.traces.specs.Header.{shape_of}
-use Rattle.traces.specs.Versions.{is_three}
+use Rattle.traces.specs.Versions.{is_lenient}
 use Rattle.ring_knowledge.specs.Known.{Known}
 use Rattle.ownership_rules.specs.declared.refusal.Refusal.{Refusal}
 use Rattle.ownership_rules.specs.declared.refusal.Refusal.TheVariants.{WriteToOwned, BadRegister, BadErdp, Busy, NotInProfile, BadMove}
@@ -32,7 +32,7 @@ module _ (h : Header) where
   -- what the trace's version refuses besides, by this rule
   unfoldable pub stricter : Known → Row → Refusal → Bool
   stricter k (NopRow r p) rule = is_passed h (shape_of h r) (k.ring r) p
-  stricter k row rule = older k row rule && not (is_three h.version)
+  stricter k row rule = older k row rule && not (is_lenient h.version)
 
   -- the write breaks WriteToOwned, by the trace's version
   unfoldable pub writes_to_owned : Known → ℕ → ℕ → Bool
@@ -40,12 +40,12 @@ module _ (h : Header) where
 
   -- of a command that is given: an unfinished command of its slot excludes it, or merely shares the slot where the version refuses that
   unfoldable pub has_busy_slot : Known → Command → Bool
-  has_busy_slot k c = (commands.shares_slot h k c && not (is_three h.version)) || commands.is_busy h k c
+  has_busy_slot k c = (commands.shares_slot h k c && not (is_lenient h.version)) || commands.is_busy h k c
 
   -- of a command that is given: an endpoint that is added has streams, or is isochronous where the version refuses that
   unfoldable pub has_left_out_endpoint : Known → Command → Bool
-  has_left_out_endpoint k c = (commands.adds_isochronous h k c && not (is_three h.version)) || commands.adds_streams h k c
+  has_left_out_endpoint k c = (commands.adds_isochronous h k c && not (is_lenient h.version)) || commands.adds_streams h k c
 
   -- of a command that is given: it binds or moves a ring where the version refuses that
   unfoldable pub places_badly : Known → Command → Bool
-  places_badly k c = (moves.binds_again h k c && not (is_three h.version)) || moves.is_bad_binding h k c || moves.is_bad_move h k c
+  places_badly k c = (moves.binds_again h k c && not (is_lenient h.version)) || moves.is_bad_binding h k c || moves.is_bad_move h k c

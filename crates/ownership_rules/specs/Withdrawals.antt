@@ -12,7 +12,7 @@ use Rattle.traces.specs.declared.header.Header.{Header}
 use Rattle.traces.specs.declared.row.Row.{Row}
 use Rattle.traces.specs.declared.row.Row.TheVariants.{Write}
 use Rattle.traces.specs.Header.{driver_rings, is_ring, shape_of}
-use Rattle.traces.specs.Versions.{is_three}
+use Rattle.traces.specs.Versions.{is_lenient}
 use Rattle.ring_knowledge.specs.Known.{Known}
 use Rattle.ownership_rules.specs.Doorbells.{is_touched}
 
@@ -35,7 +35,7 @@ module _ (h : Header) where
 
   -- what the trace's version refuses besides: versions 1 and 2 a descriptor below the ceiling, version 3 one that the floor has passed
   unfoldable pub is_passed : Shape → RingView → ℕ → Bool
-  is_passed shape v p = nat_lt p (if is_three h.version then floor_number v else ceiling shape v)
+  is_passed shape v p = nat_lt p (if is_lenient h.version then floor_number v else ceiling shape v)
 
   unfoldable pub withdraws_badly : Known → ℕ → ℕ → Bool
   withdraws_badly k r p = is_passed (shape_of h r) (k.ring r) p || is_bad_withdraw k r p

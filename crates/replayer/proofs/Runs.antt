@@ -1,6 +1,5 @@
 -- What a replay answers from a world on
-use Rattle.replayer.proofs.Words.{◌≡◌, ◌+◌, ◌<◌, ◌++◌, ◌∷◌, ℕ, List, append-nil, drop, get_or, length, Option, Some, None, Ok, Err, arith, common_steps, Step, Harm, harm_of, Seen, NotPossible, judged, Scene, scene_ending_from, scene_seen_from, HarmfulAt}
-use Rattle.controller_model.specs.Following.{IsStep}
+use Rattle.replayer.proofs.Words.{◌≡◌, ◌+◌, ◌<◌, ◌++◌, ◌∷◌, ℕ, List, append-nil, drop, get_or, length, Option, Some, None, Ok, Err, arith, common_steps, Step, Harm, harm_of, Seen, NotPossible, judged, Scene, scene_ending_from, scene_seen_from, HarmfulAt, IsStep}
 
 -- what a step that was made tells, and one that wasn't possible
 pub step_goes : {X : Type 0} (o : Option X) (seen shown : Seen) (P : X → Type 0) → IsStep (Ok seen) o shown P → (v : X) × (o ≡ Some v) × (seen ≡ shown) × P v

@@ -11,6 +11,7 @@ unfoldable pub use Rattle.contexts.specs.Contexts.{added_endpoints}
 pub use Rattle.contexts.specs.View.{View}
 pub use Rattle.contexts.specs.declared.size.ContextSize.{ContextSize}
 pub use Rattle.controller_model.proofs.RingRowLemmas.{none_dropped, nothing_listed, one_dropped, without_is}
+pub use Rattle.controller_model.specs.Following.{IsStep}
 unfoldable pub use Rattle.controller_model.specs.Showing.{scene_replayed, scene_seen_by, scene_seen_from, shows}
 pub use Rattle.controller_model.specs.Worlds.{StandsFor}
 pub use Rattle.controller_model.specs.declared.fault.StepFault.TheVariants.{NotPossible}
@@ -63,6 +64,7 @@ pub use Rattle.ring_knowledge.specs.Known.{Known}
 unfoldable pub use Rattle.ring_knowledge.specs.Known.{nothing}
 unfoldable pub use Rattle.ring_knowledge.specs.Learned.{learned}
 pub use Rattle.ring_knowledge.specs.RingRecords.{FollowsRing}
+pub use Rattle.ring_knowledge.specs.Rings.{code_told}
 unfoldable pub use Rattle.ring_knowledge.specs.Rings.{command_at, event_at, next_command}
 pub use Rattle.ring_knowledge.specs.declared.ring_record.RingRecord.{RingRecord}
 pub use Rattle.safety.proofs.CleanRows.{event_facts}
@@ -128,7 +130,7 @@ unfoldable pub use Rattle.traces.specs.Header.{command_id, command_ring, ring_ha
 pub use Rattle.traces.specs.Limits.{most_lines, most_streamed_lines}
 pub use Rattle.traces.specs.LivingRings.{header_after}
 unfoldable pub use Rattle.traces.specs.LivingRings.{with_ring, without_ring}
-pub use Rattle.traces.specs.Rows.{AreSteps, IsRow, IsStep, is_ring_row}
+pub use Rattle.traces.specs.Rows.{AreSteps, IsRow, is_ring_row}
 pub use Rattle.traces.specs.TraceRows.{AreRowsOf, IsRowOf, IsTraceRow}
 pub use Rattle.traces.specs.declared.header.Header.{Header}
 pub use Rattle.traces.specs.declared.ring.Ring.{Ring}

@@ -234,12 +234,12 @@ fn note_chained(case: &mut Case, index: usize) {
 
 /// Notes that TRBs of these types don't stand together.
 fn note_mixed(case: &mut Case) {
-    note_cause(
-        case,
-        0,
-        "Normal TRBs make a TD, and so do a Data Stage with Normal TRBs behind it; Setup Stage, Status Stage and No Op stand alone",
-        "log one `sub` row for each TD",
-    );
+    let cause = if case.header.version.has_isoch() {
+        "Normal TRBs make a TD, and so do a Data Stage or an Isoch TRB with Normal TRBs behind it; Setup Stage, Status Stage and No Op stand alone"
+    } else {
+        "Normal TRBs make a TD, and so do a Data Stage with Normal TRBs behind it; Setup Stage, Status Stage and No Op stand alone"
+    };
+    note_cause(case, 0, cause, "log one `sub` row for each TD");
 }
 
 const OTHER_RING: &str = "submit it on a ring of the other kind, or mend its TRB Type";

@@ -5,12 +5,12 @@ use guest_memory::Addr;
 use ring_knowledge::{RingGiving, RingRecord};
 use row_history::Shown::{Address, Id, Line, Name, Number, Pointer, Small, Word};
 use row_history::{
-    Case, Shown, declared_now, endpoint_with, going, last_event, line_of, note_unchanged,
-    position_at, ring_at, ring_with, submission, trb_at, write_to_area,
+    Case, Shown, code_name, declared_now, endpoint_with, going, last_event, line_of,
+    note_unchanged, position_at, ring_at, ring_with, submission, trb_at, write_to_area,
 };
 use segments::{Place, Segment};
 use traces::{Ring, Row};
-use trb::{Block, BlockKind, RingKind};
+use trb::{Block, BlockKind, RingKind, is_of_service, is_stopping};
 
 /// A write to memory that the controller owns.
 pub fn write_to_owned(case: &mut Case, address: u64, word: u32) {
@@ -47,7 +47,7 @@ fn write_to_ring(case: &mut Case, ring: &Ring, known: &RingRecord, address: u64,
         "the Cycle bit written here hands it to the controller",
         &[],
     );
-    note_stopped(case, address & !15);
+    note_left(case, address & !15);
     if note_unchanged(case, address, word) {
         return;
     }
@@ -124,7 +124,7 @@ fn help_to_withdraw(case: &mut Case, ring: &Ring, known: &RingRecord, address: u
 /// The first position of the TD that has the TRB at an address, where it may be withdrawn by its place.
 fn withdrawable(case: &Case, ring: &Ring, known: &RingRecord, address: u64) -> Option<u64> {
     let floor = known.floor_number();
-    let least = if case.header.version.is_three() {
+    let least = if case.header.version.is_lenient() {
         floor
     } else {
         known.ceiling()
@@ -139,25 +139,37 @@ fn withdrawable(case: &Case, ring: &Ring, known: &RingRecord, address: u64) -> O
     }
 }
 
-/// Notes that a Stopped event named the TRB, which it leaves with the controller.
-fn note_stopped(case: &mut Case, base: u64) {
+/// Notes that an event named the TRB which leaves it with the controller: a Stopped event, or one of the endpoint's service.
+fn note_left(case: &mut Case, base: u64) {
     let Some(read) = last_event(case.before, BlockKind::TransferEvent, base) else {
         return;
     };
     let gave = case.known.last_writer(base | 12);
-    if gave.is_some_and(|gave| gave < read) && reads_stop(case.before.get(read)) {
+    if !gave.is_some_and(|gave| gave < read) {
+        return;
+    }
+    let (code, line) = (
+        code_read(case.before.get(read)),
+        Line(line_of(case.first, read)),
+    );
+    if is_stopping(code) {
         case.note(
             "the Stopped event of row {} names it, and gives back the TRBs before it alone (xHCI 4.6.9)",
-            &[Line(line_of(case.first, read))],
+            &[line],
+        );
+    } else if is_of_service(code) {
+        case.note(
+            "the event of row {} names it ({}), and gives no TRB back (xHCI 4.10.3)",
+            &[line, Name(code_name(code))],
         );
     }
 }
 
-/// Whether a row reads a Stopped event.
-fn reads_stop(row: Option<&Row>) -> bool {
+/// The Completion Code of the event that a row reads; 0 where it reads none.
+fn code_read(row: Option<&Row>) -> u8 {
     match row {
-        Some(Row::Read { event }) => matches!(event.code(), 26..=28),
-        _ => false,
+        Some(Row::Read { event }) => event.code(),
+        _ => 0,
     }
 }
 

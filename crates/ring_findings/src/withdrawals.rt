@@ -5,8 +5,7 @@ use ring_knowledge::RingRecord;
 use row_history::Shown::{Address, Id, Name, Nth, Number};
 use row_history::{
     Case, Endpoint, Shown, Submitted, Unfinished, command_name, endpoint_with, going, last_bell,
-    last_halt, note_dropped, past_of, ring_known, submission, trb_named, unfinished_on,
-    unfinished_touching,
+    note_dropped, past_of, ring_known, submission, trb_named, unfinished_on, unfinished_touching,
 };
 use traces::{Ring, Row};
 use trb::{BlockKind, RingKind};
@@ -91,7 +90,7 @@ fn tell_touched(case: &mut Case, id: u8, had: Endpoint, given: Unfinished) {
 /// Of an endpoint that isn't Stopped: what started it, or brought it to a halt.
 fn tell_working(case: &mut Case, id: u8, had: Endpoint, state: EndpointState) {
     let place = Shown::Endpoint(had.slot, had.endpoint);
-    let halt = last_halt(case.before, had.slot, had.endpoint);
+    let halt = case.known.halted_by(had.slot, had.endpoint);
     case.head("a TD is withdrawn while its endpoint is not Stopped", &[]);
     match state {
         EndpointState::Error => {
@@ -200,7 +199,7 @@ fn tell_td(case: &mut Case, id: u8, known: &RingRecord, td: Submitted, had: Endp
         case.help("leave the row out", &[]);
     } else if back > 0 {
         tell_passed(case, id, known, td, back);
-    } else if !case.header.version.is_three() && td.first < known.ceiling() {
+    } else if !case.header.version.is_lenient() && td.first < known.ceiling() {
         tell_begun(case, id, known, had);
     } else {
         case.head("a TD is withdrawn that may not be", &[]);

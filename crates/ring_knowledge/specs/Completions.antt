@@ -13,7 +13,7 @@ use Rattle.commands.specs.declared.command.Command.TheVariants.{StopEndpoint}
 use Rattle.commands.specs.declared.state.EndpointState.{EndpointState}
 use Rattle.commands.specs.declared.state.EndpointState.TheVariants.{Disabled as Off, Stopped}
 use Rattle.commands.specs.States.{is_off}
-use Rattle.commands.specs.Changes.{Change, SlotGoesOn, DeviceLeft, Disables, Places, Stops, Resets, changes, slot_gone_on}
+use Rattle.commands.specs.Changes.{Change, SlotGoesOn, DeviceLeft, Types, Disables, Places, Stops, Resets, changes, slot_gone_on}
 use Rattle.traces.specs.declared.header.Header.{Header}
 use Rattle.traces.specs.Header.{shape_of, command_id, ring_having}
 use Rattle.ring_knowledge.specs.Known.{Known}
@@ -49,6 +49,10 @@ module _ (h : Header) where
     ring_of = λ t i. if t == s && which i then None else k.ring_of t i;
   }
 
+  -- of the endpoints of a slot that a test names those are isochronous that another one names
+  unfoldable pub typed : Known → ℕ → (ℕ → Bool) → (ℕ → Bool) → Known
+  typed k s which isochronous = record k { isochronous = λ t i. if t == s && which i then isochronous i else k.isochronous t i }
+
   unfoldable pub in_state : Known → ℕ → ℕ → EndpointState → Known
   in_state k s i state = record k { endpoint_state = put_pair k.endpoint_state s i state }
 
@@ -60,6 +64,7 @@ module _ (h : Header) where
   unfoldable pub changed_by : Command → Known → Change → Known
   changed_by c k (SlotGoesOn s) = record k { slot_state = slot_gone_on c k.slot_state s }
   changed_by c k (DeviceLeft s) = record k { device = put k.device s None }
+  changed_by c k (Types s which isochronous) = typed k s which isochronous
   changed_by c k (Disables s which) = disabled k s which
   changed_by c k (Places s i p cycle state) = record (in_state (pointed k s i p cycle) s i state) { must_move = put_pair k.must_move s i false }
   changed_by c k (Stops s i) = held_at_ceiling (in_state k s i Stopped) (k.ring_of s i)

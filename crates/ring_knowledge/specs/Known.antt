@@ -23,6 +23,8 @@ pub record Known : Type 0 where
   pub slot_state : ℕ → SlotState
   pub endpoint_state : ℕ → ℕ → EndpointState
   pub ring_of : ℕ → ℕ → Option ℕ
+  -- the endpoint is isochronous, by the context that added it last
+  pub isochronous : ℕ → ℕ → Bool
   -- the endpoint halted, and its ring wasn't moved since
   pub must_move : ℕ → ℕ → Bool
   -- a Stopped event was read, and the completion of its Stop Endpoint not yet
@@ -47,6 +49,7 @@ nothing = record {
   slot_state = λ s. Disabled;
   endpoint_state = λ s i. Off;
   ring_of = λ s i. None;
+  isochronous = λ s i. false;
   must_move = λ s i. false;
   stop_seen = λ s i. false;
   device = λ s. None;

@@ -1,9 +1,10 @@
 -- Rings as they are known: what a write gives of them, what an event names, which commands are unfinished: xHCI 4.9.2, 4.6
-use Rattle.std.specs.Prelude.{ℕ, List, ◌++◌, map, Option, Some, None, option_and_then, option_map, slice_get, filter}
+use Rattle.std.specs.Prelude.{ℕ, List, ◌++◌, ◌&&◌, if◌then◌else◌, map, Option, Some, None, option_and_then, option_map, slice_get, filter}
 use Rattle.std.specs.List.{flat_map, filter_map}
 use Rattle.guest_memory.specs.Memory.{put}
 use Rattle.trb.specs.declared.block.Block.{Block}
-use Rattle.trb.specs.Block.{pointer, slot, endpoint}
+use Rattle.trb.specs.Block.{code, pointer, slot, endpoint}
+use Rattle.trb.specs.CompletionCode.{counted_code, is_of_service}
 use Rattle.segments.specs.declared.spot.Spot.{Spot}
 use Rattle.segments.specs.RingView.{RingChange, changed, due_positions, floor_number, positions_given, crossings_given}
 use Rattle.segments.specs.Ceiling.{named}
@@ -11,6 +12,7 @@ use Rattle.commands.specs.declared.command.Command.{Command}
 use Rattle.commands.specs.Command.{command_of}
 use Rattle.traces.specs.declared.header.Header.{Header}
 use Rattle.traces.specs.Header.{shape_of, command_id, driver_rings}
+use Rattle.traces.specs.Versions.{has_isoch}
 use Rattle.ring_knowledge.specs.Known.{Known}
 
 -- what a write may give: a position, or a crossing, of a ring
@@ -41,8 +43,13 @@ module _ (h : Header) where
   spot_on k a None = None
   spot_on k a (Some r) = option_map (λ t. record { ring = r; spot = t }) (named (shape_of h r) (k.ring r) a)
 
+  -- where it tells of the service of its endpoint it names none
   unfoldable pub event_at : Known → Block → Option RingSpot
-  event_at k b = spot_on k (pointer b) (k.ring_of (slot b) (endpoint b))
+  event_at k b = if is_of_service (code b) then None else spot_on k (pointer b) (k.ring_of (slot b) (endpoint b))
+
+  -- how the code of a Transfer Event counts
+  unfoldable pub code_told : Known → Block → ℕ
+  code_told k b = counted_code (has_isoch h.version && k.isochronous (slot b) (endpoint b)) (code b)
 
   -- the position of the command ring whose command is finished next
   unfoldable pub next_command : Known → ℕ

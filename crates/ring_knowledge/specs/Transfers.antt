@@ -2,7 +2,7 @@
 use Rattle.std.specs.Prelude.{ℕ, ◌+◌, if◌then◌else◌, true, Option, Some, None}
 use Rattle.guest_memory.specs.Memory.{put_pair}
 use Rattle.trb.specs.declared.block.Block.{Block}
-use Rattle.trb.specs.Block.{code, slot, endpoint}
+use Rattle.trb.specs.Block.{slot, endpoint}
 use Rattle.trb.specs.CompletionCode.{is_success, is_halting, is_trb_error, is_stopping}
 use Rattle.segments.specs.declared.spot.Spot.{Spot}
 use Rattle.segments.specs.Spots.{number, after}
@@ -13,7 +13,7 @@ use Rattle.commands.specs.declared.state.EndpointState.TheVariants.{Halted, Erro
 use Rattle.traces.specs.declared.header.Header.{Header}
 use Rattle.traces.specs.Header.{shape_of}
 use Rattle.ring_knowledge.specs.Known.{Known}
-use Rattle.ring_knowledge.specs.Rings.{RingSpot, event_at, on_ring}
+use Rattle.ring_knowledge.specs.Rings.{RingSpot, code_told, event_at, on_ring}
 
 module _ (h : Header) where
   -- the block at a spot is finished
@@ -39,7 +39,7 @@ module _ (h : Header) where
 
   unfoldable pub transferred_at : Known → Block → Option RingSpot → Known
   transferred_at k b None = k
-  transferred_at k b (Some at) = transferred k (code b) (slot b) (endpoint b) at.ring at.spot
+  transferred_at k b (Some at) = transferred k (code_told h k b) (slot b) (endpoint b) at.ring at.spot
 
   unfoldable pub transfer_read : Known → Block → Known
   transfer_read k b = transferred_at k b (event_at h k b)

@@ -1,1 +1,2 @@
 mod RingsNow
+pub mod BaseWords

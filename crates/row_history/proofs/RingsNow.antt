@@ -1,12 +1,5 @@
 -- Rings that may stand together, with one more, and with one left out
-use Rattle.std.proofs.Common.{◌≡◌, ◌<◌, ◌||◌, ◌&&◌, ◌++◌, ◌∷◌, ◌∙◌, ℕ, zero, suc, not, Bool, true, false, List, [], nat_lt, refl, lt-ltb}
-use Rattle.std.specs.List.{list_all, list_any, remove}
-use Rattle.std.proofs.lemmas.Bool.{and_from, and_parts, not-true, not_from_false, or_from, or_parts}
-use Rattle.std.proofs.lemmas.List.Folds.{list_any-append}
-use Rattle.segments.specs.Shape.{is_shape}
-use Rattle.traces.specs.declared.header.Header.{Header}
-use Rattle.traces.specs.declared.ring.Ring.{Ring}
-use Rattle.traces.specs.Header.{IsHeader, clash, may_stand_together}
+use Rattle.row_history.proofs.BaseWords.{◌≡◌, ◌<◌, ◌||◌, ◌&&◌, ◌++◌, ◌∷◌, ◌∙◌, ℕ, zero, suc, not, Bool, true, false, List, [], nat_lt, refl, lt-ltb, list_all, list_any, remove, and_from, and_parts, not-true, not_from_false, or_from, or_parts, list_any-append, is_shape, Header, Ring, IsHeader, clash, may_stand_together}
 
 abbrev sound : Ring → Bool
 sound r = nat_lt r.id 256 && is_shape r.shape

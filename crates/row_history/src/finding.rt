@@ -317,6 +317,17 @@ pub fn note_dropped(case: &mut Case, slot: u8, endpoint: u8) -> bool {
     true
 }
 
+/// Points at the completion by which an endpoint got its ring, where it has one.
+pub fn mark_adding(case: &mut Case, slot: u8, endpoint: u8) {
+    if let Some(id) = case.known.devices.ring_of(slot, endpoint) {
+        case.mark(
+            case.known.bound_by(id, slot, endpoint),
+            "this completion added the endpoint",
+            &[],
+        );
+    }
+}
+
 /// The line of a row, by its index.
 pub fn line_of(first: u32, index: usize) -> u32 {
     first.saturating_add(u32::try_from(index).unwrap_or(u32::MAX))

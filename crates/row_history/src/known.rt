@@ -15,7 +15,7 @@ use ring_knowledge::{RingGiving, RingRecord};
 use std::alloc::{AllocError, Global};
 use trace_record::{DeviceRecord, Finder, Named};
 use traces::{Header, Register, Ring, Rings, Row, Version};
-use trb::{Block, BlockKind};
+use trb::{Block, BlockKind, is_halting, is_stopping, is_success, is_trb_error};
 
 /// That an endpoint got a ring.
 #[derive(Clone, Copy)]
@@ -48,12 +48,12 @@ pub struct Taking {
     pub row: usize,
 }
 
-/// That a Stop Endpoint succeeded.
+/// That an event was read which says of an endpoint that it rests.
 #[derive(Clone, Copy)]
-pub struct Stopping {
+pub struct Resting {
     pub slot: u8,
     pub endpoint: u8,
-    /// The index of the row that read its completion.
+    /// The index of the row that read the event.
     pub row: usize,
 }
 
@@ -74,8 +74,10 @@ pub struct Known {
     pub droppings: Vec<Dropping>,
     /// In the order of their rows.
     pub takings: Vec<Taking>,
-    /// In the order of their rows.
-    pub stops: Vec<Stopping>,
+    /// The Stop Endpoints that succeeded, in the order of their rows.
+    pub stops: Vec<Resting>,
+    /// The Transfer Events by which an endpoint came into the state Halted or Error (xHCI 4.8.3), in the order of their rows.
+    pub halts: Vec<Resting>,
     /// Where the DCBAA lies, once DCBAAP was written.
     pub array: Option<u64>,
 }
@@ -146,6 +148,7 @@ impl Known {
             droppings: Vec::new(alloc),
             takings: Vec::new(alloc),
             stops: Vec::new(alloc),
+            halts: Vec::new(alloc),
             array: None,
         })
     }
@@ -437,7 +440,8 @@ impl Known {
         row: usize,
         event: Block,
     ) -> Result<(), AllocError> {
-        let (slot, endpoint, code) = (event.slot(), event.endpoint(), event.code());
+        let (slot, endpoint) = (event.slot(), event.endpoint());
+        let code = self.devices.code_told(header, event);
         let Some(id) = self.devices.ring_of(slot, endpoint) else {
             return Ok(());
         };
@@ -450,14 +454,33 @@ impl Known {
             self.pasts.get_mut(number),
         ) {
             if let Some(spot) = known.named(&ring.shape, event.pointer()) {
-                match code {
-                    1 | 13 => known.pass(&ring.shape, spot),
-                    3 | 4 | 5 | 6 | 36 => known.break_off(&ring.shape, spot),
-                    26 | 27 | 28 => known.stop_at(&ring.shape, spot),
-                    _ => {}
+                if is_success(code) {
+                    known.pass(&ring.shape, spot);
+                } else if is_failure(code) {
+                    known.break_off(&ring.shape, spot);
+                } else if is_stopping(code) {
+                    known.stop_at(&ring.shape, spot);
                 }
             }
             past.note_passed(row, known.floor_number())?;
+        }
+        self.learn_state(row, slot, endpoint, code)
+    }
+
+    /// A Transfer Event was read whose code counts so at its endpoint.
+    fn learn_state(
+        &mut self,
+        row: usize,
+        slot: u8,
+        endpoint: u8,
+        code: u8,
+    ) -> Result<(), AllocError> {
+        if is_failure(code) {
+            self.halts.push(Resting {
+                slot,
+                endpoint,
+                row,
+            })?;
         }
         if endpoint < 32 {
             self.devices.read_transfer(code, slot, endpoint);
@@ -556,6 +579,7 @@ impl Known {
                 ..
             } => {
                 self.devices.go_on(&command, slot);
+                self.learn_types(header, slot, input_context);
                 let dropped = Named::Dropped(self.word(input_context));
                 self.note_droppings(row, command, slot, dropped)?;
                 self.devices.disable(slot, dropped);
@@ -567,7 +591,7 @@ impl Known {
                 }
             }
             Command::StopEndpoint { slot, endpoint } => {
-                self.stops.push(Stopping {
+                self.stops.push(Resting {
                     slot,
                     endpoint,
                     row,
@@ -647,13 +671,12 @@ impl Known {
 
     /// The row by which a Stop Endpoint of an endpoint succeeded last.
     pub fn stopped_by(&self, slot: u8, endpoint: u8) -> Option<usize> {
-        let mut last = None;
-        for stopped in &self.stops {
-            if stopped.slot == slot && stopped.endpoint == endpoint {
-                last = Some(stopped.row);
-            }
-        }
-        last
+        last_resting(self.stops.as_slice(), slot, endpoint)
+    }
+
+    /// The row that read the last event by which an endpoint came into the state Halted or Error.
+    pub fn halted_by(&self, slot: u8, endpoint: u8) -> Option<usize> {
+        last_resting(self.halts.as_slice(), slot, endpoint)
     }
 
     /// The command that disabled an endpoint last.
@@ -678,6 +701,16 @@ impl Known {
         }
         if endpoint < 32 {
             self.devices.stop(slot, endpoint);
+        }
+    }
+
+    /// The endpoints above the default control endpoint that an Input Context adds are isochronous, or aren't.
+    fn learn_types(&mut self, header: &Header, slot: u8, context: u64) {
+        for endpoint in 2..32 {
+            if let Some(added) = self.added(header, context, endpoint) {
+                self.devices
+                    .note_type(slot, endpoint, is_isochronous(added));
+            }
         }
     }
 
@@ -808,6 +841,23 @@ impl Known {
             None => 0,
         }
     }
+}
+
+/// An error behind which an endpoint is Halted or in the state Error.
+fn is_failure(code: u8) -> bool {
+    is_halting(code) || is_trb_error(code)
+}
+
+/// EP Type 1 and 5 (xHCI 6.2.3).
+pub fn is_isochronous(added: EndpointContext) -> bool {
+    added.ep_type % 4 == 1
+}
+
+/// The last of these rows of an endpoint.
+fn last_resting(rows: &[Resting], slot: u8, endpoint: u8) -> Option<usize> {
+    let last = rows.iter().rposition(|resting| resting.slot == slot
+        && resting.endpoint == endpoint)?;
+    Some(rows.get(last)?.row)
 }
 
 /// Whether an endpoint is among those that are disabled.

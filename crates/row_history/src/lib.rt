@@ -20,9 +20,9 @@ pub use areas::{
 };
 pub use event_places::given_back;
 pub use finding::{
-    Case, Finding, Mark, Shown, line_of, note_dropped, ring_at, ring_known, text_with,
+    Case, Finding, Mark, Shown, line_of, mark_adding, note_dropped, ring_at, ring_known, text_with,
 };
-pub use known::{Behind, Binding, Dropping, Known, Stopping, Taking, known_after};
+pub use known::{Behind, Binding, Dropping, Known, Resting, Taking, is_isochronous, known_after};
 pub use positions::{
     NO_OP, begun_with_0, declared_now, is_handed_over, past_of, position_at, position_given,
     submission, trb_named,
@@ -30,8 +30,8 @@ pub use positions::{
 pub use ring_past::{FreeTrb, RingPast, Submitted};
 pub use rings::{Endpoint, endpoint_with, shown_first_lap};
 pub use rows::{
-    going, last_bell, last_event, last_halt, last_read, last_register, last_write, reads,
-    register_value, start, stop, word_at,
+    going, last_bell, last_event, last_read, last_register, last_write, reads, register_value,
+    start, stop, word_at,
 };
 pub use soiled::{SoiledWord, soiled_word};
 pub use unfinished::{

@@ -3,7 +3,7 @@ ghost use Rattle.std.specs.Prelude.{◌≡◌, ◌<◌, length, IfSome, true, sl
 ghost use Rattle.row_history.specs.Rows.{is_writer, writes_word};
 
 use traces::{Register, Row};
-use trb::{Block, BlockKind};
+use trb::BlockKind;
 
 /// Whether a row writes the word at this address.
 fn writes(row: &Row, address: u64) -> bool
@@ -122,26 +122,6 @@ pub fn reads(rows: &[Row]) -> usize {
 
 fn is_read(row: &Row) -> bool {
     matches!(row, Row::Read { .. })
-}
-
-/// The last of the rows that reads an event by which an endpoint came into the state Halted or Error (xHCI 4.8.3).
-pub fn last_halt(rows: &[Row], slot: u8, endpoint: u8) -> Option<usize> {
-    let mut last = None;
-    for (index, row) in rows.iter().enumerate() {
-        if let Row::Read { event } = row {
-            if is_halt(*event, slot, endpoint) {
-                last = Some(index);
-            }
-        }
-    }
-    last
-}
-
-fn is_halt(event: Block, slot: u8, endpoint: u8) -> bool {
-    event.kind() == BlockKind::TransferEvent
-        && event.slot() == slot
-        && event.endpoint() == endpoint
-        && matches!(event.code(), 3..=6 | 36)
 }
 
 /// The last of the rows that reads an event of this type with this pointer.

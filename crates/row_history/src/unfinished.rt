@@ -93,11 +93,11 @@ fn may_change(case: &Case, command: Command, endpoint: u8) -> bool {
 
 /// The first unfinished command by which a command of its slot may not be given now.
 pub fn unfinished_beside(case: &Case, command: Command) -> Option<Unfinished> {
-    let is_three = case.header.version.is_three();
+    let is_lenient = case.header.version.is_lenient();
     let mut all = case.unfinished.iter();
     all.find(|given| {
         given.command.slot() == command.slot()
-            && !(is_three && name_two_endpoints(given.command, command))
+            && !(is_lenient && name_two_endpoints(given.command, command))
     }).copied()
 }
 

@@ -6,16 +6,17 @@ const HEADER: &str = "\
 the first line, or the second of a trace, is not as it must be
 
 What is wrong
-  A trace begins with `xtrace 1`, `xtrace 2` or `xtrace 3`, and its second line
-  is `ctx 20` or `ctx 40`; a plan begins with `xplan 1`, a schedule with
+  A trace begins with `xtrace 1`, `2`, `3` or `4`, and its second line is
+  `ctx 20` or `ctx 40`; a plan begins with `xplan 1`, a schedule with
   `xsched 1`. Nothing stands before that: no empty line, no comment, no byte
   order mark. A text that ends before its second line is told so too. Of a
   replay `harm 1` is another matter: xhcitrace explain harm-1.
 
 What to write instead
-  `xtrace 3`, and as CSZ of HCCPARAMS1 says (xHCI 5.3.6) `ctx 20`, contexts of
-  32 bytes, or `ctx 40`, of 64: in hex digits. Save the file as UTF-8 without a
-  byte order mark, with line feeds alone.
+  `xtrace 3`, of a driver with isochronous endpoints `xtrace 4`; and as CSZ of
+  HCCPARAMS1 says (xHCI 5.3.6) `ctx 20`, contexts of 32 bytes, or `ctx 40`, of
+  64: in hex digits. Save the file as UTF-8 without a byte order mark, with line
+  feeds alone.
 
 A trace that has it
   Line 2 names the size of a context in decimal.
@@ -76,7 +77,7 @@ a line too many, too long, or with too many TRBs
 
 What is wrong
   A line has at most 16,384 bytes, a `sub` row 256 TRBs. A trace of `xtrace 3`
-  has at most 4,294,967,294 lines, and 1,048,576 for `check --show`,
+  or `4` has at most 4,294,967,294 lines, and 1,048,576 for `check --show`,
   `schedule` and `replay`; so have traces of `xtrace 1` and `2`, and plans; a
   schedule has 4,194,304. Of a replay `harm 4` is another matter: xhcitrace
   explain harm-4.

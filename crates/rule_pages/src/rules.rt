@@ -22,8 +22,8 @@ What to write instead
   behind it. A TRB is yours again once you have read an event of its TD or of
   a later one of its ring, or have moved the ring past it (Stop Endpoint, Set
   TR Dequeue Pointer). The same word stored once more does no harm. Versions
-  1 and 2 refuse it too; version 3 only in Device Contexts and the Event Ring,
-  where the controller writes.
+  1 and 2 refuse it too; versions from 3 on only in Device Contexts and the
+  Event Ring, where the controller writes.
 
 A trace that breaks it
   Row 5 hands a No Op over; row 6 stores into it, and is refused.
@@ -220,9 +220,9 @@ What a controller does to a driver that breaks it
 What to write instead
   Reset first; then the ERST in memory, ERSTSZ, ERDP, ERSTBA; CRCR with the
   address of the Command Ring's first TRB and RCS 1; DCBAAP; CONFIG; Run/Stop
-  last. A register of 64 bits is one row, at its second half. `xtrace 3` lets
-  ERSTSZ and ERDP be written more often before the start: their last values
-  count.
+  last. A register of 64 bits is one row, at its second half. `xtrace 3` and
+  `4` let ERSTSZ and ERDP be written more often before the start: their last
+  values count.
 
 A trace that breaks it
   Row 4 writes CRCR with RCS 0, and is refused.
@@ -302,8 +302,8 @@ What a controller does to a driver that breaks it
 
 What to write instead
   Read the completion of the first command before you write the second. In
-  `xtrace 3` Stop Endpoint, Reset Endpoint and Set TR Dequeue Pointer of
-  different endpoints may be unfinished side by side. (xHCI lets a driver
+  `xtrace 3` and `4` Stop Endpoint, Reset Endpoint and Set TR Dequeue Pointer
+  of different endpoints may be unfinished side by side. (xHCI lets a driver
   enqueue any commands for one slot one behind the other; that isn't judged
   here.)
 
@@ -339,8 +339,8 @@ an event that no controller can have posted
 What it is for
   What the driver reads as an event is one: with the Cycle bit of its Consumer
   Cycle State, of a TRB that was handed over, behind a doorbell, or of the
-  command that is next; with a code that fits the endpoint's state (xHCI 4.6,
-  4.8.3, 4.9.4, 4.10, 6.4.2).
+  command that is next; with a code that fits the endpoint's type and state
+  (xHCI 4.6, 4.8.3, 4.9.4, 4.10, 6.4.2).
 
 What a controller does to a driver that breaks it
   It has posted no such event. Mostly the driver read one of the last lap, and
@@ -385,8 +385,8 @@ What a controller does to a driver that breaks it
 
 What to write instead
   Write ERDP behind the reads, with the address of the first event that you
-  haven't read. `xtrace 3` passes over an ERDP before the start that is no
-  place of the ring, if the right one follows.
+  haven't read. `xtrace 3` and `4` pass over an ERDP before the start that is
+  no place of the ring, if the right one follows.
 
 A trace that breaks it
   Row 4 moves ERDP one event on before anything was read, and is refused.
@@ -401,24 +401,25 @@ const NOT_IN_PROFILE: &str = "\
 what xHCI allows and this checker leaves out
 
 What it is for
-  Left out are isochronous TDs, streams, Event Data, interrupters other than
-  0, some commands and completion codes, and Link TRBs with IOC; README has
-  the whole list. `xtrace 3` lets an isochronous endpoint be added that stays
-  unused; `xtrace 1` and `2` don't.
+  Left out are streams, Event Data, interrupters other than 0, some commands
+  and completion codes, and Link TRBs with IOC; README has the whole list. Only
+  `xtrace 4` has Isoch TRBs, and what events say of isochronous endpoints.
+  `xtrace 3` lets such an endpoint be added; `xtrace 1` and `2` don't.
 
 What a controller does to a driver that breaks it
   Nothing is said of what a controller does. This refusal is no bug.
 
 What to write instead
-  Nothing. Record a run of the driver without it.
+  Nothing. Record a run of the driver without it; of isochronous endpoints
+  begin the trace with `xtrace 4`.
 
 A trace that breaks it
-  Row 4 submits an isochronous TRB, and is refused.
+  Row 4 submits an Event Data TRB, and is refused.
 
     xtrace 1
     ctx 20
     ring 02 xfer 0000000000030000:0004
-    sub 02 00001000 00000000 00000200 00001420
+    sub 02 00001000 00000000 00000000 00001c20
 ";
 
 const AFTER_STOP: &str = "\
@@ -470,11 +471,11 @@ What a controller does to a driver that breaks it
 
 What to write instead
   A new endpoint: the first TRB of a ring that no endpoint had, with DCS 1. In
-  `xtrace 3` also any ring that no other endpoint keeps, at the TRB past which
-  the controller can't have gone: it halted or was stopped there, or no later
-  TRB was handed over. Set TR Dequeue Pointer: of an endpoint that rests, to
-  the first TRB of a TD that can't have been begun, or behind the last TD. DCS
-  is the Cycle bit of that place in this lap.
+  `xtrace 3` and `4` also any ring that no other endpoint keeps, at the TRB
+  past which the controller can't have gone: it halted or was stopped there,
+  or no later TRB was handed over. Set TR Dequeue Pointer: of an endpoint that
+  rests, to the first TRB of a TD that can't have been begun, or behind the
+  last TD. DCS is the Cycle bit of that place in this lap.
 
 A trace that breaks it
   Row 25 hands over an Address Device whose ring has DCS 0, and is refused.
@@ -511,7 +512,7 @@ a TD is withdrawn that may not be
 
 What it is for
   A driver cancels a TD of a stopped ring by turning its TRBs into No Ops; a
-  `nop` row (of `xtrace 2` and `3`) says so before the first of these writes.
+  `nop` row (from `xtrace 2` on) says so before the first of these writes.
   An endpoint that has the ring is Stopped then, no unfinished command touches
   it, and at the position that the row names a TD begins of which nothing was
   withdrawn before (xHCI 4.6.9, 6.4.1.4.1).
@@ -567,7 +568,7 @@ const NOT_RESTORED: &str = "\
 a ring goes on before its withdrawn TDs are No Ops
 
 What it is for
-  Behind a `nop` row (of `xtrace 2` and `3`) the TRBs of the withdrawn TD are
+  Behind a `nop` row (from `xtrace 2` on) the TRBs of the withdrawn TD are
   the driver's to write. They are the controller's again with the next doorbell
   of the ring's endpoint, or with the Set TR Dequeue Pointer that is handed
   over for it. Each that was handed over before is a No Op by then: words 0 to
@@ -629,7 +630,7 @@ const BAD_FREE: &str = "\
 a ring is freed that is not the driver's to free
 
 What it is for
-  A `free` row (of `xtrace 2` and `3`) says that the memory of a Transfer Ring
+  A `free` row (from `xtrace 2` on) says that the memory of a Transfer Ring
   is the driver's again. No endpoint has the ring: each that had it is
   Disabled by a command whose completion was read. And no unfinished command
   gives it to one. The Command Ring and the Event Ring never go (xHCI 4.6.4,
@@ -680,7 +681,7 @@ const BAD_RING: &str = "\
 a ring comes in memory that is not free for it
 
 What it is for
-  A `ring` line behind rows (of `xtrace 2` and `3`) is a Transfer Ring that
+  A `ring` line behind rows (from `xtrace 2` on) is a Transfer Ring that
   comes: from now on its memory is one. Its ID is new. Its segments touch no
   ring that is there, and nothing that the controller has: no Input Context of
   an unfinished command, no DCBAA entry or Device Context, no ERST. Nor is a

@@ -1,5 +1,5 @@
 -- What the success of a command changes, at two knowledges that are alike: it leaves both alike
-use Rattle.safety.proofs.MiddleLaws.{[], ◌≡◌, if◌then◌else◌, ◌∷◌, ℕ, Bool, true, false, List, Option, None, Some, arith, sym, subst, put, put_pair, Spot, number, Reaches, target, Command, EndpointState, Stopped, is_off, Change, SlotGoesOn, DeviceLeft, Disables, Places, Stops, Resets, slot_gone_on, Header, shape_of, ring_having, Known, on_ring, set_to, bound_to, moved_to, moved, pointed, disabled, in_state, held_at_ceiling, changed_by, changed_by_all, rules, Alike, ceiling_more, reached_alike, held_alike, state_put, move_put}
+use Rattle.safety.proofs.MiddleLaws.{typed, Types, [], ◌≡◌, if◌then◌else◌, ◌∷◌, ℕ, Bool, true, false, List, Option, None, Some, arith, sym, subst, put, put_pair, Spot, number, Reaches, target, Command, EndpointState, Stopped, is_off, Change, SlotGoesOn, DeviceLeft, Disables, Places, Stops, Resets, slot_gone_on, Header, shape_of, ring_having, Known, on_ring, set_to, bound_to, moved_to, moved, pointed, disabled, in_state, held_at_ceiling, changed_by, changed_by_all, rules, Alike, ceiling_more, reached_alike, held_alike, state_put, move_put}
 
 pub both_sides_if : {A : Type 0} (R : A → A → Type 0) (b : Bool) (x y u v : A) → (b ≡ true → R x u) → (b ≡ false → R y v) → R (if b then x else y) (if b then u else v)
 both_sides_if R b x y u v here there = grind arith
@@ -14,6 +14,7 @@ module _ (h : Header) where
   TargetIs k l (Places s i p cycle state) = SameTarget k l s i p cycle
   TargetIs k l (SlotGoesOn s) = Unit {0}
   TargetIs k l (DeviceLeft s) = Unit {0}
+  TargetIs k l (Types s which isochronous) = Unit {0}
   TargetIs k l (Disables s which) = Unit {0}
   TargetIs k l (Stops s i) = Unit {0}
   TargetIs k l (Resets s i) = Unit {0}
@@ -60,9 +61,10 @@ module _ (h : Header) where
     ceiling_alike k l a (Some r) = search (rules, held_alike, ceiling_more, a.rings)
 
     pub change_alike : (c : Command) (k l : Known) → Alike P k l → (change : Change) → TargetIs k l change → Alike P (changed_by h c k change) (changed_by h c l change)
-    unfolding changed_by disabled in_state
+    unfolding changed_by disabled typed in_state
     change_alike c k l a (SlotGoesOn s) same = search (rules, slot_gone_on)
     change_alike c k l a (DeviceLeft s) same = search rules
+    change_alike c k l a (Types s which isochronous) same = search rules
     change_alike c k l a (Disables s which) same = search rules
     change_alike c k l a (Places s i p cycle state) same =
         let x : Known = pointed h k s i p cycle in

@@ -74,10 +74,10 @@ pub record ReadAlike (h : Header) (P : ℕ → Type 0) (k l : Known) (e : Block)
   pub after : Alike P (learned h k (Read e)) (learned h l (Read e))
 
 module _ (h : Header) (P : ℕ → Type 0) (k l : Known) (a : Alike P k l) (x : EventAlike h k l) where
-  kind_alike : (b : Block) (n : BlockKind) → is_impossible_by_kind h k n b ≡ false → (is_transfer_event n && not (is_in_profile b)) ≡ false →
+  kind_alike : (b : Block) (n : BlockKind) → is_impossible_by_kind h k n b ≡ false → (is_transfer_event n && not (is_in_profile h k b)) ≡ false →
       (is_impossible_by_kind h l n b ≡ false) × Alike P (event_read h k n b) (event_read h l n b)
   unfolding is_impossible_by_kind event_read
-  kind_alike b TransferEvent possible inside = transfer_alike h P k l a (stopping_alike h P k l a x.command) x.names b possible (not-false (is_in_profile b) inside)
+  kind_alike b TransferEvent possible inside = transfer_alike h P k l a (stopping_alike h P k l a x.command) x.names b possible (not-false (is_in_profile h k b) inside)
   kind_alike b CommandCompletion possible inside = completion_alike h P k l a x.command x.config b possible
   kind_alike b _ possible inside = (refl, a)
 

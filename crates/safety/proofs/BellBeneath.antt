@@ -10,10 +10,10 @@ pub record ReadWoken (h : Header) (r : ℕ) (S : ℕ → ℕ → Bool) (k l : Kn
 
 module _ (h : Header) (r : ℕ) (S : ℕ → ℕ → Bool) where
   -- the event's own kind apart, it reads what the driver did
-  pub read_woken : (k l : Known) (e : Block) → SameDriver k l → lenient h k (Read e) ≡ [] →
+  pub read_woken : (k l : Known) (e : Block) → SameDriver k l → l.isochronous ≡ k.isochronous → lenient h k (Read e) ≡ [] →
       (is_impossible_by_kind h l (kind e) e ≡ false) × Woken h r S (event_read h k (kind e) e) (event_read h l (kind e) e) → ReadWoken h r S k l e
   unfolding learned
-  read_woken k l b d clean here = search (rules, here.1, event_still, d.started, d.stopped, d.reads)
+  read_woken k l b d isochronous clean here = search (rules, here.1, event_still, d.started, d.stopped, d.reads)
 
 module _ (h : Header) where
   -- no endpoint
@@ -45,13 +45,13 @@ module _ (h : Header) where
     unfolding is_open
     held_first = ap is_none first
 
-    kind_woken : (e : Block) → lenient h k (Read e) ≡ [] → (n : BlockKind) → kind e ≡ n → is_impossible_by_kind h k n e ≡ false → (is_transfer_event n && not (is_in_profile e)) ≡ false →
+    kind_woken : (e : Block) → lenient h k (Read e) ≡ [] → (n : BlockKind) → kind e ≡ n → is_impossible_by_kind h k n e ≡ false → (is_transfer_event n && not (is_in_profile h k e)) ≡ false →
         (is_impossible_by_kind h (command_rung k) n e ≡ false) × Woken h (command_id h) none_of (event_read h k n e) (event_read h (command_rung k) n e)
     unfolding is_impossible_by_kind event_read on_ring
     kind_woken e may TransferEvent at possible inside =
         transfer_woken h (command_id h) none_of k (command_rung k) (search (rules, command_rung, ring_here, ring_elsewhere, false≢true)) held_first
         (omega (arith, ceiling_held (shape_of h (command_id h)) (k.ring (command_id h)) 0 first)) (λ s i in_it. absurd (false≢true in_it)) none_stops
-        (on_ring_same h k (command_id h) Opens tt) e possible (not-false (is_in_profile e) inside)
+        (on_ring_same h k (command_id h) Opens tt) e possible (not-false (is_in_profile h k e) inside)
     kind_woken e may CommandCompletion at possible inside =
         absurd (let below = (completion_facts h k e (ap is_command_completion at) (event_facts h k e may).possible).below in omega (arith, below, ceiling_held (shape_of h (command_id h)) (k.ring (command_id h)) 0 first))
     kind_woken e may _ at possible inside = (refl, search (rules, command_rung, ring_here, ring_elsewhere, false≢true))
@@ -77,7 +77,7 @@ module _ (h : Header) where
         let l_read : Known = learned h l (Read e) in
         let same : SameDriver (counted h k) k_read = read_same h k e in
         let driver : SameDriver k l = on_ring_same h k (command_id h) Opens tt in
-        let read : ReadWoken h (command_id h) none_of k l e = read_woken h (command_id h) none_of k l e driver may (kind_woken e may (kind e) refl facts.possible facts.inside) in
+        let read : ReadWoken h (command_id h) none_of k l e = read_woken h (command_id h) none_of k l e driver refl may (kind_woken e may (kind e) refl facts.possible facts.inside) in
         let read_keeps : DriverKeeps h k_read = kept_driver h is k (Read e) d (may, tt) (same.stopped ∙ (clean_tests h k (Read e) may).0) in
         let good : (if s == 0 then not (t == 0) else is_bad_bell h k_read s t) ≡ false =
         cond-true (s == 0) (not (t == 0)) (is_bad_bell h k_read s t) slot ∙ sym (cond-true (s == 0) (not (t == 0)) (is_bad_bell h k s t) slot) ∙ (bell_facts h k s t clean.0).good in

@@ -1,5 +1,5 @@
 -- A ring that waits for a binding behind an event waited for it before
-use Rattle.safety.proofs.UpperLaws.{[], ◌≡◌, if◌then◌else◌, ◌∷◌, ◌∙◌, ℕ, Bool, true, false, refl, sym, ap, inl, inr, list_any, and_parts, and_from, false≢true, cases_option, cases_Bool, Block, Command, AddressDevice, ConfigureEndpoint, is_off, is_open, Header, Read, IsHeader, is_ring, Known, learned, lenient, Binding, binding_in, binds, ring_bound, binds_ring, is_being_bound, awaits_binding, some_of, any_of, IsUnfinished, DriverKeeps, List, Option, None, rules, none-some, BlockKind, kind, Spot, number, Reaches, Holds, ceiling, stopped_number, target, Change, shape_of, ring_having, on_ring, event_at, passed, broken_off, stopped_at, transferred, transferred_at, transfer_read, set_to, bound_to, moved_to, moved, pointed, disabled, in_state, held_at_ceiling, changed_by, changed_by_all, succeeded, stop_ended, finished, completed, event_read, arith, clean_tests, off_is, view_after, open_held, held_open, read_on, Behind, event_behind, listed_unfinished, listed_before, rings_behind}
+use Rattle.safety.proofs.UpperLaws.{typed, [], ◌≡◌, if◌then◌else◌, ◌∷◌, ◌∙◌, ℕ, Bool, true, false, refl, sym, ap, inl, inr, list_any, and_parts, and_from, false≢true, cases_option, cases_Bool, Block, Command, AddressDevice, ConfigureEndpoint, is_off, is_open, Header, Read, IsHeader, is_ring, Known, learned, lenient, Binding, binding_in, binds, ring_bound, binds_ring, is_being_bound, awaits_binding, some_of, any_of, IsUnfinished, DriverKeeps, List, Option, None, rules, none-some, BlockKind, kind, Spot, number, Reaches, Holds, ceiling, stopped_number, target, Change, shape_of, ring_having, on_ring, event_at, passed, broken_off, stopped_at, transferred, transferred_at, transfer_read, set_to, bound_to, moved_to, moved, pointed, disabled, in_state, held_at_ceiling, changed_by, changed_by_all, succeeded, stop_ended, finished, completed, event_read, arith, clean_tests, off_is, view_after, open_held, held_open, read_on, Behind, event_behind, listed_unfinished, listed_before, rings_behind}
 use Rattle.safety.proofs.DriverHistories.{kept_driver}
 
 -- An event opens no ring: one that is open behind it was open before
@@ -34,13 +34,9 @@ module _ (h : Header) where
   unfolding moved moved_to set_to
   moved_opens k o p cycle = grind (arith, same_opens, on_ring, both_open, number, reach_opens, hold_opens, target, shape_of, k.ring)
 
-  bound_opens : (k : Known) (s i : ℕ) (o : Option ℕ) (p : ℕ) (cycle : Bool) → OpensNone k (bound_to h k s i o p cycle)
-  unfolding bound_to
-  bound_opens k s i o p cycle = grind (arith, same_opens, moved_opens)
-
   change_opens : (c : Command) (k : Known) (change : Change) → OpensNone k (changed_by h c k change)
-  unfolding changed_by disabled in_state pointed held_at_ceiling
-  change_opens c k o = grind (arith, is_off, bound_to, ring_having, moved, bound_opens, moved_opens, same_opens, hold_opens, ceiling, shape_of, in_state, k.ring_of)
+  unfolding changed_by disabled typed in_state pointed held_at_ceiling bound_to
+  change_opens c k o = grind (arith, is_off, bound_to, ring_having, moved, same_opens, moved_opens, hold_opens, ceiling, shape_of, in_state, k.ring_of)
 
   changes_open : (c : Command) (k : Known) (all : List Change) → OpensNone k (changed_by_all h c k all)
   unfolding changed_by_all
@@ -48,15 +44,11 @@ module _ (h : Header) where
   changes_open c k (change ∷ rest) =
       let l : Known = changed_by h c k change in both_open k l (changed_by_all h c l rest) (change_opens c k change) (changes_open c l rest)
 
-  finish_opens : (k : Known) (b : Block) (o : Option Command) → OpensNone k (finished h k b o)
-  unfolding finished succeeded stop_ended
-  finish_opens k b o = grind (arith, same_opens, both_open, changes_open)
-
   -- ---- any event
 
   kind_opens : (k : Known) (b : Block) (n : BlockKind) → OpensNone k (event_read h k n b)
-  unfolding event_read transfer_read transferred_at transferred broken_off passed completed
-  kind_opens k b o = grind (arith, reach_opens, both_open, hold_opens, stopped_opens, event_at, finish_opens, same_opens)
+  unfolding event_read transfer_read transferred_at transferred broken_off passed completed finished succeeded stop_ended
+  kind_opens k b o = search (rules, reach_opens, both_open, hold_opens, stopped_opens, event_at, same_opens, changes_open)
 
   pub opened_before : (k : Known) (b : Block) (r : ℕ) → is_open ((learned h k (Read b)).ring r) ≡ true → is_open (k.ring r) ≡ true
   unfolding learned

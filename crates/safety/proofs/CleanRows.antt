@@ -16,7 +16,7 @@ pub record EventFacts (h : Header) (k : Known) (b : Block) : Type 0 where
   pub turn : not (cycle b == cycle_of (event_shape h) k.reads) ≡ false
   pub event : not (is_event (kind b)) ≡ false
   pub possible : is_impossible_by_kind h k (kind b) b ≡ false
-  pub inside : (is_transfer_event (kind b) && not (is_in_profile b)) ≡ false
+  pub inside : (is_transfer_event (kind b) && not (is_in_profile h k b)) ≡ false
 
 pub register_facts : (h : Header) (k : Known) (r : Register) (v : ℕ) → lenient h k (Reg r v) ≡ [] → RegisterFacts h k r v
 unfolding lenient_tests register_tests

@@ -1,6 +1,6 @@
 -- A write that gives a command and an event that isn't read yet: the event stays possible, the command is unfinished behind it, and what
 -- is known is the same both ways but for the numbers at which rings are held
-use Rattle.safety.proofs.UpperLaws.{[], ◌≡◌, ◌≢◌, ◌⊎◌, ◌∙◌, ℕ, Bool, false, true, Option, None, Some, option_and_then, slice_get, arith, refl, sym, ap, subst, rules, MayCome, or_right, none-some, same_Some, Block, is_inside, RingView, Writes, changed, is_due, gives, positions_given, cases_option, gives_is, address_inside, position_given_is, Command, AddressDevice, Header, Write, Read, IsHeader, shape_of, command_id, Known, command_at, with_device, with_word, written, taken_device, device_named, no_device, command_given, learned, lenient, IsHeldMore, HeldMore, IsDriverRing, IsUnfinished, CommandKeeps, DriverKeeps, ◌∷◌, List, BlockKind, kind, target, Change, on_ring, event_at, next_command, passed, broken_off, stopped_at, transferred, transferred_at, transfer_read, set_to, bound_to, moved_to, moved, pointed, disabled, in_state, held_at_ceiling, changed_by, changed_by_all, succeeded, stop_ended, finished, completed, event_read, clean_tests, fewer, event_facts, ring_shape, due_has_ring, at_number, taken, written_ring, written_device, SameGiven, SameDriver, both_drivers, Alike, held_twice, taking, contains_first, and_then_parts, read_on, ReadAlike, EverySlot, held_more, read_same, command_same, event_behind, word_read, Untaken, device_read, device_driver, beyond}
+use Rattle.safety.proofs.UpperLaws.{typed, [], ◌≡◌, ◌≢◌, ◌⊎◌, ◌∙◌, ℕ, Bool, false, true, Option, None, Some, option_and_then, slice_get, arith, refl, sym, ap, subst, rules, MayCome, or_right, none-some, same_Some, Block, is_inside, RingView, Writes, changed, is_due, gives, positions_given, cases_option, gives_is, address_inside, position_given_is, Command, AddressDevice, Header, Write, Read, IsHeader, shape_of, command_id, Known, command_at, with_device, with_word, written, taken_device, device_named, no_device, command_given, learned, lenient, IsHeldMore, HeldMore, IsDriverRing, IsUnfinished, CommandKeeps, DriverKeeps, ◌∷◌, List, BlockKind, kind, target, Change, on_ring, event_at, next_command, passed, broken_off, stopped_at, transferred, transferred_at, transfer_read, set_to, bound_to, moved_to, moved, pointed, disabled, in_state, held_at_ceiling, changed_by, changed_by_all, succeeded, stop_ended, finished, completed, event_read, clean_tests, fewer, event_facts, ring_shape, due_has_ring, at_number, taken, written_ring, written_device, SameGiven, SameDriver, both_drivers, Alike, held_twice, taking, contains_first, and_then_parts, read_on, ReadAlike, EverySlot, held_more, read_same, command_same, event_behind, word_read, Untaken, device_read, device_driver, beyond}
 use Rattle.safety.proofs.HeldFurther.{SameStates, counted}
 use Rattle.safety.proofs.DeviceBeneath.{devices_same}
 use Rattle.safety.proofs.DriverHistories.{kept_driver}
@@ -20,7 +20,7 @@ module _ (h : Header) where
   -- ---- a completion
 
   change_left : (c : Command) (k : Known) (change : Change) → DevicesLeft k (changed_by h c k change)
-  unfolding changed_by disabled in_state pointed bound_to moved moved_to set_to on_ring held_at_ceiling
+  unfolding changed_by disabled typed in_state pointed bound_to moved moved_to set_to on_ring held_at_ceiling
   change_left c k o = grind (arith, fewer, target, shape_of, none_left)
 
   changes_left : (c : Command) (k : Known) (all : List Change) → DevicesLeft k (changed_by_all h c k all)
@@ -188,6 +188,7 @@ module _ (h : Header) (is : IsHeader h) (k : Known) (d : DriverKeeps h k) (a w :
           slot_state = device_then.after.slot_state ∙ word_first.after.slot_state;
           endpoint_state = device_then.after.endpoint_state ∙ word_first.after.endpoint_state;
           ring_of = device_then.after.ring_of ∙ word_first.after.ring_of;
+          isochronous = device_then.after.isochronous ∙ word_first.after.isochronous;
           must_move = device_then.after.must_move ∙ word_first.after.must_move;
           stop_seen = device_then.after.stop_seen ∙ word_first.after.stop_seen;
           device = refl;

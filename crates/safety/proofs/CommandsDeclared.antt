@@ -1,6 +1,5 @@
 -- A declaration keeps what is kept of unfinished commands
-use Rattle.safety.proofs.MiddleLaws.{◌≡◌, ◌<◌, ◌∙◌, ℕ, List, option_and_then, slice_get, arith, refl, sym, ap, subst, inl, inr, rules, cases_eq, Block, number, RingView, Declares, declared, is_due, slice_get-append, Command, command_of, Header, IsHeader, shape_of, command_id, Known, on_ring, command_at, IsUnfinished, CommandKeeps, DriverKeeps, ring_here, ring_elsewhere, MovesStay, moves_declares, moves_stand, due_has_ring, Standing, still_restored, SameStates, RingsStay, same_stay}
-use Rattle.safety.proofs.NothingFree.{declared_free}
+use Rattle.safety.proofs.MiddleLaws.{◌≡◌, ◌<◌, ◌∙◌, ℕ, List, option_and_then, slice_get, arith, refl, sym, ap, subst, inl, inr, rules, cases_eq, Block, number, RingView, Declares, declared, is_due, slice_get-append, Command, command_of, Header, IsHeader, shape_of, command_id, Known, on_ring, command_at, IsUnfinished, CommandKeeps, DriverKeeps, ring_here, ring_elsewhere, MovesStay, moves_declares, moves_stand, due_has_ring, Standing, still_restored, SameStates, RingsStay, same_stay, declared_free}
 
 module _ (h : Header) (is : IsHeader h) (k : Known) (d : DriverKeeps h k) (r : ℕ) (blocks : List Block) where
   l : Known

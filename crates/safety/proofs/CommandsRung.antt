@@ -1,6 +1,5 @@
 -- A doorbell keeps what is kept of unfinished commands: none of them touches the endpoint
-use Rattle.safety.proofs.MiddleLaws.{[], ◌≡◌, ◌≢◌, ◌==◌, ◌&&◌, if◌then◌else◌, ◌∙◌, ℕ, not, Bool, true, false, Option, None, Some, refl, sym, ap, subst, eq-eqb, rules, cond_both, cond-false, or_parts, or_left, and_from, false≢true, put_pair, Opens, number, Command, SetTrDequeue, is_stopped, is_at_rest, changes, Header, Bell, IsHeader, shape_of, command_id, Known, on_ring, endpoint_rung, rung, touches_endpoint, is_touched, is_bad_bell, is_bad_doorbell, doorbell_tests, lenient_tests, lenient, IsUnfinished, CommandKeeps, DriverKeeps, drops, is_dropped, arith, tests_fail, ring_here, ring_elsewhere, transfer_not_command, IsTransferTest, command_not_transfer, bound_transfer, SameGiven, on_ring_same, at_pair, unfinished_fails, standing_same, unfinished_view, PlacesStay, MovesAhead, still_restored, SameStates, RingsStay, ring_stays, same_stay}
-use Rattle.safety.proofs.NothingFree.{opened_free}
+use Rattle.safety.proofs.MiddleLaws.{[], ◌≡◌, ◌≢◌, ◌==◌, ◌&&◌, if◌then◌else◌, ◌∙◌, ℕ, not, Bool, true, false, Option, None, Some, refl, sym, ap, subst, eq-eqb, rules, cond_both, cond-false, or_parts, or_left, and_from, false≢true, put_pair, Opens, number, Command, SetTrDequeue, is_stopped, is_at_rest, changes, Header, Bell, IsHeader, shape_of, command_id, Known, on_ring, endpoint_rung, rung, touches_endpoint, is_touched, is_bad_bell, is_bad_doorbell, doorbell_tests, lenient_tests, lenient, IsUnfinished, CommandKeeps, DriverKeeps, drops, is_dropped, arith, tests_fail, ring_here, ring_elsewhere, transfer_not_command, IsTransferTest, command_not_transfer, bound_transfer, SameGiven, on_ring_same, at_pair, unfinished_fails, standing_same, unfinished_view, PlacesStay, MovesAhead, still_restored, SameStates, RingsStay, ring_stays, same_stay, opened_free}
 
 opened_states : (h : Header) (k : Known) (r : ℕ) → SameStates k (on_ring h k r Opens)
 unfolding on_ring

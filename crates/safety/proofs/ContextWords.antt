@@ -1,5 +1,5 @@
 -- The input context of a command that is given stands in the world as the driver wrote it: its success does what is known
-use Rattle.safety.proofs.Words.{◌≡◌, ◌+◌, ◌*◌, ◌/◌, ◌<◌, ◌≤◌, ◌&&◌, ◌∷◌, ◌∙◌, ℕ, suc, zero, Bool, false, List, [], map, filter, nat_le, All, arith, refl, sym, ap, inl, inr, range_with_len, cases_eq, All-nil, All-cons, All-head, All-tail, All-filter, AddressDevice, ConfigureEndpoint, SlotGoesOn, Disables, changes, placed_by_context, ContextSize, Bytes32, Bytes64, input_context_bytes, has_flag, input_add_flag, input_endpoint, added_endpoints, is_dropped, Header, IsHeader, event_size, touches_ring, World, Known, Stands, touches_events, rules, touches}
+use Rattle.safety.proofs.Words.{Types, typed_by_context, has_isochronous, ltb-true, fun_ext, ◌≡◌, ◌+◌, ◌*◌, ◌/◌, ◌<◌, ◌≤◌, ◌&&◌, ◌∷◌, ◌∙◌, ℕ, suc, zero, Bool, false, List, [], map, filter, nat_le, All, arith, refl, sym, ap, inl, inr, range_with_len, cases_eq, All-nil, All-cons, All-head, All-tail, All-filter, AddressDevice, ConfigureEndpoint, SlotGoesOn, Disables, changes, placed_by_context, ContextSize, Bytes32, Bytes64, input_context_bytes, has_flag, input_add_flag, input_endpoint, added_endpoints, is_dropped, Header, IsHeader, event_size, touches_ring, World, Known, Stands, touches_events, rules, touches}
 use Rattle.safety.proofs.Headers.{EventRing, event_ring_is, no_events}
 use Rattle.safety.proofs.Areas.{ContextLies, clean_word, part_apart, ring_untouched}
 
@@ -43,7 +43,20 @@ first_words : (size : ContextSize) (f g : ℕ → ℕ) (n : ℕ) → SameContext
 first_words Bytes32 f g n same = (at_word f g n n 0 (omega arith) (same 0 (omega arith)), at_word f g n (n + 4) 1 (omega arith) (same 1 (omega arith)))
 first_words Bytes64 f g n same = (at_word f g n n 0 (omega arith) (same 0 (omega arith)), at_word f g n (n + 4) 1 (omega arith) (same 1 (omega arith)))
 
+-- word 1 of an endpoint's context
+type_word : (size : ContextSize) (f g : ℕ → ℕ) (n i : ℕ) → SameContext size f g n → i < 32 → f (input_endpoint size n i + 4) ≡ g (input_endpoint size n i + 4)
+type_word Bytes32 f g n i same low = at_word f g n (n + (i + 1) * 32 + 4) ((i + 1) * 8 + 1) (omega arith) (same ((i + 1) * 8 + 1) (omega arith))
+type_word Bytes64 f g n i same low = at_word f g n (n + (i + 1) * 64 + 4) ((i + 1) * 16 + 1) (omega arith) (same ((i + 1) * 16 + 1) (omega arith))
+
 module _ (size : ContextSize) (f g : ℕ → ℕ) (s n : ℕ) (same : SameContext size f g n) where
+  isochronous_same : (i : ℕ) → has_isochronous size f n i ≡ has_isochronous size g n i
+  isochronous_same i = grind (arith, type_word size f g n i same, ltb-true)
+
+  pub types_same : typed_by_context size f s n ≡ typed_by_context size g s n
+  types_same =
+      ap (λ x. Types s (λ i. has_flag x i) (has_isochronous size f n)) (first_words size f g n same).1
+      ∙ ap (λ t. Types s (input_add_flag g n) t) (fun_ext isochronous_same)
+
   pub place_same : (i : ℕ) → i < 32 → placed_by_context size f s n i ≡ placed_by_context size g s n i
   place_same i low = grind (arith, pointer_words, pointer_words size f g n i same low)
 
@@ -73,6 +86,7 @@ address_same size f g m s n bsr same = ap (λ x. SlotGoesOn s ∷ x ∷ []) (pla
 pub configure_same : (size : ContextSize) (f g : ℕ → ℕ) (m s n : ℕ) → SameContext size f g n → changes size f m (ConfigureEndpoint s false n) ≡ changes size g m (ConfigureEndpoint s false n)
 unfolding changes
 configure_same size f g m s n same =
-    ap (λ x. SlotGoesOn s ∷ Disables s (λ i. nat_le 2 i && has_flag x i) ∷ map (placed_by_context size f s n) (added_endpoints f n)) (first_words size f g n same).0
-    ∙ ap (λ xs. SlotGoesOn s ∷ Disables s (is_dropped g n) ∷ map (placed_by_context size f s n) xs) (added_same size f g n same)
-    ∙ ap (λ xs. SlotGoesOn s ∷ Disables s (is_dropped g n) ∷ xs) (places_same size f g s n same (added_endpoints g n) (added_below g n))
+    ap (λ t. SlotGoesOn s ∷ t ∷ Disables s (is_dropped f n) ∷ map (placed_by_context size f s n) (added_endpoints f n)) (types_same size f g s n same)
+    ∙ ap (λ x. SlotGoesOn s ∷ typed_by_context size g s n ∷ Disables s (λ i. nat_le 2 i && has_flag x i) ∷ map (placed_by_context size f s n) (added_endpoints f n)) (first_words size f g n same).0
+    ∙ ap (λ xs. SlotGoesOn s ∷ typed_by_context size g s n ∷ Disables s (is_dropped g n) ∷ map (placed_by_context size f s n) xs) (added_same size f g n same)
+    ∙ ap (λ xs. SlotGoesOn s ∷ typed_by_context size g s n ∷ Disables s (is_dropped g n) ∷ xs) (places_same size f g s n same (added_endpoints g n) (added_below g n))

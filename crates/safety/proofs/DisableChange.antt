@@ -51,28 +51,18 @@ module _ (h : Header) (c : Command) (k : Known) (w : World) (m : StatesMatch h k
       slots = m.slots;
       endpoints = λ t i. ap (λ x. if names t i then Off else x) (m.endpoints t i);
       ring_of = λ t i. ap (λ x. if names t i then None else x) (m.ring_of t i);
+      isochronous = m.isochronous;
       rings = λ r other. ring_behind r (m.rings r other);
       scribbles = m.scribbles;
       apart = λ t i r at. m.apart t i r (left_had t i r at).1;
       one_endpoint = λ t i u j r at on. m.one_endpoint t i u j r (left_had t i r at).1 (left_had u j r on).1;
       within = λ t i r at. m.within t i r (left_had t i r at).1;
     };
-    rest = record {
-      known = refl;
-      world = refl;
-      queues = λ r. refl;
-      lengths = λ r. refl;
-      command_known = refl;
-      command_world = ap (λ x. let y : RingState = record (state_of w (command_id h)) { active = x } in y) (still_active (w.is_active (command_id h)) (bindings.has_one_of w s which (command_id h)) keeps_command);
-    };
+    rest = (search (rules, still_active, keeps_command));
   }
     where
       still_active : (a b : Bool) → b ≡ false → (a && not b) ≡ a
-      still_active a b none = ap (λ x. a && not x) none ∙ with_true a
-        where
-          with_true : (a : Bool) → (a && true) ≡ a
-          with_true true = refl
-          with_true false = refl
+      still_active a b none = grind arith
 
   pub disable_keeps : (v : World) → bindings.changed_by h c w (Disables s which) ≡ Some v → ChangeKeeps h k (changed_by h c k (Disables s which)) w v
   unfolding bindings.changed_by changed_by

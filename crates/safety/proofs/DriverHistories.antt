@@ -1,12 +1,13 @@
 -- A clean history keeps what a driver keeps
-use Rattle.safety.proofs.UpperLaws.{[], ◌≡◌, ◌∷◌, ◌∙◌, false, List, ap, Block, kind, Header, Row, IsHeader, Read, World, Known, learned, DriverKeeps, KeptByRestoring, command_id, ArePossible, Runs, all_read, ◌&&◌, not, true, subst, sym, not-false, BlockKind, TransferEvent, CommandCompletion, is_transfer_event, Sub, Write, Reg, Bell, event_read, is_in_profile, is_impossible_by_kind, CommandsKeep, ℕ, refl, rules, Command, Register, IsUnfinished, none-some, on_ring, command_at, succeeded, finished, completed, is_command_completion, StatesKeep, KeptByRows, arith, event_same, SameGiven, clean_tests, EventFacts, event_facts, with_reads, SameStates, ring_stays, same_stay, AreNumbered, command_numbered, changes_numbered, same_numbered, all_numbered, endpoints_of, endpoints_part, slots_part, seen_part, from_parts, endpoints_same, slots_same, seen_same, kept_crcr, kept_crcr_written, kept_sized, kept_erstsz_written, kept_dequeued, kept_read_room, kept_unstarted, kept_clean, kept_rings, CompletionFacts, completion_facts, kept_command_ring, free_same, nothing_kept, rung_commands, register_leaves, states_rung, PartsStand, transfer_stands, completion_stands, kept_devices, declared_commands, written_commands, transfer_commands, completion_commands, unfinished_view, written_same, register_same, rung_same, transfer_same, stop_same, row_keeps, view_same, stops_on, states_declared, states_written, states_registered}
+use Rattle.safety.proofs.UpperLaws.{[], ◌≡◌, ◌∷◌, ◌∙◌, false, List, ap, Block, kind, Header, Row, IsHeader, Read, World, Known, learned, DriverKeeps, KeptByRestoring, command_id, ArePossible, Runs, all_read, ◌&&◌, not, true, subst, sym, not-false, BlockKind, TransferEvent, CommandCompletion, is_transfer_event, Sub, Write, Reg, Bell, event_read, is_in_profile, is_impossible_by_kind, CommandsKeep, ℕ, refl, rules, Command, Register, IsUnfinished, none-some, on_ring, command_at, succeeded, finished, completed, is_command_completion, StatesKeep, KeptByRows, arith, event_same, SameGiven, EventFacts, event_facts, with_reads, SameStates, ring_stays, same_stay, AreNumbered, command_numbered, changes_numbered, same_numbered, all_numbered, endpoints_of, endpoints_part, slots_part, seen_part, from_parts, endpoints_same, slots_same, seen_same, kept_crcr, kept_crcr_written, kept_sized, kept_erstsz_written, kept_dequeued, kept_read_room, kept_unstarted, kept_clean, kept_rings, CompletionFacts, completion_facts, kept_command_ring, free_same, rung_commands, register_leaves, states_rung, PartsStand, transfer_stands, completion_stands, kept_devices, declared_commands, written_commands, transfer_commands, completion_commands, unfinished_view, written_same, register_same, rung_same, transfer_same, stop_same, view_same, stops_on, states_declared, states_written, states_registered}
+use Rattle.safety.proofs.EndpointHistories.{row_keeps}
 
 -- Each row keeps what is known of states
 module _ (h : Header) where
   event_parts : IsHeader h → (k : Known) → DriverKeeps h k → (b : Block) (n : BlockKind) → k.started ≡ true → is_impossible_by_kind h k n b ≡ false →
-      (is_transfer_event n && not (is_in_profile b)) ≡ false → (is_command_completion n ≡ true → CompletionFacts h k b) → PartsStand h (event_read h k n b)
+      (is_transfer_event n && not (is_in_profile h k b)) ≡ false → (is_command_completion n ≡ true → CompletionFacts h k b) → PartsStand h (event_read h k n b)
   unfolding event_read is_impossible_by_kind
-  event_parts is k d b TransferEvent started possible inside facts = transfer_stands h is k d b possible (not-false (is_in_profile b) inside)
+  event_parts is k d b TransferEvent started possible inside facts = transfer_stands h is k d b possible (not-false (is_in_profile h k b) inside)
   event_parts is k d b CommandCompletion started possible inside facts = completion_stands h is k d b started (facts refl)
   event_parts is k d b _ started possible inside facts = record { endpoints = endpoints_part h k d.states; slots = slots_part h k d.states; seen = seen_part h k d.states }
 
@@ -79,9 +80,9 @@ reads_commands h k n keeps = search (rules, same_commands)
 -- What is kept of unfinished commands is kept by each row
 module _ (h : Header) where
   event_commands : IsHeader h → (k : Known) (b : Block) (n : BlockKind) → DriverKeeps h k → k.started ≡ true → is_impossible_by_kind h k n b ≡ false →
-      (is_transfer_event n && not (is_in_profile b)) ≡ false → CommandsKeep h (event_read h k n b)
+      (is_transfer_event n && not (is_in_profile h k b)) ≡ false → CommandsKeep h (event_read h k n b)
   unfolding event_read is_impossible_by_kind
-  event_commands is k b TransferEvent d on possible inside = transfer_commands h is k d b possible (not-false (is_in_profile b) inside)
+  event_commands is k b TransferEvent d on possible inside = transfer_commands h is k d b possible (not-false (is_in_profile h k b) inside)
   event_commands is k b CommandCompletion d on possible inside = completion_commands h is k d b on possible
   event_commands is k b _ d on possible inside = d.unfinished
 

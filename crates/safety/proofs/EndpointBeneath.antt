@@ -28,7 +28,7 @@ module _ (h : Header) (k : Known) (s t r : ℕ) (has : k.ring_of s t ≡ Some r)
         let c : ℕ = command_id h in
         ap (λ v. nat_lt (floor_number v) (ceiling (shape_of h c) v) && is_stop_of u j (option_and_then command_of (slice_get v.queue (floor_number v)))) (rung_woken.rings c not_command) ∙ stops
 
-    pub transfer_rung : (e : Block) → is_impossible_transfer h k e ≡ false → is_in_profile e ≡ true →
+    pub transfer_rung : (e : Block) → is_impossible_transfer h k e ≡ false → is_in_profile h k e ≡ true →
         (is_impossible_transfer h woken e ≡ false) × Woken h r (one_of s t) (transfer_read h k e) (transfer_read h woken e)
     transfer_rung e possible inside =
         transfer_woken h r (one_of s t) k woken rung_woken held

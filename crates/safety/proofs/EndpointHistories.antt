@@ -1,5 +1,5 @@
 -- Any history keeps endpoints on transfer rings, and the command ring is none of them
-use Rattle.safety.proofs.LowerLaws.{rules, [], ◌≡◌, ◌==◌, if◌then◌else◌, ◌∷◌, List, Option, None, Some, refl, cond_both, none-some, Block, kind, code, slot, Declares, Command, changes, Header, Row, Sub, Write, Reg, Bell, Read, IsHeader, command_id, Known, nothing, on_ring, command_at, next_command, written, register_written, rung, transfer_read, succeeded, stop_ended, finished, completed, event_read, learned, EndpointsKeep, arith, command_not_transfer, written_same, register_same, rung_same, transfer_same, stop_same}
+use Rattle.safety.proofs.LowerLaws.{rules, ◌≡◌, ◌==◌, if◌then◌else◌, Option, None, Some, refl, cond_both, none-some, Block, kind, code, slot, Declares, Command, changes, Header, Row, Sub, Write, Reg, Bell, Read, IsHeader, command_id, Known, nothing, on_ring, command_at, next_command, written, register_written, rung, transfer_read, succeeded, stop_ended, finished, completed, event_read, learned, EndpointsKeep, arith, command_not_transfer, written_same, register_same, rung_same, transfer_same, stop_same}
 use Rattle.safety.proofs.Endpoints.{same_keeps, changes_keep, changes_elsewhere}
 
 module _ (h : Header) (is : IsHeader h) where

@@ -22,6 +22,7 @@ module _ (h : Header) (k : Known) (w : World) (e f : ℕ → ℕ → EndpointSta
     slots = m.slots;
     endpoints = same;
     ring_of = m.ring_of;
+    isochronous = m.isochronous;
     rings = m.rings;
     before = λ off. let b = m.before off in record { inactive = b.inactive; no_events = b.no_events; none = b.none };
     command = λ on. let c = m.command on in record { spot = c.spot; ring = c.ring; under_way = under_way_same h k (known_states k e must) refl refl c.spot w.under_way c.under_way };

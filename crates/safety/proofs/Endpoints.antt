@@ -1,5 +1,5 @@
 -- Any history keeps endpoints on transfer rings
-use Rattle.safety.proofs.LowerLaws.{[], ◌≡◌, ◌≢◌, if◌then◌else◌, ◌∷◌, ◌∙◌, ℕ, Bool, List, Option, None, Some, refl, sym, ap, subst, cond_both, none-some, same_Some, Spot, number, Reaches, Holds, Command, Change, Header, IsHeader, Known, on_ring, set_to, bound_to, moved_to, moved, pointed, disabled, in_state, held_at_ceiling, changed_by, changed_by_all, EndpointsKeep, arith, having_transfer}
+use Rattle.safety.proofs.LowerLaws.{typed, [], ◌≡◌, ◌≢◌, if◌then◌else◌, ◌∷◌, ◌∙◌, ℕ, Bool, List, Option, None, Some, refl, sym, ap, subst, cond_both, none-some, same_Some, Spot, number, Reaches, Holds, Command, Change, Header, IsHeader, Known, on_ring, set_to, bound_to, moved_to, moved, pointed, disabled, in_state, held_at_ceiling, changed_by, changed_by_all, EndpointsKeep, arith, having_transfer}
 use Rattle.safety.specs.EndpointsKeep.{IsTransferRing}
 use Rattle.safety.proofs.DriverRows.{ring_elsewhere}
 
@@ -32,7 +32,7 @@ module _ (h : Header) where
   -- ---- the success of a command
 
   pub change_keeps : IsHeader h → (c : Command) (k : Known) (change : Change) → EndpointsKeep h k → EndpointsKeep h (changed_by h c k change)
-  unfolding changed_by disabled in_state pointed bound_to
+  unfolding changed_by disabled typed in_state pointed bound_to
   change_keeps is c k change keeps = grind (arith, same_keeps, leaves_keeps, fewer, same_Some, having_transfer, moved_rings, held_rings)
 
   pub changes_keep : IsHeader h → (c : Command) (k : Known) (all : List Change) → EndpointsKeep h k → EndpointsKeep h (changed_by_all h c k all)
@@ -52,6 +52,6 @@ module _ (h : Header) where
 
     -- stays as it is
     pub changes_elsewhere : (c : Command) (k : Known) (all : List Change) → EndpointsKeep h k → (changed_by_all h c k all).ring q ≡ k.ring q
-    unfolding changed_by_all changed_by disabled in_state held_at_ceiling
+    unfolding changed_by_all changed_by disabled typed in_state held_at_ceiling
     changes_elsewhere c k [] keeps = refl
     changes_elsewhere c k (change ∷ rest) keeps = grind (arith, change_keeps, pointed_elsewhere, ring_elsewhere, other_ring, changes_elsewhere c (changed_by h c k change) rest (change_keeps is c k change keeps))

@@ -1,5 +1,5 @@
 -- What stands behind an event that may be read: rings whose floors moved on, and no device context more
-use Rattle.safety.proofs.MiddleLaws.{[], ◌≡◌, ◌∷◌, ◌∙◌, ℕ, List, Option, None, Some, refl, sym, ap, subst, inl, inr, flips_passed, RingView, cond_both, none-some, Block, BlockKind, TransferEvent, CommandCompletion, kind, code, slot, is_command_completion, RingKeeps, Command, Change, DeviceLeft, Places, Stops, Resets, changes, Header, Read, IsHeader, shape_of, command_id, Known, on_ring, command_at, next_command, disabled, changed_by, changed_by_all, succeeded, stop_ended, finished, completed, event_read, learned, lenient, KeepsPassed, RingsKeep, RingsKept, EndpointsKeep, DriverKeeps, MayRead, ◌≤◌, ◌⊎◌, Bool, arith, eqb-true, rules, pointer, endpoint, Spot, number, after, RingChange, Reaches, Holds, changed, floor_number, ceiling, target, IsAhead, named_ahead, target_ahead, number-after, Stopped, is_off, SlotGoesOn, Disables, ring_having, RingSpot, event_at, passed, broken_off, stopped_at, transferred, transferred_at, transfer_read, set_to, bound_to, moved_to, moved, pointed, in_state, held_at_ceiling, MayChange, MayChangeAll, MayFinish, still_reads, shape_allowed, driver_test, rings_of, endpoints_of, transfer_ring, command_is_ring, event_facts, transfer_slots, event_ring_of, at_number, placed_leaves, stops_slot, resets_slot, ring_here, ring_elsewhere, having_transfer, transfer_driver, change_keeps, spot_is, passes_shown, finish_elsewhere}
+use Rattle.safety.proofs.MiddleLaws.{spot_told, code_told, typed, Types, [], ◌≡◌, ◌∷◌, ◌∙◌, ℕ, List, Option, None, Some, refl, sym, ap, subst, inl, inr, flips_passed, RingView, cond_both, none-some, Block, BlockKind, TransferEvent, CommandCompletion, kind, code, slot, is_command_completion, RingKeeps, Command, Change, DeviceLeft, Places, Stops, Resets, changes, Header, Read, IsHeader, shape_of, command_id, Known, on_ring, command_at, next_command, disabled, changed_by, changed_by_all, succeeded, stop_ended, finished, completed, event_read, learned, lenient, KeepsPassed, RingsKeep, RingsKept, EndpointsKeep, DriverKeeps, MayRead, ◌≤◌, ◌⊎◌, Bool, arith, eqb-true, rules, pointer, endpoint, Spot, number, after, RingChange, Reaches, Holds, changed, floor_number, ceiling, target, IsAhead, named_ahead, target_ahead, number-after, Stopped, is_off, SlotGoesOn, Disables, ring_having, RingSpot, event_at, passed, broken_off, stopped_at, transferred, transferred_at, transfer_read, set_to, bound_to, moved_to, moved, pointed, in_state, held_at_ceiling, MayChange, MayChangeAll, MayFinish, still_reads, shape_allowed, driver_test, rings_of, endpoints_of, transfer_ring, command_is_ring, event_facts, transfer_slots, event_ring_of, at_number, placed_leaves, stops_slot, resets_slot, ring_here, ring_elsewhere, having_transfer, transfer_driver, change_keeps, spot_is, passes_shown, finish_elsewhere}
 use Rattle.safety.specs.RingsKeep.{IsDriverRing}
 use Rattle.safety.proofs.Histories.{row_kept}
 use Rattle.safety.proofs.KeptRings.{still_of}
@@ -49,13 +49,13 @@ module _ (h : Header) where
 
   module _ (is : IsHeader h) (k : Known) (rings : RingsKeep h k) (endpoints : EndpointsKeep h k) where
     at_on : (b : Block) (o : Option RingSpot) → event_at h k b ≡ o → FloorsOn k (transferred_at h k b o)
-    unfolding transferred_at event_at
+    unfolding transferred_at
     at_on b None found = floors_same k k refl
     at_on b (Some at) found =
         let driver : IsDriverRing h at.ring = transfer_is_driver at.ring (endpoints.transfer (slot b) (endpoint b) at.ring (event_ring_of h k b at found)) in
         let ahead : IsAhead (shape_of h at.ring) (k.ring at.ring) at.spot =
-        named_ahead (shape_of h at.ring) k.memory (k.ring at.ring) (rings at.ring driver) (pointer b) at.spot (spot_is h k (pointer b) (k.ring_of (slot b) (endpoint b)) at found) in
-        transferred_on k at.ring driver at.spot ahead.from (code b) (slot b) (endpoint b)
+        named_ahead (shape_of h at.ring) k.memory (k.ring at.ring) (rings at.ring driver) (pointer b) at.spot (spot_is h k (pointer b) (k.ring_of (slot b) (endpoint b)) at (spot_told h k b at found)) in
+        transferred_on k at.ring driver at.spot ahead.from (code_told h k b) (slot b) (endpoint b)
 
     pub transfer_on : (b : Block) → FloorsOn k (transfer_read h k b)
     unfolding transfer_read
@@ -88,9 +88,10 @@ module _ (h : Header) where
     ceiling_on k endpoints s i o at = grind (arith, floors_same, floors_held, ceiling, shape_of, k.ring, transfer_is_driver, endpoints.transfer)
 
     change_on : (c : Command) (k : Known) (change : Change) → EndpointsKeep h k → MayChange h k change → FloorsOn k (changed_by h c k change)
-    unfolding changed_by disabled in_state pointed
+    unfolding changed_by disabled typed in_state pointed
     change_on c k (SlotGoesOn s) endpoints may = floors_same k (changed_by h c k (SlotGoesOn s)) refl
     change_on c k (DeviceLeft s) endpoints may = floors_same k (changed_by h c k (DeviceLeft s)) refl
+    change_on c k (Types s which isochronous) endpoints may = floors_same k (changed_by h c k (Types s which isochronous)) refl
     change_on c k (Disables s which) endpoints may = floors_same k (changed_by h c k (Disables s which)) refl
     change_on c k (Places s i p cycle state) endpoints may = (search (rules, cond_both, is_off, bound_to, ring_having, moved, bound_on, moved_on))
     change_on c k (Stops s i) endpoints may =
@@ -119,7 +120,7 @@ module _ (h : Header) where
   FewerDevices k l = (s d : ℕ) → l.device s ≡ Some d → k.device s ≡ Some d
 
   change_fewer : (c : Command) (k : Known) (change : Change) → FewerDevices k (changed_by h c k change)
-  unfolding changed_by disabled
+  unfolding changed_by disabled typed
   change_fewer c k (DeviceLeft s) t d at = at_number (λ (o : Option ℕ). o ≡ Some d → k.device t ≡ Some d) k.device s None t (λ same gone. absurd (none-some d gone)) (λ other there. there) at
   change_fewer c k (Places s i p cycle state) t d at = ap (λ f. f t) (sym (placed_leaves h c k s i p cycle state).device) ∙ at
   change_fewer c k (Stops s i) t d at = sym (stops_slot h c k s i t).device ∙ at
@@ -131,13 +132,9 @@ module _ (h : Header) where
   changes_fewer c k [] t d at = at
   changes_fewer c k (change ∷ rest) t d at = change_fewer c k change t d (changes_fewer c (changed_by h c k change) rest t d at)
 
-  finish_fewer : (k : Known) (b : Block) (o : Option Command) → FewerDevices k (finished h k b o)
-  unfolding finished succeeded stop_ended
-  finish_fewer k b o t d at = grind (arith, code, succeeded, slot, changes_fewer, changes)
-
   kind_fewer : (k : Known) (b : Block) (n : BlockKind) → FewerDevices k (event_read h k n b)
-  unfolding event_read completed on_ring
-  kind_fewer k b o t d at = grind (arith, transfer_slots, finish_fewer, command_at, next_command)
+  unfolding event_read completed on_ring finished succeeded stop_ended
+  kind_fewer k b o t d at = search (rules, transfer_slots, code, succeeded, slot, changes_fewer, changes, command_at, next_command)
 
   -- ---- rings
 

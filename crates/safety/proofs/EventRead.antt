@@ -1,28 +1,28 @@
 -- When a posted event is possible where it will be read, and what reading it adds
-use Rattle.safety.proofs.LowerLaws.{[], ◌≡◌, ◌+◌, ◌-◌, ◌≤◌, ◌==◌, ◌&&◌, ◌∷◌, ◌++◌, ◌∙◌, true, false, not, List, All, arith, refl, ap, le-ltb, ltb-false, eq-eqb, cond-false, or_from, not_from_true, Block, All-append, All-cons, All-nil, IsBlock, cycle, kind, is_event, is_transfer_event, cycle_of, Header, Read, event_shape, event_size, World, Known, event_read, learned, lenient, is_in_profile, is_impossible_by_kind, is_past_room, is_impossible, Stands, ArePossible, all_read, lenient_tests, event_tests, rules, clean_tests, EventFacts, event_facts, CanPost, with_reads}
+use Rattle.safety.proofs.LowerLaws.{profile_alike, [], ◌≡◌, ◌+◌, ◌-◌, ◌≤◌, ◌==◌, ◌&&◌, ◌∷◌, ◌++◌, ◌∙◌, true, false, not, List, All, arith, refl, ap, le-ltb, ltb-false, eq-eqb, cond-false, or_from, not_from_true, Block, All-append, All-cons, All-nil, IsBlock, cycle, kind, is_event, is_transfer_event, cycle_of, Header, Read, event_shape, event_size, World, Known, event_read, learned, lenient, is_in_profile, is_impossible_by_kind, is_past_room, is_impossible, Stands, ArePossible, all_read, lenient_tests, event_tests, rules, clean_tests, EventFacts, event_facts, CanPost, with_reads}
 
 pub learned_read : (h : Header) (k : Known) (b : Block) → learned h k (Read b) ≡ with_reads (event_read h k (kind b) b) (k.reads + 1)
 unfolding learned
 learned_read h k b = refl
 
-pub event_broken : (h : Header) (k : Known) (b : Block) → k.stopped ≡ false → is_impossible h k b ≡ false → (is_transfer_event (kind b) && not (is_in_profile b)) ≡ false → lenient h k (Read b) ≡ []
+pub event_broken : (h : Header) (k : Known) (b : Block) → k.stopped ≡ false → is_impossible h k b ≡ false → (is_transfer_event (kind b) && not (is_in_profile h k b)) ≡ false → lenient h k (Read b) ≡ []
 unfolding lenient lenient_tests event_tests
 event_broken h k b on possible in_profile = grind (arith, cond-false)
 
 -- an event of a possible kind that breaks no rule breaks none where what it reads is the same and the dequeue pointer has gone on
-pub event_still : (h : Header) (k l : Known) (b : Block) → l.started ≡ k.started → l.stopped ≡ k.stopped → l.reads ≡ k.reads → k.dequeue ≤ l.dequeue → lenient h k (Read b) ≡ [] →
+pub event_still : (h : Header) (k l : Known) (b : Block) → l.started ≡ k.started → l.stopped ≡ k.stopped → l.reads ≡ k.reads → l.isochronous ≡ k.isochronous → k.dequeue ≤ l.dequeue → lenient h k (Read b) ≡ [] →
     is_impossible_by_kind h l (kind b) b ≡ false → lenient h l (Read b) ≡ []
 unfolding is_impossible is_past_room
-event_still h k l b on off same more clean possible =
+event_still h k l b on off same isochronous more clean possible =
     let f : EventFacts h k b = event_facts h k b clean in
     event_broken h l b (off ∙ (clean_tests h k (Read b) clean).0)
     (or_from _ _ (or_from _ _ (or_from _ _ (or_from _ _ (not_from_true l.started (on ∙ f.started))
     (le-ltb (event_size h - 2) (l.reads - l.dequeue) (let room = ltb-false (event_size h - 2) (k.reads - k.dequeue) f.room in omega arith)))
-    (ap (λ n. not (cycle b == cycle_of (event_shape h) n)) same ∙ f.turn)) f.event) possible) f.inside
+    (ap (λ n. not (cycle b == cycle_of (event_shape h) n)) same ∙ f.turn)) f.event) possible) (ap (λ p. is_transfer_event (kind b) && not p) (profile_alike h k l b isochronous) ∙ f.inside)
 
 -- a posted event of a possible kind breaks no rule where it will be read
 pub event_clean : (h : Header) (k : Known) (w : World) (b : Block) → Stands h k w → w.posted ≡ k.reads → w.stopped ≡ false → CanPost h w b → w.posted + 2 ≤ w.dequeue + event_size h →
-    is_event (kind b) ≡ true → is_impossible_by_kind h k (kind b) b ≡ false → (is_transfer_event (kind b) && not (is_in_profile b)) ≡ false → lenient h k (Read b) ≡ []
+    is_event (kind b) ≡ true → is_impossible_by_kind h k (kind b) b ≡ false → (is_transfer_event (kind b) && not (is_in_profile h k b)) ≡ false → lenient h k (Read b) ≡ []
 unfolding is_impossible is_past_room
 event_clean h k w b s read on can room event possible in_profile = search (rules, event_broken, or_from, not_from_true, le-ltb, eq-eqb, cycle_of, event_shape)
 

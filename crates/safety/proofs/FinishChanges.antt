@@ -14,6 +14,7 @@ known_changed k m = record k {
   slot_state = m.slot_state;
   endpoint_state = m.endpoint_state;
   ring_of = m.ring_of;
+  isochronous = m.isochronous;
   must_move = m.must_move;
   device = m.device;
 }
@@ -23,6 +24,7 @@ world_changed w v = record w {
   slot_state = v.slot_state;
   endpoint_state = v.endpoint_state;
   ring_of = v.ring_of;
+  isochronous = v.isochronous;
   scribbles = v.scribbles;
   pointer_of = v.pointer_of;
   cycle_state = v.cycle_state;
@@ -37,6 +39,7 @@ module _ (h : Header) where
     pub slots : (s : ℕ) → w.slot_state s ≡ k.slot_state s
     pub endpoints : (s i : ℕ) → w.endpoint_state s i ≡ k.endpoint_state s i
     pub ring_of : (s i : ℕ) → w.ring_of s i ≡ k.ring_of s i
+    pub isochronous : (s i : ℕ) → w.isochronous s i ≡ k.isochronous s i
     pub rings : (r : ℕ) → r ≢ command_id h → EndpointRing h k w r
     pub scribbles : (s : ℕ) → w.scribbles s ≡ true → k.device s ≢ None
     pub apart : (s i r : ℕ) → k.ring_of s i ≡ Some r → r ≢ command_id h
@@ -69,6 +72,7 @@ module _ (h : Header) where
     slots = m.slots;
     endpoints = m.endpoints;
     ring_of = m.ring_of;
+    isochronous = m.isochronous;
     rings = m.rings;
     scribbles = m.scribbles;
     apart = λ s i r at. transfer_not_command h is r (d.states.transfer s i r at);

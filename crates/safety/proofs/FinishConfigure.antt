@@ -1,5 +1,5 @@
 -- The controller finishes a Configure Endpoint with success: the run goes on
-use Rattle.safety.proofs.MiddleLaws.{◌≡◌, ◌<◌, ◌≤◌, ◌||◌, ◌∷◌, ◌∙◌, ℕ, true, false, List, map, All, None, arith, refl, sym, ap, subst, get_or, eq-eqb, leb-true, rules, and_from, and_right, cond-true, cond-false, false≢true, Command, ConfigureEndpoint, Change, SlotGoesOn, Disables, changes, placed_by_context, is_off, added_endpoints, is_dropped, Header, IsHeader, World, Known, next_command, binding_in, binds, ring_bound, has_repeats, DriverKeeps, CommandKeeps, Stands, changed_by, changed_by_all, disabled, succeeded, bad_context_parts, bad_command_context, added_above, ReadyAt, map_map, dropped, all_ready, slot_above, off_none, slot_keeps, rings_of, StatesMatch, ChangeKeeps, same_context, added_below, configure_same, disable_keeps}
+use Rattle.safety.proofs.MiddleLaws.{typed, typed_by_context, ◌≡◌, ◌<◌, ◌≤◌, ◌||◌, ◌∷◌, ◌∙◌, ℕ, true, false, List, map, All, None, arith, refl, sym, ap, subst, get_or, eq-eqb, leb-true, rules, and_from, and_right, cond-true, cond-false, false≢true, Command, ConfigureEndpoint, Change, SlotGoesOn, Disables, changes, placed_by_context, is_off, added_endpoints, is_dropped, Header, IsHeader, World, Known, next_command, binding_in, binds, ring_bound, has_repeats, DriverKeeps, CommandKeeps, Stands, changed_by, changed_by_all, disabled, succeeded, bad_context_parts, bad_command_context, added_above, ReadyAt, map_map, dropped, all_ready, slot_above, off_none, slot_keeps, rings_of, StatesMatch, ChangeKeeps, same_context, added_below, configure_same, disable_keeps, types_keeps}
 use Rattle.safety.proofs.KeptRings.{command_holds}
 use Rattle.safety.proofs.PlaceEach.{each_keeps}
 use Rattle.safety.proofs.FinishSuccess.{EffectKeeps}
@@ -16,7 +16,7 @@ module _ (h : Header) (is : IsHeader h) (k : Known) (d : DriverKeeps h k) (s a :
 
   -- what is added was dropped or off, so it has no ring
   none_left : (i : ℕ) → (is_off (k.endpoint_state s i) || is_dropped k.memory a i) ≡ true → l.ring_of s i ≡ None
-  unfolding changed_by disabled
+  unfolding changed_by disabled typed
   none_left i free = search (rules, l, cond-true, and_from, eq-eqb, cond-false, and_right, off_none, false≢true)
 
   pub may_add : All (ReadyAt h is l k.memory s a) (added_endpoints k.memory a)
@@ -40,10 +40,10 @@ module _ (h : Header) (is : IsHeader h) (k : Known) (d : DriverKeeps h k) (s a :
   each w m low = each_keeps h is k.memory s a c (slot_above h k d c s given.good refl) low (added_endpoints k.memory a) l w m may_add have_none numbered apart
 
   abbrev pub all : List Change
-  all = SlotGoesOn s ∷ Disables s (is_dropped k.memory a) ∷ map (placed_by_context h.context_size k.memory s a) (added_endpoints k.memory a)
+  all = SlotGoesOn s ∷ typed_by_context h.context_size k.memory s a ∷ Disables s (is_dropped k.memory a) ∷ map (placed_by_context h.context_size k.memory s a) (added_endpoints k.memory a)
 
   list_keeps : (w : World) → StatesMatch h k w → s < 256 → ListKeeps h c k w all
-  list_keeps w m low = search (rules, change_then, slot_keeps, disable_keeps, each)
+  list_keeps w m low = search (rules, change_then, slot_keeps, types_keeps, disable_keeps, each)
 
   pub configure_changes : (n : ℕ) → changes h.context_size k.memory n c ≡ all
   unfolding changes

@@ -90,7 +90,7 @@ module _ (h : Header) (is : IsHeader h) (k : Known) (unread : List Block) (w v :
         clean = event_clean h k w b g.stands g.read running p.can p.room
             (or_left _ _ (or_right _ _ f.completion))
             (completion_possible h k b f.completion (taken_now h k below) (f.named ∙ under.1.address) f.some_code (ap (λ o. can_finish k b o) here ∙ may))
-            (and_left (is_transfer_event (kind b)) (not (is_in_profile b)) (no_transfer (kind b) f.completion));
+            (and_left (is_transfer_event (kind b)) (not (is_in_profile h k b)) (no_transfer (kind b) f.completion));
         agrees = subst (λ x. Agrees h x (unread ++ b ∷ []) (counted h v)) (sym (learned_read h k b ∙ read)) (subst (λ y. Agrees h m (unread ++ b ∷ []) (counted h y)) ends after_post);
       }
 

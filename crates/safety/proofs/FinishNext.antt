@@ -41,6 +41,7 @@ module _ (h : Header) (is : IsHeader h) (k : Known) (d : DriverKeeps h k) (on : 
       slots = y.slots;
       endpoints = y.endpoints;
       ring_of = y.ring_of;
+      isochronous = y.isochronous;
       rings = λ q other. (grind (arith, shape_of, k.ring_of, state_of, ring_same));
       before = λ off. let b = y.before off in record { inactive = b.inactive; no_events = b.no_events; none = refl };
       command = λ started. record {

@@ -1,5 +1,5 @@
 -- The controller finishes with success a command that places no endpoint on a ring: the run goes on
-use Rattle.safety.proofs.MiddleLaws.{[], ◌≡◌, ◌∷◌, ◌∙◌, ℕ, true, false, List, Option, Some, option_and_then, ap, subst, none-some, same_Some, Command, AddressDevice, ConfigureEndpoint, SetTrDequeue, Change, SlotGoesOn, DeviceLeft, Disables, Places, Stops, Resets, changes, Header, World, Known, changed_by, changed_by_all, succeeded, arith, StatesMatch, ChangeKeeps, none_keeps, both_keep, slot_keeps, device_keeps, reset_keeps, stop_keeps, disable_keeps}
+use Rattle.safety.proofs.MiddleLaws.{Types, [], ◌≡◌, ◌∷◌, ◌∙◌, ℕ, true, false, List, Option, Some, option_and_then, ap, subst, none-some, same_Some, Command, AddressDevice, ConfigureEndpoint, SetTrDequeue, Change, SlotGoesOn, DeviceLeft, Disables, Places, Stops, Resets, changes, Header, World, Known, changed_by, changed_by_all, succeeded, arith, StatesMatch, ChangeKeeps, none_keeps, both_keep, slot_keeps, device_keeps, types_keeps, reset_keeps, stop_keeps, disable_keeps}
 use Rattle.safety.proofs.FinishSuccess.{EffectKeeps}
 use Rattle.world_state.specs.Bindings as bindings
 
@@ -20,6 +20,7 @@ module _ (h : Header) (c : Command) where
   pub change_keeps : (change : Change) → IsNoPlacing change → (k : Known) (w v : World) → StatesMatch h k w → bindings.changed_by h c w change ≡ Some v → ChangeKeeps h k (changed_by h c k change) w v
   change_keeps (SlotGoesOn s) none k w v m at = slot_keeps h c k w m s v at
   change_keeps (DeviceLeft s) none k w v m at = device_keeps h c k w m s v at
+  change_keeps (Types s which isochronous) none k w v m at = types_keeps h c k w m s which isochronous v at
   change_keeps (Disables s which) none k w v m at = disable_keeps h c k w m s which v at
   change_keeps (Places s i p cycle state) none k w v m at = absurd none
   change_keeps (Stops s i) none k w v m at = stop_keeps h c k w m s i v at

@@ -1,5 +1,5 @@
 -- An event leaves an endpoint whose ring is held, where no unfinished command touches it: its doorbell stays one that may be rung
-use Rattle.safety.proofs.UpperLaws.{[], ◌≡◌, ◌==◌, ◌&&◌, ◌∙◌, ℕ, not, nat_lt, true, false, is_none, Option, None, Some, refl, sym, ap, subst, eqb-true, eq-eqb, rules, cases_Bool, cond-true, and_parts, and_from, or_parts, or_from, not-false, false≢true, same_Some, Block, BlockKind, TransferEvent, CommandCompletion, kind, code, slot, endpoint, is_transfer_event, is_command_completion, is_success, Spot, is_open, Header, Read, IsHeader, Known, RingSpot, event_at, transferred, transferred_at, transfer_read, event_read, learned, is_touched, is_bad_bell, is_in_profile, is_working, can_report, can_report_at, is_impossible_by_kind, lenient, DriverKeeps, EventFacts, event_facts, event_ring_of, completion_facts, transferred_leaves, EndpointHolds, same_holds, works_there}
+use Rattle.safety.proofs.UpperLaws.{code_told, [], ◌≡◌, ◌==◌, ◌&&◌, ◌∙◌, ℕ, not, nat_lt, true, false, is_none, Option, None, Some, refl, sym, ap, subst, eqb-true, eq-eqb, rules, cases_Bool, cond-true, and_parts, and_from, or_parts, or_from, not-false, false≢true, same_Some, Block, BlockKind, TransferEvent, CommandCompletion, kind, slot, endpoint, is_transfer_event, is_command_completion, is_success, Spot, is_open, Header, Read, IsHeader, Known, RingSpot, event_at, transferred, transferred_at, transfer_read, event_read, learned, is_touched, is_bad_bell, is_in_profile, is_working, can_report, can_report_at, is_impossible_by_kind, lenient, DriverKeeps, EventFacts, event_facts, event_ring_of, completion_facts, transferred_leaves, EndpointHolds, same_holds, works_there}
 use Rattle.safety.proofs.StatesTransfer.{reported}
 use Rattle.safety.proofs.StillRings.{passed_holds, other_holds, untouched_behind}
 use Rattle.safety.proofs.UntouchedCompletion.{completion_holds}
@@ -19,13 +19,13 @@ module _ (h : Header) (is : IsHeader h) (k : Known) (d : DriverKeeps h k) (s i r
   at_holds : (b : Block) (o : Option RingSpot) → event_at h k b ≡ o → can_report_at h k b o ≡ true → EndpointHolds k (transferred_at h k b o) s i
   unfolding transferred_at can_report_at
   at_holds b None found can = same_holds k s i
-  at_holds b (Some at) found can = transferred_holds (code b) (slot b) (endpoint b) at.ring at.spot (event_ring_of h k b at found) can
+  at_holds b (Some at) found can = transferred_holds (code_told h k b) (slot b) (endpoint b) at.ring at.spot (event_ring_of h k b at found) can
 
   -- any event
-  event_holds : (b : Block) → k.started ≡ true → (n : BlockKind) → kind b ≡ n → is_impossible_by_kind h k n b ≡ false → (is_transfer_event n && not (is_in_profile b)) ≡ false →
+  event_holds : (b : Block) → k.started ≡ true → (n : BlockKind) → kind b ≡ n → is_impossible_by_kind h k n b ≡ false → (is_transfer_event n && not (is_in_profile h k b)) ≡ false →
       EndpointHolds k (event_read h k n b) s i
   unfolding event_read is_impossible_by_kind transfer_read
-  event_holds b started TransferEvent at possible inside = at_holds b (event_at h k b) refl (reported h is k d b possible (not-false (is_in_profile b) inside))
+  event_holds b started TransferEvent at possible inside = at_holds b (event_at h k b) refl (reported h is k d b possible (not-false (is_in_profile h k b) inside))
   event_holds b started CommandCompletion at possible inside =
       completion_holds h s i is k d b started (completion_facts h k b (ap is_command_completion at) (ap (λ m. is_impossible_by_kind h k m b) at ∙ possible)) untouched
   event_holds b started _ at possible inside = same_holds k s i

@@ -11,6 +11,7 @@ pub record SameStates (k l : Known) : Type 0 where
   pub slot_state : l.slot_state ≡ k.slot_state
   pub endpoint_state : l.endpoint_state ≡ k.endpoint_state
   pub ring_of : l.ring_of ≡ k.ring_of
+  pub isochronous : l.isochronous ≡ k.isochronous
   pub must_move : l.must_move ≡ k.must_move
   pub stop_seen : l.stop_seen ≡ k.stop_seen
   pub device : l.device ≡ k.device

@@ -3,10 +3,10 @@ use Rattle.safety.proofs.MiddleLaws.{◌≡◌, ◌&&◌, not, true, false, refl
 use Rattle.safety.proofs.Completions.{completion_keeps}
 
 module _ (h : Header) (is : IsHeader h) where
-  event_keeps : (k : Known) (b : Block) (n : BlockKind) → (keeps : RingsKeep h k) → EndpointsKeep h k → is_impossible_by_kind h k n b ≡ false → (is_transfer_event n && not (is_in_profile b)) ≡ false →
+  event_keeps : (k : Known) (b : Block) (n : BlockKind) → (keeps : RingsKeep h k) → EndpointsKeep h k → is_impossible_by_kind h k n b ≡ false → (is_transfer_event n && not (is_in_profile h k b)) ≡ false →
       (is_command_completion n ≡ true → MayFinish h k b) → RingsKept h k (event_read h k n b)
   unfolding event_read is_impossible_by_kind
-  event_keeps k b TransferEvent keeps endpoints possible inside may = transfer_keeps h is k keeps b possible (not-false (is_in_profile b) inside)
+  event_keeps k b TransferEvent keeps endpoints possible inside may = transfer_keeps h is k keeps b possible (not-false (is_in_profile h k b) inside)
   event_keeps k b CommandCompletion keeps endpoints possible inside may = completion_keeps h is k b keeps endpoints possible (may refl)
   event_keeps k b _ keeps endpoints possible inside may = stands h k keeps
 

@@ -1,5 +1,5 @@
 -- The command ring holds commands, each alone in its descriptor, and is open from its first doorbell on: kept by each row
-use Rattle.safety.proofs.MiddleLaws.{[], ◌≡◌, ◌-◌, ◌<◌, ◌⊎◌, ◌==◌, ◌&&◌, ◌++◌, ◌∙◌, ℕ, nat_lt, true, false, List, length, All, None, Some, is_some, slice_get, arith, refl, sym, ap, subst, inl, inr, get_or, length-append, eqb-true, ltb-true, rules, list_all, cases_lt, cond-false, and_cases, and_parts, or_parts, not-false, false≢true, slice_get_within, get_or_from_slice_get, get_or-append_right, All-push, All-get_or, Block, BlockKind, RingKind, Cmd, kind, is_command_completion, is_no_command, is_command_left_out, is_bad_descriptor, is_left_out, Data, Shape, is_shape, RingView, Declares, Reaches, changed, after, ceiling, cases_option, slice_get-append, ceiling_held, command_of, Header, Sub, Write, Reg, Bell, Read, IsHeader, may_stand_together, is_command_kind, ring_with, shape_of, command_ring, command_id, Known, on_ring, command_at, next_command, endpoint_rung, rung, finished, completed, event_read, learned, is_driver_ring, declaration_tests, lenient_tests, lenient, CommandRingKeeps, KeptByRows, EndpointsKeep, AllFail, tests_fail, each_fails, HasRing, has_ring, found_allowed, command_found, command_named, shape_is, command_not_transfer, ring_here, ring_elsewhere, finish_elsewhere, endpoints_of, view_after, register_leaves, written_view, transfer_command, event_facts}
+use Rattle.safety.proofs.MiddleLaws.{profile_of, Profile, [], ◌≡◌, ◌-◌, ◌<◌, ◌⊎◌, ◌==◌, ◌&&◌, ◌++◌, ◌∙◌, ℕ, nat_lt, true, false, List, length, All, None, Some, is_some, slice_get, arith, refl, sym, ap, subst, inl, inr, get_or, length-append, eqb-true, ltb-true, rules, list_all, cases_lt, cond-false, and_cases, and_parts, or_parts, not-false, false≢true, slice_get_within, get_or_from_slice_get, get_or-append_right, All-push, All-get_or, Block, BlockKind, RingKind, Cmd, kind, is_command_completion, is_no_command, is_command_left_out, is_bad_descriptor, is_left_out, Data, Shape, is_shape, RingView, Declares, Reaches, changed, after, ceiling, cases_option, slice_get-append, ceiling_held, command_of, Header, Sub, Write, Reg, Bell, Read, IsHeader, may_stand_together, is_command_kind, ring_with, shape_of, command_ring, command_id, Known, on_ring, command_at, next_command, endpoint_rung, rung, finished, completed, event_read, learned, is_driver_ring, declaration_tests, lenient_tests, lenient, CommandRingKeeps, KeptByRows, EndpointsKeep, AllFail, tests_fail, each_fails, HasRing, has_ring, found_allowed, command_found, command_named, shape_is, command_not_transfer, ring_here, ring_elsewhere, finish_elsewhere, endpoints_of, view_after, register_leaves, written_view, transfer_command, event_facts}
 use Rattle.safety.specs.RingsKeep.{IsDriverRing}
 use Rattle.safety.proofs.KeptCommandRing.{command_with}
 use Rattle.safety.proofs.KeptRings.{completion_facts}
@@ -9,9 +9,9 @@ use Rattle.safety.proofs.KeptRings.{completion_facts}
 is_read : (b : Block) → is_no_command b ≡ false → is_command_left_out b ≡ false → is_some (command_of b) ≡ true
 is_read b good inside = search (rules, is_some, or_parts, and_cases, not-false, false≢true, cond-false)
 
-command_blocks : (t : RingKind) (blocks : List Block) → t ≡ Cmd → is_bad_descriptor t blocks ≡ false → is_left_out t blocks ≡ false →
+command_blocks : (profile : Profile) (t : RingKind) (blocks : List Block) → t ≡ Cmd → is_bad_descriptor profile t blocks ≡ false → is_left_out profile t blocks ≡ false →
     (length blocks ≡ 1) × All (λ b. is_some (command_of b) ≡ true) blocks
-command_blocks o blocks is good inside = grind (arith, length, is_some, or_parts, each_fails, eqb-true, not-false, is_read, get_or, false≢true)
+command_blocks profile o blocks is good inside = grind (arith, length, is_some, or_parts, each_fails, eqb-true, not-false, is_read, get_or, false≢true)
 
 -- what is declared then is what was declared, or is declared now
 declared_then : (P : Block → Type 0) (xs ys : List Block) (p : ℕ) (d : Block) → ((p : ℕ) (d : Block) → slice_get xs p ≡ Some d → P d) → All P ys → slice_get (xs ++ ys) p ≡ Some d → P d
@@ -70,7 +70,7 @@ module _ (h : Header) where
   declared_blocks is k r blocks clean same =
       let fails : AllFail (declaration_tests h k r blocks) = tests_fail h k (Sub r blocks) clean in
       let driver : IsDriverRing h (command_id h) = ap (λ n. is_driver_ring (ring_with h n)) same ∙ not-false (is_driver_ring (ring_with h r)) fails.0 in
-      command_blocks (shape_of h r).kind blocks (ap (λ n. (shape_of h n).kind) (sym same) ∙ command_kind is driver) fails.1.1.0 fails.1.1.1.0
+      command_blocks (profile_of h.version) (shape_of h r).kind blocks (ap (λ n. (shape_of h n).kind) (sym same) ∙ command_kind is driver) fails.1.1.0 fails.1.1.1.0
 
   declared_view : IsHeader h → (k : Known) (r : ℕ) (blocks : List Block) → lenient h k (Sub r blocks) ≡ [] → ViewOfCommands (k.ring (command_id h)) →
       ViewOfCommands ((learned h k (Sub r blocks)).ring (command_id h))
@@ -80,10 +80,6 @@ module _ (h : Header) where
       (λ same. view_declares (shape_of h r) (k.ring r) blocks (declared_blocks is k r blocks clean same) (subst (λ n. ViewOfCommands (k.ring n)) same keeps)) (λ other. keeps)
 
   -- ---- a doorbell
-
-  rung_view : IsHeader h → (k : Known) → EndpointsKeep h k → (s t : ℕ) → ViewOfCommands (k.ring (command_id h)) → ViewOfCommands ((learned h k (Bell s t)).ring (command_id h))
-  unfolding learned rung endpoint_rung
-  rung_view is k keeps s t view = search (rules, on_ring, command_id, endpoint_rung, k.ring_of, ring_here, ring_elsewhere, command_not_transfer)
 
   -- ---- an event
 
@@ -110,12 +106,12 @@ module _ (h : Header) where
   written_still k a w view = subst ViewOfCommands (sym (written_view h k a w (command_id h))) (record { commands = view.commands; alone = view.alone; held = view.held })
 
   pub kept_command_ring : KeptByRows h (CommandRingKeeps h)
-  unfolding learned
+  unfolding learned rung endpoint_rung
   kept_command_ring is k (Sub r blocks) d clean on = from_view (learned h k (Sub r blocks)) (declared_view is k r blocks clean (view_of k d.command_ring))
   kept_command_ring is k (Write a w) d clean on = from_view (learned h k (Write a w)) (written_still k a w (view_of k d.command_ring))
   kept_command_ring is k (Reg r x) d clean on =
       from_view (learned h k (Reg r x)) (subst (λ (f : ℕ → RingView). ViewOfCommands (f (command_id h))) (sym (register_leaves h k r x).ring) (view_of k d.command_ring))
-  kept_command_ring is k (Bell s t) d clean on = from_view (learned h k (Bell s t)) (rung_view is k (endpoints_of h k d.states) s t (view_of k d.command_ring))
+  kept_command_ring is k (Bell s t) d clean on = from_view (learned h k (Bell s t)) (search (rules, on_ring, command_id, endpoint_rung, k.ring_of, ring_here, ring_elsewhere, command_not_transfer))
   kept_command_ring is k (Read b) d clean on =
       from_view (learned h k (Read b))
       (subst (λ (f : ℕ → RingView). ViewOfCommands (f (command_id h))) (sym (read_view k b))

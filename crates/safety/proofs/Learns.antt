@@ -18,6 +18,7 @@ pub record LearnsRing (k m : Known) (r : ℕ) (x : RingView) : Type 0 where
   pub slot_state : m.slot_state ≡ k.slot_state
   pub endpoint_state : m.endpoint_state ≡ k.endpoint_state
   pub ring_of : m.ring_of ≡ k.ring_of
+  pub isochronous : m.isochronous ≡ k.isochronous
   pub stop_seen : m.stop_seen ≡ k.stop_seen
 
 -- ---- the command under way, where the command ring is known as before
@@ -62,6 +63,7 @@ module _ (h : Header) (k m : Known) (r : ℕ) (x : RingView) (l : LearnsRing k m
           slots = λ q. ap (λ f. f q) o.slot_state ∙ y.slots q ∙ ap (λ f. f q) (sym l.slot_state);
           endpoints = λ q i. ap (λ f. f q i) o.endpoint_state ∙ y.endpoints q i ∙ ap (λ f. f q i) (sym l.endpoint_state);
           ring_of = λ q i. ap (λ f. f q i) o.ring_of ∙ y.ring_of q i ∙ ap (λ f. f q i) (sym l.ring_of);
+          isochronous = λ q i. ap (λ f. f q i) o.isochronous ∙ y.isochronous q i ∙ ap (λ f. f q i) (sym l.isochronous);
           rings = λ q not_command. elim (cases_eq q r) [
             | inl same ↦ subst (λ p. EndpointRing h m v p) (sym same)
                 (inl (subst (λ f. BoundRing (shape_of h r) f (m.ring r) (state_of v r) r) (sym l.ring_of)

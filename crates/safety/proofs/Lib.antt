@@ -7,6 +7,7 @@ pub mod OpenRings
 pub mod Passing
 pub mod DriverRows
 pub mod NothingFree
+pub mod CodesTold
 pub mod Transfers
 pub mod Completions
 pub mod Histories

@@ -29,6 +29,7 @@ pub record KnownGoesOn (h : Header) (k m : Known) : Type 0 where
   pub slot_state : m.slot_state ≡ k.slot_state
   pub endpoint_state : m.endpoint_state ≡ k.endpoint_state
   pub ring_of : m.ring_of ≡ k.ring_of
+  pub isochronous : m.isochronous ≡ k.isochronous
   pub was_bound : m.was_bound ≡ k.was_bound
   pub stop_seen : m.stop_seen ≡ k.stop_seen
   pub device : (s : ℕ) → k.device s ≢ None → m.device s ≢ None
@@ -39,13 +40,14 @@ pub record SameController (w v : World) : Type 0 where
   pub slot_state : v.slot_state ≡ w.slot_state
   pub endpoint_state : v.endpoint_state ≡ w.endpoint_state
   pub ring_of : v.ring_of ≡ w.ring_of
+  pub isochronous : v.isochronous ≡ w.isochronous
   pub scribbles : v.scribbles ≡ w.scribbles
   pub under_way : v.under_way ≡ w.under_way
   pub inside : v.looked_outside ≡ w.looked_outside
   pub states : (r : ℕ) → state_of v r ≡ state_of w r
 
 pub same_controller : (w : World) → SameController w w
-same_controller w = record { slot_state = refl; endpoint_state = refl; ring_of = refl; scribbles = refl; under_way = refl; inside = refl; states = λ r. refl }
+same_controller w = record { slot_state = refl; endpoint_state = refl; ring_of = refl; isochronous = refl; scribbles = refl; under_way = refl; inside = refl; states = λ r. refl }
 
 module _ (h : Header) (k m : Known) (w v : World) (g : KnownGoesOn h k m) (c : SameController w v) where
   command_matches : ((u : UnderWay) → w.under_way ≡ Some u → NextStays h k m (g.rings (command_id h)).floor g.stop_seen) → CommandMatches h k w → CommandMatches h m v
@@ -63,12 +65,9 @@ module _ (h : Header) (k m : Known) (w v : World) (g : KnownGoesOn h k m) (c : S
     slots = λ s. ap (λ f. f s) c.slot_state ∙ y.slots s ∙ ap (λ f. f s) (sym g.slot_state);
     endpoints = λ s i. ap (λ f. f s i) c.endpoint_state ∙ y.endpoints s i ∙ ap (λ f. f s i) (sym g.endpoint_state);
     ring_of = λ s i. ap (λ f. f s i) c.ring_of ∙ y.ring_of s i ∙ ap (λ f. f s i) (sym g.ring_of);
+    isochronous = λ s i. ap (λ f. f s i) c.isochronous ∙ y.isochronous s i ∙ ap (λ f. f s i) (sym g.isochronous);
     rings = λ r other. grind (arith, shape_of, state_of, bound_on, number);
-    before = λ off. let b = y.before (sym g.started ∙ off) in record {
-      inactive = ap (λ s. s.active) (c.states (command_id h)) ∙ b.inactive;
-      no_events = ap (λ s. s.events) (c.states (command_id h)) ∙ b.no_events;
-      none = c.under_way ∙ b.none;
-    };
+    before = λ off. (grind (arith, y.before, c.states, g.started));
     command = λ on. command_matches next (y.command (sym g.started ∙ on));
     scribbles = λ s may. g.device s (y.scribbles s (ap (λ f. f s) (sym c.scribbles) ∙ may));
     contexts = contexts;

@@ -1,6 +1,6 @@
 -- No access of memory or registers makes anything free, and none restores anything
-use Rattle.safety.proofs.MiddleLaws.{[], ◌≡◌, ◌∷◌, ◌∙◌, ℕ, List, refl, sym, ap, no_flips, Block, Declares, Opens, IsRestored, Header, Row, IsHeader, shape_of, command_id, Known, nothing, on_ring, with_device, with_word, written, run_or_stop, valued, register_written, endpoint_rung, rung, learned, lenient, MayCome, IsRestoring, EndpointsKeep, kind, arith, nothing_endpoints, view_after, on_ring_same, event_same}
-use Rattle.safety.proofs.RingIds.{transfer_driver}
+use Rattle.safety.proofs.Words.{◌≡◌, ◌∙◌, ℕ, List, refl, sym, ap, Block, Declares, Opens, Header, Row, command_id, Known, on_ring, with_device, with_word, written, run_or_stop, valued, register_written, endpoint_rung, rung, learned, kind, arith}
+use Rattle.safety.proofs.SameDriver.{view_after, on_ring_same, event_same}
 
 abbrev pub SameFree : Known → Known → Type 0
 SameFree k l = (r : ℕ) → (l.ring r).free ≡ (k.ring r).free

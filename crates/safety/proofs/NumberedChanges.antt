@@ -1,5 +1,5 @@
 -- The endpoints that a command names have numbers of slots and endpoints, and so has each endpoint that a success gives a ring
-use Rattle.safety.proofs.LowerLaws.{[], ◌≡◌, ◌+◌, ◌<◌, ◌≤◌, if◌then◌else◌, ◌∷◌, ◌∙◌, ℕ, suc, zero, Bool, true, false, List, map, filter, Option, Some, arith, sym, ap, eqb-true, range_with_len, and_parts, none-some, same_Some, Block, kind, is_command_left_out, Command, NoOp, DisableSlot, AddressDevice, ConfigureEndpoint, EvaluateContext, SetTrDequeue, ResetDevice, is_off, command_by_kind, command_of, Change, Places, changes, placed_by_context, ContextSize, input_add_flag, added_endpoints, Header, ring_having, Known, bound_to, moved, pointed, disabled, in_state, held_at_ceiling, changed_by, changed_by_all, rules, cond_is, AreNumbered}
+use Rattle.safety.proofs.LowerLaws.{typed, [], ◌≡◌, ◌+◌, ◌<◌, ◌≤◌, if◌then◌else◌, ◌∷◌, ◌∙◌, ℕ, suc, zero, Bool, true, false, List, map, filter, Option, Some, arith, sym, ap, eqb-true, range_with_len, and_parts, none-some, same_Some, Block, kind, is_command_left_out, Command, NoOp, DisableSlot, AddressDevice, ConfigureEndpoint, EvaluateContext, SetTrDequeue, ResetDevice, is_off, command_by_kind, command_of, Change, Places, changes, placed_by_context, ContextSize, input_add_flag, added_endpoints, Header, ring_having, Known, bound_to, moved, pointed, disabled, in_state, held_at_ceiling, changed_by, changed_by_all, rules, cond_is, AreNumbered}
 use Rattle.safety.proofs.Endpoints.{moved_rings, held_rings}
 use Rattle.safety.proofs.WrittenKnown.{slot_low}
 
@@ -38,7 +38,7 @@ unfolding changes added_endpoints
 changes_numbered size memory n NoOp c = tt
 changes_numbered size memory n (DisableSlot s) c = (tt, (tt, (tt, tt)))
 changes_numbered size memory n (AddressDevice s bsr a) c = (tt, ((c, omega arith), tt))
-changes_numbered size memory n (ConfigureEndpoint s false a) c = (tt, (tt, added_numbered size memory s a (input_add_flag memory a) c 2 30 (omega arith)))
+changes_numbered size memory n (ConfigureEndpoint s false a) c = (tt, (tt, (tt, added_numbered size memory s a (input_add_flag memory a) c 2 30 (omega arith))))
 changes_numbered size memory n (ConfigureEndpoint s true a) c = (tt, (tt, tt))
 changes_numbered size memory n (EvaluateContext s a) c = tt
 changes_numbered size memory n (SetTrDequeue s i p cycle) c = (c, tt)
@@ -56,6 +56,6 @@ module _ (h : Header) where
   pointed_numbered k all s i p cycle fits = search (rules, is_off, bound_to, ring_having, moved, cond_is, and_parts, eqb-true, same_numbered, moved_rings)
 
   pub all_numbered : (c : Command) (k : Known) (l : List Change) → AreNumbered k → AllNumbered l → AreNumbered (changed_by_all h c k l)
-  unfolding changed_by_all changed_by disabled in_state
+  unfolding changed_by_all changed_by disabled typed in_state
   all_numbered c k [] all fits = all
   all_numbered c k (change ∷ rest) all fits = all_numbered c (changed_by h c k change) rest (grind (arith, same_numbered, changed_by, cond_is, none-some, pointed, pointed_numbered, in_state, held_at_ceiling, held_rings)) fits.1

@@ -18,6 +18,7 @@ pub record OnlyRing (w v : World) (r : ℕ) (s : RingState) : Type 0 where
   pub slot_state : v.slot_state ≡ w.slot_state
   pub endpoint_state : v.endpoint_state ≡ w.endpoint_state
   pub ring_of : v.ring_of ≡ w.ring_of
+  pub isochronous : v.isochronous ≡ w.isochronous
   pub posted : v.posted ≡ w.posted
   pub reads : v.reads ≡ w.reads
   pub dequeue : v.dequeue ≡ w.dequeue

@@ -1,5 +1,5 @@
 -- Before the first row: nothing is known, nothing is posted, and the opening world agrees with that
-use Rattle.safety.proofs.Words.{[], ◌≡◌, ◌≤◌, ℕ, false, List, arith, refl, rules, false≢true, All-nil, none-some, IsBlock, Header, Row, opening, nothing, Stands, EventsStand, Matches, Runs, next_take, ceiling, has_other_words, is_out_of_order}
+use Rattle.safety.proofs.Words.{[], ◌≡◌, ◌≤◌, ℕ, false, arith, refl, rules, false≢true, All-nil, none-some, IsBlock, Header, opening, nothing, Stands, EventsStand, Matches, Runs, next_take, ceiling, has_other_words, is_out_of_order}
 
 module _ (h : Header) where
   stands : Stands h nothing opening

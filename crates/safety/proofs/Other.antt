@@ -15,14 +15,21 @@ posted_is : (h : Header) (w v : World) (b : Block) → other_posted h w b ≡ So
 unfolding other_posted
 posted_is h w v b at = search (rules, cond_some, can_post, is_other_event, kind, posted, and_parts)
 
-module _ (h : Header) (is : IsHeader h) (k : Known) (unread : List Block) (w : World) (b : Block) (block : IsBlock b) (d : DriverKeeps h k) (g : Agrees h k unread w) (can : can_post h w b ≡ true) (other : is_other_event (kind b) ≡ true) where
+module _ (h : Header) (is : IsHeader h) (k : Known) (unread : List Block) (w : World) (b : Block) (block : IsBlock b) (d : DriverKeeps h k) (g : Agrees h k unread w) (can : can_post h w b ≡ true) (silent : event_read h k (kind b) b ≡ k) where
   learned_same : learned h k (Read b) ≡ with_reads k (k.reads + 1)
-  learned_same = learned_read h k b ∙ ap (λ m. with_reads m (k.reads + 1)) (says_nothing h k b (kind b) other).read
+  learned_same = learned_read h k b ∙ ap (λ m. with_reads m (k.reads + 1)) silent
 
   agrees_other : Agrees h (with_reads k (k.reads + 1)) (unread ++ b ∷ []) (counted h (posted h w b))
   agrees_other =
       let p = post_keeps h is k unread w b block d g can in
       agrees_counted h (with_reads k (k.reads + 1)) (unread ++ b ∷ []) (posted h w b) (stands_with_reads h (k.reads + 1) k (posted h w b) p.stands) p.events (matches_with_reads h (k.reads + 1) k (posted h w b) p.matches) p.posted_is p.late
+
+-- an event that changes nothing of what is known is posted
+pub silent_agrees : (h : Header) → IsHeader h → (k : Known) (unread : List Block) (w v : World) (b : Block) → IsBlock b → DriverKeeps h k → Agrees h k unread w → can_post h w b ≡ true →
+    event_read h k (kind b) b ≡ k → posted h w b ≡ v → Agrees h (learned h k (Read b)) (unread ++ b ∷ []) (counted h v)
+silent_agrees h is k unread w v b block d g can silent at =
+    subst (λ m. Agrees h m (unread ++ b ∷ []) (counted h v)) (sym (learned_same h is k unread w b block d g can silent))
+    (subst (λ u. Agrees h (with_reads k (k.reads + 1)) (unread ++ b ∷ []) (counted h u)) at (agrees_other h is k unread w b block d g can silent))
 
 -- the run goes on behind the post
 pub other_runs : (h : Header) → IsHeader h → (now : Known) (w v : World) (b : Block) → IsBlock b → w.stopped ≡ false → (r : Runs h now w) →
@@ -34,10 +41,9 @@ other_runs h is now w v b block running r d at =
     let keeps = post_keeps h is k r.unread w b block d r.agrees p.0 in
     let none = event_clean h k w b r.agrees.stands r.agrees.read running keeps.can keeps.room
     (or_right (is_transfer_event (kind b) || is_command_completion (kind b)) (is_other_event (kind b)) p.1) s.possible
-    (and_left (is_transfer_event (kind b)) (not (is_in_profile b)) s.no_transfer) in
+    (and_left (is_transfer_event (kind b)) (not (is_in_profile h k b)) s.no_transfer) in
     runs_more h now w v b block r
     (record {
       clean = none;
-      agrees = subst (λ m. Agrees h m (r.unread ++ b ∷ []) (counted h v)) (sym (learned_same h is k r.unread w b block d r.agrees p.0 p.1))
-          (subst (λ u. Agrees h (with_reads k (k.reads + 1)) (r.unread ++ b ∷ []) (counted h u)) p.2 (agrees_other h is k r.unread w b block d r.agrees p.0 p.1));
+      agrees = silent_agrees h is k r.unread w v b block d r.agrees p.0 s.read p.2;
     })

@@ -1,5 +1,5 @@
 -- The success of a command leaves other slots, and the rings that it doesn't name; one of an endpoint leaves the slot's other endpoints too
-use Rattle.safety.proofs.LowerLaws.{[], ◌≡◌, ◌∷◌, ℕ, Bool, true, false, List, Option, None, Some, sym, subst, ne_eqb, cond_both, cond-false, and_left, none-some, put_pair, Spot, number, RingChange, Reaches, Holds, ceiling, target, Command, EndpointState, Stopped, is_off, Change, SlotGoesOn, DeviceLeft, Disables, Places, Stops, Resets, Header, shape_of, ring_having, Known, on_ring, set_to, bound_to, moved_to, moved, pointed, disabled, in_state, held_at_ceiling, changed_by, changed_by_all, rules, arith, at_pair, at_number}
+use Rattle.safety.proofs.LowerLaws.{typed, Types, [], ◌≡◌, ◌∷◌, ℕ, Bool, true, false, List, Option, None, Some, sym, subst, ne_eqb, cond_both, cond-false, and_left, none-some, put_pair, Spot, number, RingChange, Reaches, Holds, ceiling, target, Command, EndpointState, Stopped, is_off, Change, SlotGoesOn, DeviceLeft, Disables, Places, Stops, Resets, Header, shape_of, ring_having, Known, on_ring, set_to, bound_to, moved_to, moved, pointed, disabled, in_state, held_at_ceiling, changed_by, changed_by_all, rules, arith, at_pair, at_number}
 use Rattle.safety.proofs.DriverRows.{ring_elsewhere}
 
 -- endpoint i is in the part of a slot that changed: one endpoint, or with None the whole slot
@@ -68,6 +68,7 @@ module _ (s : ℕ) (part : Option ℕ) (B : ℕ → Type 0) where
     abbrev pub ChangesOnly : Known → Change → Type 0
     ChangesOnly k (SlotGoesOn t) = (t ≡ s) × (part ≡ None)
     ChangesOnly k (DeviceLeft t) = (t ≡ s) × (part ≡ None)
+    ChangesOnly k (Types t which isochronous) = (t ≡ s) × (part ≡ None)
     ChangesOnly k (Disables t which) = (t ≡ s) × (part ≡ None)
     ChangesOnly k (Places t i p cycle state) = (t ≡ s) × IsPart part i × (is_off (k.endpoint_state s i) ≡ true → (r : ℕ) → ring_having h p ≡ Some r → B r)
     ChangesOnly k (Stops t i) = (t ≡ s) × IsPart part i
@@ -93,9 +94,10 @@ module _ (s : ℕ) (part : Option ℕ) (B : ℕ → Type 0) where
     resets c k i within mine = state_others k within i mine Stopped
 
     pub change_others : (c : Command) (k : Known) (change : Change) → Within k → ChangesOnly k change → OtherSlots k (changed_by h c k change) s part B
-    unfolding changed_by disabled
+    unfolding changed_by disabled typed
     change_others c k (SlotGoesOn t) within only = subst (λ x. OtherSlots k (changed_by h c k (SlotGoesOn x)) s part B) (sym only.0) (search (rules, at_number))
     change_others c k (DeviceLeft t) within only = subst (λ x. OtherSlots k (changed_by h c k (DeviceLeft x)) s part B) (sym only.0) (search (rules, at_number, none-some))
+    change_others c k (Types t which isochronous) within only = subst (λ x. OtherSlots k (changed_by h c k (Types x which isochronous)) s part B) (sym only.0) (search (rules, at_number, cond-false, and_left, ne_eqb))
     change_others c k (Disables t which) within only = subst (λ x. OtherSlots k (changed_by h c k (Disables x which)) s part B) (sym only.0) (search (rules, cond-false, and_left, ne_eqb, cond_both, none-some))
     change_others c k (Places t i p cycle state) within only = subst (λ x. OtherSlots k (changed_by h c k (Places x i p cycle state)) s part B) (sym only.0) (places c k i p cycle state within only.1 only.2)
     change_others c k (Stops t i) within only = subst (λ x. OtherSlots k (changed_by h c k (Stops x i)) s part B) (sym only.0) (stops c k i within only.1)

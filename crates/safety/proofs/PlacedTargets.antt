@@ -1,5 +1,5 @@
 -- Where more is declared of rings, an unfinished command places endpoints at the same targets
-use Rattle.safety.proofs.MiddleLaws.{[], ◌≡◌, ◌≤◌, ◌==◌, ◌&&◌, if◌then◌else◌, ◌∷◌, ◌∙◌, ℕ, not, Bool, true, false, List, map, All, Some, arith, refl, sym, ap, eq-eqb, subst, get_or, ◌≢◌, false≢true, or_parts, not-false, All-head, All-tail, declared, floor_number, ceiling, target, is_move, given_count_declared, floor_given, ceiling_within, Command, NoOp, DisableSlot, AddressDevice, ConfigureEndpoint, EvaluateContext, SetTrDequeue, ResetDevice, EndpointState, Off, Running, is_off, is_at_rest, Change, SlotGoesOn, Disables, changes, placed_by_context, added_endpoints, is_dropped, context_pointer, context_cycle, Header, IsHeader, shape_of, ring_having, Known, disabled, changed_by, is_bad_dequeue, is_bad_move, IsDriverRing, DriverKeeps, StillHolds, RingView, binds, has_repeats, is_placement, binding_in, is_among, same_Some, list_any, ring_bound, is_ring, put_pair, rules, ring_shape, transfer_driver, each_fails, any_of_map, transfer_ring, rings_of, having_transfer, Ready, ReadyAt, BoundThere, ring_at, at_rest_on, address_ready, all_ready, ready_next, placed_there, map_map, target_still}
+use Rattle.safety.proofs.MiddleLaws.{typed, Types, has_isochronous, input_add_flag, [], ◌≡◌, ◌≤◌, ◌==◌, ◌&&◌, if◌then◌else◌, ◌∷◌, ◌∙◌, ℕ, not, Bool, true, false, List, map, All, Some, arith, refl, sym, ap, eq-eqb, subst, get_or, ◌≢◌, false≢true, or_parts, not-false, All-head, All-tail, declared, floor_number, ceiling, target, is_move, given_count_declared, floor_given, ceiling_within, Command, NoOp, DisableSlot, AddressDevice, ConfigureEndpoint, EvaluateContext, SetTrDequeue, ResetDevice, EndpointState, Off, Running, is_off, is_at_rest, Change, SlotGoesOn, Disables, changes, placed_by_context, added_endpoints, is_dropped, context_pointer, context_cycle, Header, IsHeader, shape_of, ring_having, Known, disabled, changed_by, is_bad_dequeue, is_bad_move, IsDriverRing, DriverKeeps, StillHolds, RingView, binds, has_repeats, is_placement, binding_in, is_among, same_Some, list_any, ring_bound, is_ring, put_pair, rules, ring_shape, transfer_driver, each_fails, any_of_map, transfer_ring, rings_of, having_transfer, Ready, ReadyAt, BoundThere, ring_at, at_rest_on, address_ready, all_ready, ready_next, placed_there, map_map, target_still}
 use Rattle.safety.proofs.AlikeChanges.{TargetsAre}
 
 module _ (h : Header) where
@@ -62,14 +62,15 @@ module _ (h : Header) where
         )
 
   -- behind the drops
-  dropped_states : (c : Command) (k : Known) (s : ℕ) (which : ℕ → Bool) →
-      (changed_by h c (changed_by h c k (SlotGoesOn s)) (Disables s which)).endpoint_state ≡ (λ t i. if t == s && which i then Off else k.endpoint_state t i)
-  unfolding changed_by disabled
-  dropped_states c k s which = refl
+  dropped_states : (c : Command) (k : Known) (s : ℕ) (added isochronous which : ℕ → Bool) →
+      (changed_by h c (changed_by h c (changed_by h c k (SlotGoesOn s)) (Types s added isochronous)) (Disables s which)).endpoint_state ≡ (λ t i. if t == s && which i then Off else k.endpoint_state t i)
+  unfolding changed_by disabled typed
+  dropped_states c k s added isochronous which = refl
 
-  dropped_rings : (c : Command) (k : Known) (s : ℕ) (which : ℕ → Bool) → (changed_by h c (changed_by h c k (SlotGoesOn s)) (Disables s which)).ring ≡ k.ring
-  unfolding changed_by disabled
-  dropped_rings c k s which = refl
+  dropped_rings : (c : Command) (k : Known) (s : ℕ) (added isochronous which : ℕ → Bool) →
+      (changed_by h c (changed_by h c (changed_by h c k (SlotGoesOn s)) (Types s added isochronous)) (Disables s which)).ring ≡ k.ring
+  unfolding changed_by disabled typed
+  dropped_rings c k s added isochronous which = refl
 
   module _ (is : IsHeader h) (k l : Known) (d : DriverKeeps h k) (floors : (r : ℕ) → (l.ring r).floor ≡ (k.ring r).floor) (more : (r : ℕ) → declared (k.ring r) ≤ declared (l.ring r))
       (states : l.endpoint_state ≡ k.endpoint_state) where
@@ -138,20 +139,26 @@ module _ (h : Header) where
         )
     placed_targets n (ConfigureEndpoint s false a) still =
         let c : Command = ConfigureEndpoint s false a in
-        let m : Known = changed_by h c (changed_by h c k (SlotGoesOn s)) (Disables s (is_dropped k.memory a)) in
-        let x : Known = changed_by h c (changed_by h c l (SlotGoesOn s)) (Disables s (is_dropped k.memory a)) in
-        let rings : k.ring ≡ m.ring = sym (dropped_rings c k s (is_dropped k.memory a)) in
-        let others : l.ring ≡ x.ring = sym (dropped_rings c l s (is_dropped k.memory a)) in (
+        let added : ℕ → Bool = input_add_flag k.memory a in
+        let isochronous : ℕ → Bool = has_isochronous h.context_size k.memory a in
+        let types : Change = Types s added isochronous in
+        let m : Known = changed_by h c (changed_by h c (changed_by h c k (SlotGoesOn s)) types) (Disables s (is_dropped k.memory a)) in
+        let x : Known = changed_by h c (changed_by h c (changed_by h c l (SlotGoesOn s)) types) (Disables s (is_dropped k.memory a)) in
+        let rings : k.ring ≡ m.ring = sym (dropped_rings c k s added isochronous (is_dropped k.memory a)) in
+        let others : l.ring ≡ x.ring = sym (dropped_rings c l s added isochronous (is_dropped k.memory a)) in (
           tt,
           (
             tt,
-            each_targets is k.memory c s a (added_endpoints k.memory a) m x
-                (dropped_states c l s (is_dropped k.memory a)
-                ∙ ap {B = ℕ → ℕ → EndpointState} (λ (f : ℕ → ℕ → EndpointState) (t i : ℕ). if t == s && is_dropped k.memory a i then Off else f t i) states
-                ∙ sym (dropped_states c k s (is_dropped k.memory a)))
-                (all_ready h is k (rings_of h k d) s a still)
-                (λ y e inside r at. subst (λ (f : ℕ → RingView). DeclaresMore (f r) (x.ring r)) rings (subst (λ (f : ℕ → RingView). DeclaresMore (k.ring r) (f r)) others (record { floor = floors r; more = more r })))
-                (no_repeats s a still),
+            (
+              tt,
+              each_targets is k.memory c s a (added_endpoints k.memory a) m x
+                  (dropped_states c l s added isochronous (is_dropped k.memory a)
+                  ∙ ap {B = ℕ → ℕ → EndpointState} (λ (f : ℕ → ℕ → EndpointState) (t i : ℕ). if t == s && is_dropped k.memory a i then Off else f t i) states
+                  ∙ sym (dropped_states c k s added isochronous (is_dropped k.memory a)))
+                  (all_ready h is k (rings_of h k d) s a still)
+                  (λ y e inside r at. subst (λ (f : ℕ → RingView). DeclaresMore (f r) (x.ring r)) rings (subst (λ (f : ℕ → RingView). DeclaresMore (k.ring r) (f r)) others (record { floor = floors r; more = more r })))
+                  (no_repeats s a still),
+            ),
           ),
         )
     placed_targets n (ConfigureEndpoint s true a) still = (tt, (tt, tt))

@@ -8,6 +8,7 @@ pub record PlacedTo (k l : Known) (s i r : ℕ) (t : Spot) (state : EndpointStat
   pub here : l.ring r ≡ set_view (k.ring r) t
   pub others : (q : ℕ) → q ≢ r → l.ring q ≡ k.ring q
   pub ring_of : (x j : ℕ) → l.ring_of x j ≡ put_pair k.ring_of s i (Some r) x j
+  pub isochronous : l.isochronous ≡ k.isochronous
   pub endpoint_state : l.endpoint_state ≡ put_pair k.endpoint_state s i state
   pub slot_state : l.slot_state ≡ k.slot_state
   pub device : l.device ≡ k.device
@@ -37,11 +38,7 @@ module _ (h : Header) (k l : Known) (w : World) (s i r a : ℕ) (c : Bool) (stat
   one_still : ((y j z n q : ℕ) → k.ring_of y j ≡ Some q → k.ring_of z n ≡ Some q → (y ≡ z) × (j ≡ n)) → (y j z n q : ℕ) → l.ring_of y j ≡ Some q → l.ring_of z n ≡ Some q → (y ≡ z) × (j ≡ n)
   one_still one y j z n q a b =
       elim (whose y j q a) [
-        | inl here ↦
-            elim (whose z n q b) [
-              | inl also ↦ (here.0 ∙ sym also.0, here.1 ∙ sym also.1)
-              | inr there ↦ let own = only z n (there ∙ ap (λ p. Some p) here.2) in (here.0 ∙ sym own.0, here.1 ∙ sym own.1)
-            ]
+        | inl here ↦ (search (rules, whose))
         | inr there ↦
             elim (whose z n q b) [
               | inl also ↦ let own = only y j (there ∙ ap (λ p. Some p) also.2) in (own.0 ∙ sym also.0, own.1 ∙ sym also.1)
@@ -56,6 +53,7 @@ module _ (h : Header) (k l : Known) (w : World) (s i r a : ℕ) (c : Bool) (stat
       slots = λ q. y.slots q ∙ ap (λ (f : ℕ → SlotState). f q) (sym x.slot_state);
       endpoints = λ q j. same_put_pair w.endpoint_state k.endpoint_state s i state y.endpoints q j ∙ ap (λ (f : ℕ → ℕ → EndpointState). f q j) (sym x.endpoint_state);
       ring_of = λ q j. same_put_pair w.ring_of k.ring_of s i (Some r) y.ring_of q j ∙ sym (x.ring_of q j);
+      isochronous = λ q j. y.isochronous q j ∙ ap (λ (f : ℕ → ℕ → Bool). f q j) (sym x.isochronous);
       rings = λ q other. elim (cases_eq q r) [
         | inl same ↦ subst (λ n. EndpointRing h l v n) (sym same) (inl (search (rules, state_of, placed_state, placed_here, x.ring_of, put_pair_same, k.ring_of, shape_of, set_view, k.ring)))
         | inr apart ↦ other_ring q apart (y.rings q other)

@@ -1,5 +1,5 @@
 -- A command of which what was tested still holds places endpoints where it may
-use Rattle.safety.proofs.LowerLaws.{[], ◌≡◌, ◌≢◌, ◌<◌, ◌≤◌, ◌==◌, ◌&&◌, ◌||◌, if◌then◌else◌, ◌∷◌, ◌∙◌, ℕ, Bool, true, false, List, map, length, All, Option, Some, arith, refl, sym, ap, get_or, eq-eqb, ne_eqb, subst, rules, EndpointRestored, IsShape, IsShownTo, Shape, shown_where_restored, list_any, cases_option, none-some, same_Some, cond-true, cond-false, and_from, and_right, or_parts, or_left, not-false, false≢true, All-head, All-tail, list_any_at, length-map, get_or-map, put_pair, Spot, number, RingView, RingKeeps, is_placement, declared, floor_number, ceiling, target, is_move, is_reached, floor_given, given_count_declared, ceiling_within, move_target, added_endpoints, is_dropped, context_pointer, context_cycle, Command, AddressDevice, ConfigureEndpoint, SetTrDequeue, EndpointState, Off, Running, is_off, is_at_rest, Change, SlotGoesOn, Disables, Places, changes, placed_by_context, Header, IsHeader, shape_of, is_ring, ring_having, Known, on_ring, set_to, bound_to, moved_to, moved, pointed, disabled, in_state, changed_by, Binding, drops, is_placed, is_among, has_repeats, binding_in, binds, ring_bound, binds_ring, is_bad_dequeue, is_bad_move, RingsKeep, EndpointsKeep, MayPoint, MayChangeAll, StillHolds, each_fails, any_of_map, shape_allowed, having_transfer, target_here, target_placed}
+use Rattle.safety.proofs.LowerLaws.{typed, typed_by_context, [], ◌≡◌, ◌≢◌, ◌<◌, ◌≤◌, ◌==◌, ◌&&◌, ◌||◌, if◌then◌else◌, ◌∷◌, ◌∙◌, ℕ, Bool, true, false, List, map, length, All, Option, Some, arith, refl, sym, ap, get_or, eq-eqb, ne_eqb, subst, rules, EndpointRestored, IsShape, IsShownTo, Shape, shown_where_restored, list_any, cases_option, none-some, same_Some, cond-true, cond-false, and_from, and_right, or_parts, or_left, not-false, false≢true, All-head, All-tail, list_any_at, length-map, get_or-map, put_pair, Spot, number, RingView, RingKeeps, is_placement, declared, floor_number, ceiling, target, is_move, is_reached, floor_given, given_count_declared, ceiling_within, move_target, added_endpoints, is_dropped, context_pointer, context_cycle, Command, AddressDevice, ConfigureEndpoint, SetTrDequeue, EndpointState, Off, Running, is_off, is_at_rest, Change, SlotGoesOn, Disables, Places, changes, placed_by_context, Header, IsHeader, shape_of, is_ring, ring_having, Known, on_ring, set_to, bound_to, moved_to, moved, pointed, disabled, in_state, changed_by, Binding, drops, is_placed, is_among, has_repeats, binding_in, binds, ring_bound, binds_ring, is_bad_dequeue, is_bad_move, RingsKeep, EndpointsKeep, MayPoint, MayChangeAll, StillHolds, each_fails, any_of_map, shape_allowed, having_transfer, target_here, target_placed}
 use Rattle.safety.specs.RingsKeep.{IsDriverRing}
 use Rattle.safety.proofs.RingIds.{transfer_driver}
 use Rattle.safety.proofs.DriverRows.{ring_elsewhere}
@@ -186,10 +186,10 @@ module _ (h : Header) (is : IsHeader h) where
 
   -- behind the drops
   abbrev pub dropped : Command → Known → ℕ → ℕ → Known
-  dropped c k s a = changed_by h c (changed_by h c k (SlotGoesOn s)) (Disables s (is_dropped k.memory a))
+  dropped c k s a = changed_by h c (changed_by h c (changed_by h c k (SlotGoesOn s)) (typed_by_context h.context_size k.memory s a)) (Disables s (is_dropped k.memory a))
 
   dropped_rings : (c : Command) (k : Known) (s a : ℕ) → (dropped c k s a).ring ≡ k.ring
-  unfolding changed_by disabled
+  unfolding changed_by disabled typed
   dropped_rings c k s a = refl
 
   off_then : (off drops : Bool) (state : EndpointState) (s : ℕ) → is_off state ≡ off → (off || drops) ≡ true → is_off (if s == s && drops then Off else state) ≡ true
@@ -199,7 +199,7 @@ module _ (h : Header) (is : IsHeader h) where
 
   pub all_ready : (k : Known) → RingsKeep h k → (s a : ℕ) → StillHolds h k (ConfigureEndpoint s false a) →
       All (ReadyAt (dropped (ConfigureEndpoint s false a) k s a) k.memory s a) (added_endpoints k.memory a)
-  unfolding binds_ring binds binding_in ring_bound changed_by disabled drops
+  unfolding binds_ring binds binding_in ring_bound changed_by disabled typed drops
   all_ready k rings s a still x d inside =
       let c : Command = ConfigureEndpoint s false a in
       let added : List ℕ = added_endpoints k.memory a in

@@ -1,5 +1,5 @@
 -- The driver reads an event: it is the oldest unread one, and the run goes on
-use Rattle.safety.proofs.LowerLaws.{[], ◌≡◌, ◌+◌, ◌<◌, ◌∷◌, ◌∙◌, ℕ, true, false, List, nat_lt, Some, All, slice_get, arith, refl, ap, subst, eqb-true, ltb-true, rules, and_parts, All-head, All-tail, cond_some, Block, IsBlock, kind, same_words, Header, Read, World, counted, Known, learned, EventsStand, Agrees, ArePossible, Runs, all_read, unary_clauses, agrees_counted, four_of}
+use Rattle.safety.proofs.LowerLaws.{[], ◌≡◌, ◌+◌, ◌<◌, ◌∷◌, ◌∙◌, true, false, List, nat_lt, Some, All, arith, refl, ap, subst, eqb-true, ltb-true, rules, and_parts, All-head, All-tail, cond_some, Block, IsBlock, kind, same_words, Header, Read, World, counted, Known, learned, EventsStand, Agrees, ArePossible, Runs, all_read, unary_clauses, agrees_counted, four_of}
 use Rattle.world_state.specs.World.{event_at}
 use Rattle.safety.proofs.EventRead.{learned_read}
 use Rattle.safety.proofs.SameDriver.{event_same}
@@ -11,10 +11,6 @@ same_block : (a b : Block) → IsBlock a → IsBlock b → same_words a b ≡ tr
 same_block a b is_a is_b same = search (rules, and_parts, eqb-true, four_of)
 
 module _ (h : Header) where
-  -- the one behind the first
-  get_next : (u : Block) (rest : List Block) (i : ℕ) → slice_get (u ∷ rest) (i + 1) ≡ slice_get rest i
-  get_next u rest i = simp unary_clauses refl
-
   abbrev one_read : World → World
   one_read w = record w { reads = w.reads + 1 }
 
@@ -28,7 +24,7 @@ module _ (h : Header) where
       (record {
         order = record { dequeued = omega (arith, e.order.dequeued); read = omega (arith, unread); room = e.order.room };
         count = omega (arith, e.count);
-        places = λ i x at. subst (λ n. event_at h w n ≡ x) (let sum : w.reads + (i + 1) ≡ w.reads + 1 + i = omega arith in sum) (e.places (i + 1) x (get_next u rest i ∙ at));
+        places = λ i x at. subst (λ n. event_at h w n ≡ x) (let sum : w.reads + (i + 1) ≡ w.reads + 1 + i = omega arith in sum) (e.places (i + 1) x ((simp unary_clauses refl) ∙ at));
         started = e.started;
         ring = e.ring;
       })

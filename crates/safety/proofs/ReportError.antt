@@ -1,5 +1,5 @@
 -- The controller reports that an endpoint has halted, or gone to Error: the run goes on
-use Rattle.safety.proofs.MiddleLaws.{[], ◌≡◌, ◌≢◌, ◌+◌, ◌<◌, ◌==◌, ◌&&◌, ◌||◌, if◌then◌else◌, ◌∷◌, ◌++◌, ◌∙◌, ℕ, Bool, true, false, not, List, length, drop, Some, None, arith, refl, sym, ap, subst, rules, and_parts, and_from, and_right, or_left, or_right, cond-true, cond-false, not_from_true, none-some, same_Some, put, put_pair, Block, IsBlock, code, endpoint, kind, pointer, slot, is_transfer_event, is_command_completion, is_other_event, is_success, is_halting, is_trb_error, is_transfer_code, Data, Holds, ceiling, is_data_below, is_open, EndpointState, Halted, Error, is_running, Header, Read, IsHeader, shape_of, command_id, World, unreported, posted, is_last, with_reported, report_error, report_code, counted, Known, event_read, learned, event_at, on_ring, passed, broken_off, transferred, transferred_at, transfer_read, is_in_profile, is_working, can_report, can_report_at, DriverKeeps, RingState, state_of, BoundRing, Agrees, transfer_driver, transfer_not_command, ring_shape, agrees_counted, with_reads, PostKeeps, post_keeps, learned_read, event_clean, OnlyRing, stands_only, events_only, cond_is, put_at, put_off, LearnsRing, stands_learns, matches_learns, known_states, world_states, stands_states, events_states, matches_states, open_takes, broken_at, last_is, last_take, broken_matches, broken_unreported, held_open, possible, where_bound, IsReport, ReportKeeps, transfer_kind, spot_named, in_profile_is}
+use Rattle.safety.proofs.MiddleLaws.{code_told, [], ◌≡◌, ◌≢◌, ◌+◌, ◌<◌, ◌==◌, ◌&&◌, ◌||◌, if◌then◌else◌, ◌∷◌, ◌++◌, ◌∙◌, ℕ, Bool, true, false, not, List, length, drop, Some, None, arith, refl, sym, ap, subst, rules, and_parts, and_from, and_right, or_left, or_right, cond-true, cond-false, not_from_true, none-some, same_Some, put, put_pair, Block, IsBlock, endpoint, kind, pointer, slot, is_transfer_event, is_command_completion, is_other_event, is_success, is_halting, is_trb_error, is_transfer_code, Data, Holds, ceiling, is_data_below, is_open, EndpointState, Halted, Error, is_running, Header, Read, IsHeader, shape_of, command_id, World, unreported, posted, is_last, with_reported, report_error, report_code, counted, Known, event_read, learned, event_at, on_ring, passed, broken_off, transferred, transferred_at, transfer_read, is_in_profile, is_working, can_report, can_report_at, DriverKeeps, RingState, state_of, BoundRing, Agrees, transfer_driver, transfer_not_command, ring_shape, agrees_counted, with_reads, PostKeeps, post_keeps, learned_read, event_clean, OnlyRing, stands_only, events_only, cond_is, put_at, put_off, LearnsRing, stands_learns, matches_learns, known_states, world_states, stands_states, events_states, matches_states, open_takes, broken_at, last_is, last_take, broken_matches, broken_unreported, held_open, possible, where_bound, IsReport, ReportKeeps, transfer_kind, spot_named, in_profile_is}
 use Rattle.safety.proofs.ReportSuccess.{below_is}
 
 -- the ring at rest, its takes reported
@@ -40,13 +40,13 @@ works h k s i r runs none = and_from (is_running (k.endpoint_state s i)) (is_ope
 
 -- what the rules and what is known say of the event's code
 pub record BreaksBy (h : Header) (k : Known) (b : Block) (state : EndpointState) (must : ℕ → ℕ → Bool) : Type 0 where
-  pub code_is : is_transfer_code (code b) ≡ true
+  pub code_is : is_transfer_code (code_told h k b) ≡ true
   pub may : (r p : ℕ) → p < ceiling (shape_of h r) (k.ring r) → is_working k (slot b) (endpoint b) r ≡ true → can_report_at h k b (Some (record { ring = r; spot = Data p })) ≡ true
   pub read : (r p : ℕ) → event_at h k b ≡ Some (record { ring = r; spot = Data p }) →
       event_read h k (kind b) b ≡ known_states (held_behind h k r p) (put_pair k.endpoint_state (slot b) (endpoint b) state) must
 
 module _ (h : Header) (k : Known) (b : Block) (transfer : is_transfer_event (kind b) ≡ true) where
-  broken_read : (r p : ℕ) → event_at h k b ≡ Some (record { ring = r; spot = Data p }) → event_read h k (kind b) b ≡ transferred h k (code b) (slot b) (endpoint b) r (Data p)
+  broken_read : (r p : ℕ) → event_at h k b ≡ Some (record { ring = r; spot = Data p }) → event_read h k (kind b) b ≡ transferred h k (code_told h k b) (slot b) (endpoint b) r (Data p)
   unfolding event_read transfer_read transferred_at
   broken_read r p at = ap (λ n. event_read h k n b) (transfer_kind (kind b) transfer) ∙ ap (λ o. transferred_at h k b o) at
 
@@ -54,31 +54,31 @@ module _ (h : Header) (k : Known) (b : Block) (transfer : is_transfer_event (kin
       (is_data_below (ceiling (shape_of h r) (k.ring r)) (Data p) && is_working k (slot b) (endpoint b) r) ≡ true
   works_and_below r p below works = and_from _ _ (below_is (ceiling (shape_of h r) (k.ring r)) p below) works
 
-  may_break : is_success (code b) ≡ false → (is_halting (code b) || is_trb_error (code b)) ≡ true → (r p : ℕ) → p < ceiling (shape_of h r) (k.ring r) → is_working k (slot b) (endpoint b) r ≡ true →
+  may_break : is_success (code_told h k b) ≡ false → (is_halting (code_told h k b) || is_trb_error (code_told h k b)) ≡ true → (r p : ℕ) → p < ceiling (shape_of h r) (k.ring r) → is_working k (slot b) (endpoint b) r ≡ true →
       can_report_at h k b (Some (record { ring = r; spot = Data p })) ≡ true
   unfolding can_report_at can_report
-  may_break fails breaks r p below works = cond-false (is_success (code b)) _ _ fails ∙ cond-true (is_halting (code b) || is_trb_error (code b)) _ _ breaks ∙ works_and_below r p below works
+  may_break fails breaks r p below works = cond-false (is_success (code_told h k b)) _ _ fails ∙ cond-true (is_halting (code_told h k b) || is_trb_error (code_told h k b)) _ _ breaks ∙ works_and_below r p below works
 
-  pub halts : is_success (code b) ≡ false → is_halting (code b) ≡ true → BreaksBy h k b Halted (put_pair k.must_move (slot b) (endpoint b) true)
+  pub halts : is_success (code_told h k b) ≡ false → is_halting (code_told h k b) ≡ true → BreaksBy h k b Halted (put_pair k.must_move (slot b) (endpoint b) true)
   unfolding transferred
   halts fails halting = record {
     code_is = or_left _ _ (or_left _ _ (or_right _ _ halting));
     may = may_break fails (or_left _ _ halting);
-    read = λ r p at. broken_read r p at ∙ cond-false (is_success (code b)) _ _ fails ∙ cond-true (is_halting (code b)) _ _ halting
+    read = λ r p at. broken_read r p at ∙ cond-false (is_success (code_told h k b)) _ _ fails ∙ cond-true (is_halting (code_told h k b)) _ _ halting
         ∙ ap (λ (m : Known). let x : Known = record m { must_move = put_pair k.must_move (slot b) (endpoint b) true } in x) (broken_is h k (slot b) (endpoint b) r p Halted);
   }
 
-  pub errs : is_success (code b) ≡ false → is_halting (code b) ≡ false → is_trb_error (code b) ≡ true → BreaksBy h k b Error k.must_move
+  pub errs : is_success (code_told h k b) ≡ false → is_halting (code_told h k b) ≡ false → is_trb_error (code_told h k b) ≡ true → BreaksBy h k b Error k.must_move
   unfolding transferred
   errs fails quiet error = record {
     code_is = or_left _ _ (or_right _ _ error);
     may = may_break fails (or_right _ _ error);
-    read = λ r p at. broken_read r p at ∙ cond-false (is_success (code b)) _ _ fails ∙ cond-false (is_halting (code b)) _ _ quiet ∙ cond-true (is_trb_error (code b)) _ _ error
+    read = λ r p at. broken_read r p at ∙ cond-false (is_success (code_told h k b)) _ _ fails ∙ cond-false (is_halting (code_told h k b)) _ _ quiet ∙ cond-true (is_trb_error (code_told h k b)) _ _ error
         ∙ broken_is h k (slot b) (endpoint b) r p Error;
   }
 
 module _ (h : Header) (is : IsHeader h) (k : Known) (unread : List Block) (w v : World) (b : Block) (block : IsBlock b) (running : w.stopped ≡ false) (d : DriverKeeps h k) (g : Agrees h k unread w)
-    (x : IsReport h w v b) (state : EndpointState) (must : ℕ → ℕ → Bool) (by : BreaksBy h k b state must) (f : Breaks h (posted h w b) v (slot b) (endpoint b) x.ring (pointer b) state) where
+    (x : IsReport h k w v b) (state : EndpointState) (must : ℕ → ℕ → Bool) (by : BreaksBy h k b state must) (f : Breaks h (posted h w b) v (slot b) (endpoint b) x.ring (pointer b) state) where
   p : PostKeeps h k unread w b
   p = post_keeps h is k unread w b block d g x.can
 
@@ -99,7 +99,7 @@ module _ (h : Header) (is : IsHeader h) (k : Known) (unread : List Block) (w v :
       let end = last_is h (pointer b) (open_takes s) f.last in
       let l = last_take (shape_of h r) allowed k.memory (k.ring r) keeps s bound.spot bound.matches bound.takes (pointer b) end.0 end.1 end.2 in
       let q : ℕ = l.position in
-      let at = spot_named h k b r (Data q) had l.named_is in
+      let at = spot_named h k b r (Data q) by.code_is had l.named_is in
       let c : ℕ = u.reported r + length (open_takes s) in
       let learns = learns_held h k r q (k.reads + 1) in
       let o = only_ended u r c in
@@ -131,7 +131,7 @@ module _ (h : Header) (is : IsHeader h) (k : Known) (unread : List Block) (w v :
         clean = event_clean h k w b g.stands g.read running p.can p.room
             (or_left (is_transfer_event (kind b) || is_command_completion (kind b)) (is_other_event (kind b)) (or_left (is_transfer_event (kind b)) (is_command_completion (kind b)) x.transfer))
             (possible h k b (record { ring = r; spot = Data q }) x.transfer at (by.may r q below (works h k (slot b) (endpoint b) r runs open_ring)) (d.states.on (slot b) (endpoint b) r had))
-            (and_right (is_transfer_event (kind b)) (not (is_in_profile b)) (not_from_true (is_in_profile b) (in_profile_is b x.no_data by.code_is)));
+            (and_right (is_transfer_event (kind b)) (not (is_in_profile h k b)) (not_from_true (is_in_profile h k b) (in_profile_is h k b x.no_data by.code_is)));
         agrees = subst (λ n. Agrees h n (unread ++ b ∷ []) (counted h v)) (sym learned_is) (subst (λ y. Agrees h (known_states m e must) (unread ++ b ∷ []) (counted h y)) f.is after_z);
       }
 
@@ -140,16 +140,16 @@ module _ (h : Header) (is : IsHeader h) (k : Known) (unread : List Block) (w v :
 
 -- which report it is, by the event's code
 module _ (h : Header) (is : IsHeader h) (k : Known) (unread : List Block) (w v : World) (b : Block) (block : IsBlock b) (running : w.stopped ≡ false) (d : DriverKeeps h k) (g : Agrees h k unread w)
-    (x : IsReport h w v b) (fails : is_success (code b) ≡ false) where
-  pub halted_keeps : is_halting (code b) ≡ true → ReportKeeps h k unread w v b
+    (x : IsReport h k w v b) (fails : is_success (code_told h k b) ≡ false) where
+  pub halted_keeps : is_halting (code_told h k b) ≡ true → ReportKeeps h k unread w v b
   unfolding report_code
   halted_keeps halting =
       error_keeps h is k unread w v b block running d g x Halted _ (halts h k b x.transfer fails halting)
-      (breaks_is h (posted h w b) v (slot b) (endpoint b) x.ring (pointer b) Halted (sym (cond-false (is_success (code b)) _ _ fails ∙ cond-true (is_halting (code b)) _ _ halting) ∙ x.by_code))
+      (breaks_is h (posted h w b) v (slot b) (endpoint b) x.ring (pointer b) Halted (sym (cond-false (is_success (code_told h k b)) _ _ fails ∙ cond-true (is_halting (code_told h k b)) _ _ halting) ∙ x.by_code))
 
-  pub erred_keeps : is_halting (code b) ≡ false → is_trb_error (code b) ≡ true → ReportKeeps h k unread w v b
+  pub erred_keeps : is_halting (code_told h k b) ≡ false → is_trb_error (code_told h k b) ≡ true → ReportKeeps h k unread w v b
   unfolding report_code
   erred_keeps quiet error =
       error_keeps h is k unread w v b block running d g x Error _ (errs h k b x.transfer fails quiet error)
       (breaks_is h (posted h w b) v (slot b) (endpoint b) x.ring (pointer b) Error
-      (sym (cond-false (is_success (code b)) _ _ fails ∙ cond-false (is_halting (code b)) _ _ quiet ∙ cond-true (is_trb_error (code b)) _ _ error) ∙ x.by_code))
+      (sym (cond-false (is_success (code_told h k b)) _ _ fails ∙ cond-false (is_halting (code_told h k b)) _ _ quiet ∙ cond-true (is_trb_error (code_told h k b)) _ _ error) ∙ x.by_code))

@@ -1,5 +1,6 @@
 -- Whatever the controller reports of a take, the run goes on
-use Rattle.safety.proofs.MiddleLaws.{[], ◌≡◌, ◌∙◌, false, List, Some, sym, inl, inr, cases_Bool, cond-false, none-some, Block, IsBlock, code, endpoint, pointer, slot, is_success, is_halting, is_trb_error, is_stopping, Header, IsHeader, World, posted, report_code, reported, counted, DriverKeeps, Agrees, Runs, all_read, Known, ◌≢◌, ◌+◌, ◌-◌, ◌<◌, ◌==◌, ◌&&◌, ◌||◌, ◌∷◌, ◌++◌, ℕ, Bool, true, not, length, Option, arith, refl, ap, subst, eq-eqb, lt-ltb, false≢true, and_right, and_from, or_left, cond-true, not_from_true, put_pair, kind, is_transfer_event, is_command_completion, is_other_event, Spot, Data, Shape, RingView, Reaches, Holds, floor_number, ceiling, given_count, is_stop_spot, named, stopped_number, cycle_of_bit, rank_least, command_of, is_stop_of, is_running, shape_of, command_id, UnderWay, is_stop_under_way, with_stopped, report_stop, command_at, next_command, on_ring, is_in_profile, RingState, state_of, BoundRing, RingMatches, Unreported, UnderWayMatches, CommandMatches, ◌≤◌, ◌⊎◌, nat_lt, nat_le, drop, eqb-true, le-leb, rules, and_parts, not-false, or_right, same_Some, Link, number, is_way_given, Command, unreported, is_last, with_reported, stopped_with, was_stop_seen, Stands, EventsStand, TakenCommand, Matches, map, min, length-drop, drop-drop, range_with_len, address_of, rank, IsShape, declared, RingKeeps, rank_most, named_spot-near, given_count_declared, given_count_near, takes_of, IsReport, ReportKeeps, report_is, runs_more, success_keeps, where_bound, spot_named, in_profile_is, transfer_driver, transfer_not_command, ring_shape, command_of-with_cycle, ceiling_given, at_floor, command_is_ring, command_at_is, agrees_counted, with_reads, PostKeeps, post_keeps, learned_read, event_clean, stands_only, events_only, next_same, stands_learns, matches_learns, LearnsRing, open_takes, low, count, drop_range, last_is, last_take, cond_is, put_at, put_off, held_from}
+use Rattle.safety.proofs.MiddleLaws.{event_read, is_set, word, not_from_false, not_from_true, or_from, or_left, or_right, and_right, transfer_read, event_at, transferred_at, transfer_kind, can_report_at, is_impossible_transfer, is_off, on_is, is_impossible_by_kind, IsOfService, told_same, is_code_of_profile, is_of_service, ◌⊎◌, code_told, [], ◌≡◌, ◌∙◌, false, List, Some, sym, inl, inr, cases_Bool, cond-false, none-some, Block, IsBlock, code, endpoint, pointer, slot, is_success, is_halting, is_trb_error, is_stopping, Header, IsHeader, World, posted, report_code, reported, counted, DriverKeeps, Agrees, Runs, all_read, Known, ◌≢◌, ◌+◌, ◌-◌, ◌<◌, ◌==◌, ◌&&◌, ◌||◌, ◌∷◌, ◌++◌, ℕ, Bool, true, not, length, Option, arith, refl, ap, subst, eq-eqb, lt-ltb, false≢true, and_from, cond-true, put_pair, kind, is_transfer_event, is_command_completion, is_other_event, Spot, Data, Shape, RingView, Reaches, Holds, floor_number, ceiling, given_count, is_stop_spot, named, stopped_number, cycle_of_bit, rank_least, command_of, is_stop_of, is_running, shape_of, command_id, UnderWay, is_stop_under_way, with_stopped, report_stop, command_at, next_command, on_ring, is_in_profile, RingState, state_of, BoundRing, RingMatches, Unreported, UnderWayMatches, CommandMatches, ◌≤◌, nat_lt, nat_le, drop, eqb-true, le-leb, rules, and_parts, not-false, same_Some, Link, number, is_way_given, Command, unreported, is_last, with_reported, stopped_with, was_stop_seen, Stands, EventsStand, TakenCommand, Matches, map, min, length-drop, drop-drop, range_with_len, address_of, rank, IsShape, declared, RingKeeps, rank_most, named_spot-near, given_count_declared, given_count_near, takes_of, IsReport, ReportKeeps, report_is, runs_more, success_keeps, where_bound, spot_named, in_profile_is, transfer_driver, transfer_not_command, ring_shape, command_of-with_cycle, ceiling_given, at_floor, command_is_ring, command_at_is, agrees_counted, with_reads, PostKeeps, post_keeps, learned_read, event_clean, stands_only, events_only, next_same, stands_learns, matches_learns, LearnsRing, open_takes, low, count, drop_range, last_is, last_take, cond_is, put_at, put_off, held_from}
+use Rattle.safety.proofs.Other.{silent_agrees}
 use Rattle.safety.proofs.ReportError.{halted_keeps, erred_keeps, ended_ring, only_ended, works}
 use Rattle.safety.proofs.StopRead.{StopCode, stop_transfer_code, stop_read, stop_possible}
 use Rattle.safety.proofs.NoWait.{ceiling_held}
@@ -163,7 +164,7 @@ pub record StopSpot (h : Header) (k : Known) (u : World) (v : World) (r a : ℕ)
   pub is : stopped_world h u r count ≡ v
 
 module _ (h : Header) (is : IsHeader h) (k : Known) (unread : List Block) (w v : World) (b : Block) (block : IsBlock b) (running : w.stopped ≡ false) (d : DriverKeeps h k) (g : Agrees h k unread w)
-    (x : IsReport h w v b) (s : StopCode (code b)) (f : IsStop h (posted h w b) v (slot b) (endpoint b) x.ring (pointer b)) where
+    (x : IsReport h k w v b) (s : StopCode (code_told h k b)) (f : IsStop h (posted h w b) v (slot b) (endpoint b) x.ring (pointer b)) where
   p : PostKeeps h k unread w b
   p = post_keeps h is k unread w b block d g x.can
 
@@ -240,7 +241,7 @@ module _ (h : Header) (is : IsHeader h) (k : Known) (unread : List Block) (w v :
       let u : World = posted h w b in
       let q = stop_spot bound in
       let n : ℕ = stopped_number (shape_of h r) (k.ring r) q.spot in
-      let at = spot_named h k b r q.spot had q.named_is in
+      let at = spot_named h k b r q.spot (stop_transfer_code (code_told h k b) s) had q.named_is in
       let learns = learns_stopped h k r n (k.reads + 1) q.spot in
       let o = only_ended u r q.count in
       let next : BoundRing (shape_of h r) k.ring_of (stopped_view (k.ring r) q.spot n) (record (state_of u r) { active = false; reported = q.count }) r =
@@ -271,7 +272,7 @@ module _ (h : Header) (is : IsHeader h) (k : Known) (unread : List Block) (w v :
         clean = event_clean h k w b g.stands g.read running p.can p.room
             (or_left (is_transfer_event (kind b) || is_command_completion (kind b)) (is_other_event (kind b)) (or_left (is_transfer_event (kind b)) (is_command_completion (kind b)) x.transfer))
             (stop_possible h k b r q.spot x.transfer s at (works h k (slot b) (endpoint b) r runs open_ring) (taken_now h k stop.0) stop.1 q.may (d.states.on (slot b) (endpoint b) r had))
-            (and_right (is_transfer_event (kind b)) (not (is_in_profile b)) (not_from_true (is_in_profile b) (in_profile_is b x.no_data (stop_transfer_code (code b) s))));
+            (and_right (is_transfer_event (kind b)) (not (is_in_profile h k b)) (not_from_true (is_in_profile h k b) (in_profile_is h k b x.no_data (stop_transfer_code (code_told h k b) s))));
         agrees = subst (λ n. Agrees h n (unread ++ b ∷ []) (counted h v)) (sym (learned_read h k b ∙ ap (λ n. with_reads n (k.reads + 1)) (stop_read h k b r q.spot x.transfer s at)))
             (subst (λ e. Agrees h (with_seen h m seen (slot b) (endpoint b) may) (unread ++ b ∷ []) (counted h e)) q.is after_z);
       }
@@ -279,27 +280,55 @@ module _ (h : Header) (is : IsHeader h) (k : Known) (unread : List Block) (w v :
   pub stop_keeps : ReportKeeps h k unread w v b
   stop_keeps = where_bound h is k unread w v b block running d g x on_bound
 
-module _ (h : Header) (is : IsHeader h) (k : Known) (unread : List Block) (w v : World) (b : Block) (block : IsBlock b) (running : w.stopped ≡ false) (d : DriverKeeps h k) (g : Agrees h k unread w) (x : IsReport h w v b) where
+module _ (h : Header) (is : IsHeader h) (k : Known) (unread : List Block) (w v : World) (b : Block) (block : IsBlock b) (running : w.stopped ≡ false) (d : DriverKeeps h k) (g : Agrees h k unread w) (x : IsReport h k w v b) where
   report_keeps : ReportKeeps h k unread w v b
   unfolding report_code
   report_keeps =
-      elim (cases_Bool (is_success (code b))) [
+      elim (cases_Bool (is_success (code_told h k b))) [
         | inl success ↦ success_keeps h is k unread w v b block running d g x success
-        | inr fails ↦ elim (cases_Bool (is_halting (code b))) [
+        | inr fails ↦ elim (cases_Bool (is_halting (code_told h k b))) [
           | inl halting ↦ halted_keeps h is k unread w v b block running d g x fails halting
-          | inr quiet ↦ elim (cases_Bool (is_trb_error (code b))) [
+          | inr quiet ↦ elim (cases_Bool (is_trb_error (code_told h k b))) [
             | inl error ↦ erred_keeps h is k unread w v b block running d g x fails quiet error
-            | inr right ↦ elim (cases_Bool (is_stopping (code b))) [
+            | inr right ↦ elim (cases_Bool (is_stopping (code_told h k b))) [
               | inl stopping ↦
-                  let s : StopCode (code b) = record { success = fails; halting = quiet; error = right; stopping = stopping } in
-                  stop_keeps h is k unread w v b block running d g x s (stop_is h (posted h w b) v (slot b) (endpoint b) x.ring (pointer b) (code_stops h (posted h w b) v (code b) (slot b) (endpoint b) x.ring (pointer b) s x.by_code))
+                  let s : StopCode (code_told h k b) = record { success = fails; halting = quiet; error = right; stopping = stopping } in
+                  stop_keeps h is k unread w v b block running d g x s (stop_is h (posted h w b) v (slot b) (endpoint b) x.ring (pointer b) (code_stops h (posted h w b) v (code_told h k b) (slot b) (endpoint b) x.ring (pointer b) s x.by_code))
               | inr going ↦ absurd (none-some v (sym (cond-false _ _ _ fails ∙ cond-false _ _ _ quiet ∙ cond-false _ _ _ right ∙ cond-false _ _ _ going) ∙ x.by_code))
             ]
           ]
         ]
       ]
 
+-- an event that tells of the service of its endpoint is read without effect
+module _ (h : Header) (is : IsHeader h) (k : Known) (unread : List Block) (w v : World) (b : Block) (block : IsBlock b) (running : w.stopped ≡ false) (d : DriverKeeps h k) (g : Agrees h k unread w) (x : IsOfService h w v b) where
+  service_read : event_read h k (kind b) b ≡ k
+  unfolding event_read transfer_read event_at transferred_at
+  service_read = ap (λ n. event_read h k n b) (transfer_kind (kind b) x.transfer) ∙ ap (λ o. transferred_at h k b o) (cond-true (is_of_service (code b)) _ _ x.service)
+
+  service_possible : is_impossible_by_kind h k (kind b) b ≡ false
+  unfolding is_impossible_by_kind is_impossible_transfer event_at can_report_at
+  service_possible = search (rules, is_impossible_by_kind, transfer_kind, kind, and_right, is_in_profile, is_off, slot, endpoint, not, can_report_at, event_at, or_from, on_is, not_from_true, cond-true)
+
+  service_inside : is_in_profile h k b ≡ true
+  unfolding is_in_profile is_code_of_profile
+  service_inside = and_from _ _ (not_from_false (is_set (word b 3) 2) x.no_data) (or_right _ _ (and_from _ _ x.has (or_left _ _ x.service)))
+
+  service_keeps : ReportKeeps h k unread w v b
+  service_keeps =
+      let p = post_keeps h is k unread w b block d g x.can in
+      record {
+        clean = event_clean h k w b g.stands g.read running p.can p.room
+            (or_left (is_transfer_event (kind b) || is_command_completion (kind b)) (is_other_event (kind b)) (or_left (is_transfer_event (kind b)) (is_command_completion (kind b)) x.transfer))
+            service_possible (and_right (is_transfer_event (kind b)) (not (is_in_profile h k b)) (not_from_true (is_in_profile h k b) service_inside));
+        agrees = silent_agrees h is k unread w v b block d g x.can service_read x.is;
+      }
+
 pub report_runs : (h : Header) → IsHeader h → (now : Known) (w v : World) (b : Block) → IsBlock b → w.stopped ≡ false → (run : Runs h now w) →
     DriverKeeps h (all_read h now run.unread) → reported h w b ≡ Some v → Runs h now (counted h v)
 report_runs h is now w v b block running run d at =
-    runs_more h now w v b block run (report_keeps h is (all_read h now run.unread) run.unread w v b block running d run.agrees (report_is h w v b at))
+    let k : Known = all_read h now run.unread in
+    elim (report_is h k w v b (told_same h k w b (run.agrees.matches.isochronous (slot b) (endpoint b))) at) [
+      | inl report ↦ runs_more h now w v b block run (report_keeps h is k run.unread w v b block running d run.agrees report)
+      | inr service ↦ runs_more h now w v b block run (service_keeps h is k run.unread w v b block running d run.agrees service)
+    ]

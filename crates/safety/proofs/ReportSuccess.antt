@@ -1,5 +1,5 @@
 -- The controller reports that a take has succeeded: the run goes on
-use Rattle.safety.proofs.LowerLaws.{[], ◌≡◌, ◌≢◌, ◌+◌, ◌<◌, ◌==◌, ◌||◌, ◌∷◌, ◌++◌, ◌∙◌, ℕ, true, false, not, List, drop, Option, Some, position, arith, refl, sym, ap, subst, inl, inr, lt-ltb, rules, false≢true, and_parts, and_from, and_right, or_from, or_left, cond-true, not-true, not_from_true, not_from_false, none-some, same_Some, Block, BlockKind, is_set, IsBlock, code, endpoint, kind, pointer, slot, word, is_transfer_event, is_command_completion, is_other_event, is_success, is_transfer_code, Spot, Data, after, number, floor_number, ceiling, named, is_data_below, Off, is_off, Header, Read, IsHeader, shape_of, command_id, World, takes_of, unreported, can_post, posted, with_reported, report_success, report_code, reported_on, reported, counted, Known, event_read, learned, RingSpot, event_at, on_ring, spot_on, passed, transferred, transferred_at, transfer_read, lenient, is_in_profile, is_impossible_by_kind, is_impossible_transfer, can_report, can_report_at, DriverKeeps, state_of, BoundRing, Agrees, Runs, all_read, TransferEvent, transfer_driver, transfer_not_command, ring_shape, agrees_counted, with_reads, OnlyRing, stands_only, events_only, late_only, cond_is, put_at, put_off, LearnsRing, stands_learns, matches_learns}
+use Rattle.safety.proofs.LowerLaws.{None, cond-false, ◌⊎◌, ◌&&◌, counted_code, is_of_service, has_isoch, code_told, code_posted, in_profile_is, no_service, [], ◌≡◌, ◌≢◌, ◌+◌, ◌<◌, ◌==◌, ◌||◌, ◌∷◌, ◌++◌, ◌∙◌, ℕ, true, false, not, List, drop, Option, Some, position, arith, refl, sym, ap, subst, inl, inr, lt-ltb, rules, false≢true, and_parts, and_right, or_from, or_left, cond-true, not-true, not_from_true, none-some, same_Some, Block, BlockKind, is_set, IsBlock, code, endpoint, kind, pointer, slot, word, is_transfer_event, is_command_completion, is_other_event, is_success, is_transfer_code, Spot, Data, after, number, floor_number, ceiling, named, is_data_below, Off, is_off, Header, Read, IsHeader, shape_of, command_id, World, takes_of, unreported, can_post, posted, with_reported, report_success, report_code, reported_on, reported, counted, Known, event_read, learned, RingSpot, event_at, on_ring, spot_on, passed, transferred, transferred_at, transfer_read, lenient, is_in_profile, is_impossible_by_kind, is_impossible_transfer, can_report, can_report_at, DriverKeeps, state_of, BoundRing, Agrees, Runs, all_read, TransferEvent, transfer_driver, transfer_not_command, ring_shape, agrees_counted, with_reads, OnlyRing, stands_only, events_only, late_only, cond_is, put_at, put_off, LearnsRing, stands_learns, matches_learns}
 use Rattle.std.proofs.Common.{option_map}
 use Rattle.safety.proofs.Posted.{PostKeeps, post_keeps}
 use Rattle.safety.proofs.EventRead.{learned_read, event_clean, blocks_more, possible_more, read_more}
@@ -12,17 +12,55 @@ transfer_kind o h = grind (arith, false≢true)
 pub mapped : {A B : Type 0} (f : A → B) (o : Option A) (y : B) → option_map f o ≡ Some y → (x : A) × (o ≡ Some x) × (f x ≡ y)
 mapped f o y at = grind (arith, none-some, same_Some)
 
-pub record IsReport (h : Header) (w v : World) (b : Block) : Type 0 where
+pub record IsReport (h : Header) (k : Known) (w v : World) (b : Block) : Type 0 where
   pub can : can_post h w b ≡ true
   pub transfer : is_transfer_event (kind b) ≡ true
   pub no_data : is_set (word b 3) 2 ≡ false
   pub ring : ℕ
   pub had : w.ring_of (slot b) (endpoint b) ≡ Some ring
-  pub by_code : report_code h (posted h w b) (code b) (slot b) (endpoint b) ring (pointer b) ≡ Some v
+  pub by_code : report_code h (posted h w b) (code_told h k b) (slot b) (endpoint b) ring (pointer b) ≡ Some v
 
-pub report_is : (h : Header) (w v : World) (b : Block) → reported h w b ≡ Some v → IsReport h w v b
-unfolding reported reported_on
-report_is h w v b at = search (rules, cond_is, and_parts, not-true, none-some)
+-- it tells of the service of its endpoint, and of no block
+pub record IsOfService (h : Header) (w v : World) (b : Block) : Type 0 where
+  pub can : can_post h w b ≡ true
+  pub transfer : is_transfer_event (kind b) ≡ true
+  pub no_data : is_set (word b 3) 2 ≡ false
+  pub has : has_isoch h.version ≡ true
+  pub service : is_of_service (code b) ≡ true
+  pub ring : ℕ
+  pub had : w.ring_of (slot b) (endpoint b) ≡ Some ring
+  pub is : posted h w b ≡ v
+
+-- what a code says of the ring of an endpoint
+record SaysOn (h : Header) (k : Known) (w v : World) (b : Block) (o : Option ℕ) : Type 0 where
+  ring : ℕ
+  had : o ≡ Some ring
+  says : (report_code h (posted h w b) (code_told h k b) (slot b) (endpoint b) ring (pointer b) ≡ Some v)
+      ⊎ ((has_isoch h.version ≡ true) × (is_of_service (code b) ≡ true) × (posted h w b ≡ v))
+
+says_on : (h : Header) (k : Known) (w v : World) (b : Block) (o : Option ℕ) → code_posted h w b ≡ code_told h k b → reported_on h w b o ≡ Some v → SaysOn h k w v b o
+unfolding reported_on
+says_on h k w v b o told at = grind (arith, none-some, same_Some)
+
+-- a code counts in the world as in what is known
+pub told_same : (h : Header) (k : Known) (w : World) (b : Block) → w.isochronous (slot b) (endpoint b) ≡ k.isochronous (slot b) (endpoint b) → code_posted h w b ≡ code_told h k b
+unfolding code_posted code_told
+told_same h k w b same = ap (λ f. counted_code (has_isoch h.version && f) (code b)) same
+
+-- what is reported could be posted
+pub reported_can : (h : Header) (w v : World) (b : Block) → reported h w b ≡ Some v → can_post h w b ≡ true
+unfolding reported
+reported_can h w v b at = search (rules, cond_is, and_parts, none-some)
+
+pub report_is : (h : Header) (k : Known) (w v : World) (b : Block) → code_posted h w b ≡ code_told h k b → reported h w b ≡ Some v → (IsReport h k w v b) ⊎ (IsOfService h w v b)
+unfolding reported
+report_is h k w v b told at =
+    elim (cond_is (can_post h w b && is_transfer_event (kind b) && not (is_set (word b 3) 2)) (reported_on h w b (w.ring_of (slot b) (endpoint b))) None (Some v) at) [
+      | inl may ↦
+          let on = says_on h k w v b (w.ring_of (slot b) (endpoint b)) told may.1 in
+          elim on.says [ inl by ↦ inl (search (rules, and_parts, not-true, on.had)) | inr of ↦ inr (search (rules, and_parts, not-true, on.had)) ]
+      | inr never ↦ absurd (none-some v never.1)
+    ]
 
 -- ---- a success
 
@@ -52,12 +90,12 @@ learns_passed : (h : Header) (k : Known) (r n : ℕ) (t : Spot) → LearnsRing k
 unfolding passed on_ring
 learns_passed h k r n t = search (rules, put_at, put_off)
 
-pub spot_named : (h : Header) (k : Known) (b : Block) (r : ℕ) (t : Spot) → k.ring_of (slot b) (endpoint b) ≡ Some r → named (shape_of h r) (k.ring r) (pointer b) ≡ Some t →
+pub spot_named : (h : Header) (k : Known) (b : Block) (r : ℕ) (t : Spot) → is_transfer_code (code_told h k b) ≡ true → k.ring_of (slot b) (endpoint b) ≡ Some r → named (shape_of h r) (k.ring r) (pointer b) ≡ Some t →
     event_at h k b ≡ Some (record { ring = r; spot = t })
-unfolding event_at spot_on
-spot_named h k b r t had is = search (rules, spot_on, pointer, option_map)
+unfolding event_at spot_on code_told
+spot_named h k b r t told had is = search (rules, no_service, cond-false, spot_on, pointer, option_map)
 
-success_read : (h : Header) (k : Known) (b : Block) (r : ℕ) (t : Spot) → is_transfer_event (kind b) ≡ true → is_success (code b) ≡ true → event_at h k b ≡ Some (record { ring = r; spot = t }) →
+success_read : (h : Header) (k : Known) (b : Block) (r : ℕ) (t : Spot) → is_transfer_event (kind b) ≡ true → is_success (code_told h k b) ≡ true → event_at h k b ≡ Some (record { ring = r; spot = t }) →
     event_read h k (kind b) b ≡ passed h k r t
 unfolding event_read transfer_read transferred_at transferred
 success_read h k b r t transfer success at = search (rules, event_read, transfer_kind, kind, transferred_at, cond-true, is_success, code, passed)
@@ -66,19 +104,15 @@ pub below_is : (n p : ℕ) → p < n → is_data_below n (Data p) ≡ true
 unfolding is_data_below
 below_is n p l = lt-ltb p n l
 
-may_report : (h : Header) (k : Known) (b : Block) (r p : ℕ) → is_success (code b) ≡ true → p < ceiling (shape_of h r) (k.ring r) → can_report_at h k b (Some (record { ring = r; spot = Data p })) ≡ true
+may_report : (h : Header) (k : Known) (b : Block) (r p : ℕ) → is_success (code_told h k b) ≡ true → p < ceiling (shape_of h r) (k.ring r) → can_report_at h k b (Some (record { ring = r; spot = Data p })) ≡ true
 unfolding can_report_at can_report
-may_report h k b r p success below = cond-true (is_success (code b)) _ _ success ∙ below_is (ceiling (shape_of h r) (k.ring r)) p below
+may_report h k b r p success below = cond-true (is_success (code_told h k b)) _ _ success ∙ below_is (ceiling (shape_of h r) (k.ring r)) p below
 
 pub possible : (h : Header) (k : Known) (b : Block) (o : RingSpot) → is_transfer_event (kind b) ≡ true → event_at h k b ≡ Some o → can_report_at h k b (Some o) ≡ true →
     k.endpoint_state (slot b) (endpoint b) ≢ Off → is_impossible_by_kind h k (kind b) b ≡ false
 unfolding is_impossible_by_kind is_impossible_transfer
 possible h k b o transfer at may on =
     search (rules, is_impossible_by_kind, transfer_kind, kind, and_right, is_in_profile, is_off, slot, endpoint, not, can_report_at, event_at, or_from, on_is, not_from_true)
-
-pub in_profile_is : (b : Block) → is_set (word b 3) 2 ≡ false → is_transfer_code (code b) ≡ true → is_in_profile b ≡ true
-unfolding is_in_profile
-in_profile_is b none code_is = and_from (not (is_set (word b 3) 2)) (is_transfer_code (code b)) (not_from_false (is_set (word b 3) 2) none) code_is
 
 success_code : (c : ℕ) → is_success c ≡ true → is_transfer_code c ≡ true
 success_code c success = search (rules, or_left)
@@ -98,7 +132,7 @@ runs_more h now w v b block run keeps = record {
   agrees = subst (λ m. Agrees h m (run.unread ++ b ∷ []) (counted h v)) (sym (read_more h run.unread now b)) keeps.agrees;
 }
 
-module _ (h : Header) (is : IsHeader h) (k : Known) (unread : List Block) (w v : World) (b : Block) (block : IsBlock b) (running : w.stopped ≡ false) (d : DriverKeeps h k) (g : Agrees h k unread w) (x : IsReport h w v b) where
+module _ (h : Header) (is : IsHeader h) (k : Known) (unread : List Block) (w v : World) (b : Block) (block : IsBlock b) (running : w.stopped ≡ false) (d : DriverKeeps h k) (g : Agrees h k unread w) (x : IsReport h k w v b) where
   pub p : PostKeeps h k unread w b
   p = post_keeps h is k unread w b block d g x.can
 
@@ -116,17 +150,17 @@ module _ (h : Header) (is : IsHeader h) (k : Known) (unread : List Block) (w v :
         | inr free ↦ absurd (free.none (slot b) (endpoint b) had)
       ]
 
-  on_bound : is_success (code b) ≡ true → BoundRing (shape_of h x.ring) k.ring_of (k.ring x.ring) (state_of (posted h w b) x.ring) x.ring → ReportKeeps h k unread w v b
+  on_bound : is_success (code_told h k b) ≡ true → BoundRing (shape_of h x.ring) k.ring_of (k.ring x.ring) (state_of (posted h w b) x.ring) x.ring → ReportKeeps h k unread w v b
   on_bound success bound =
       let r : ℕ = x.ring in
       let u : World = posted h w b in
       let driver = transfer_driver h r (d.states.transfer (slot b) (endpoint b) r had) in
       let allowed = (ring_shape h is r driver).is in
       let keeps = d.rings r driver in
-      let f = success_is h u v (code b) (slot b) (endpoint b) r (pointer b) success x.by_code in
+      let f = success_is h u v (code_told h k b) (slot b) (endpoint b) r (pointer b) success x.by_code in
       let named_take = reported_is (shape_of h r) allowed k.memory (k.ring r) keeps (state_of u r) bound.spot bound.matches bound.takes (pointer b) f.0 f.1 in
       let q : ℕ = floor_number (k.ring r) + f.0 in
-      let at = spot_named h k b r (Data q) had named_take.named_is in
+      let at = spot_named h k b r (Data q) (success_code (code_told h k b) success) had named_take.named_is in
       let l = learns_passed h k r (k.reads + 1) (Data q) in
       let c : ℕ = u.reported r + f.0 + 1 in
       let o = only_reported h u r c in
@@ -152,9 +186,9 @@ module _ (h : Header) (is : IsHeader h) (k : Known) (unread : List Block) (w v :
         clean = event_clean h k w b g.stands g.read running p.can p.room
             (or_left (is_transfer_event (kind b) || is_command_completion (kind b)) (is_other_event (kind b)) (or_left (is_transfer_event (kind b)) (is_command_completion (kind b)) x.transfer))
             (possible h k b (record { ring = r; spot = Data q }) x.transfer at (may_report h k b r q success (omega (arith, named_take.within, bound.matches.below))) (d.states.on (slot b) (endpoint b) r had))
-            (and_right (is_transfer_event (kind b)) (not (is_in_profile b)) (not_from_true (is_in_profile b) (in_profile_is b x.no_data (success_code (code b) success))));
+            (and_right (is_transfer_event (kind b)) (not (is_in_profile h k b)) (not_from_true (is_in_profile h k b) (in_profile_is h k b x.no_data (success_code (code_told h k b) success))));
         agrees = subst (λ n. Agrees h n (unread ++ b ∷ []) (counted h v)) (sym learned_is) (subst (λ y. Agrees h m (unread ++ b ∷ []) (counted h y)) f.2 after_z);
       }
 
-  pub success_keeps : is_success (code b) ≡ true → ReportKeeps h k unread w v b
+  pub success_keeps : is_success (code_told h k b) ≡ true → ReportKeeps h k unread w v b
   success_keeps success = where_bound (on_bound success)

@@ -47,6 +47,7 @@ module _ (h : Header) (is : IsHeader h) (k : Known) (unread : List Block) (w : W
     slot_state = refl;
     endpoint_state = refl;
     ring_of = refl;
+    isochronous = refl;
     was_bound = refl;
     stop_seen = refl;
     device = λ s some. some;
@@ -55,7 +56,7 @@ module _ (h : Header) (is : IsHeader h) (k : Known) (unread : List Block) (w : W
 
   controller : SameController w v
   unfolding v driver.declared
-  controller = record { slot_state = refl; endpoint_state = refl; ring_of = refl; scribbles = refl; under_way = refl; inside = refl; states = λ q. refl }
+  controller = record { slot_state = refl; endpoint_state = refl; ring_of = refl; isochronous = refl; scribbles = refl; under_way = refl; inside = refl; states = λ q. refl }
 
   queue_stays : (q p : ℕ) → p < declared (k.ring q) → slice_get (m.ring q).queue p ≡ slice_get (k.ring q).queue p
   queue_stays q p = after (λ n x. p < declared (k.ring n) → slice_get x.queue p ≡ slice_get (k.ring n).queue p) q (λ low. slice_get-append (k.ring r).queue blocks p low) (λ other low. refl)
@@ -125,11 +126,7 @@ module _ (h : Header) where
   unfolding MayMove
   may_move k w Erdp x reads dequeue low good =
       elim (erdp_says h k x good) [
-        | inl reached ↦ inl (record {
-          more = may_pass k;
-          reached = ap (λ n. is_reached_within (event_shape h) n (may_pass k) (erdp_address x)) dequeue ∙ reached;
-          within = omega (arith, passable h k (omega (arith, low, reads, dequeue)), reads, dequeue);
-        })
+        | inl reached ↦ (grind (arith, may_pass, is_reached_within, event_shape, erdp_address, passable))
         | inr none ↦ inr none.1
       ]
   may_move k w _ x reads dequeue low good = tt

@@ -2,25 +2,6 @@
 use Rattle.safety.proofs.Words.{◌≡◌, ℕ, List, refl, rules, Block, RingView, Writes, changed, Header, Register, Sub, Write, Reg, Bell, shape_of, command_id, Known, on_ring, with_device, with_word, written, run_or_stop, valued, register_written, endpoint_rung, rung, learned, arith}
 use Rattle.safety.proofs.SameDriver.{view_after}
 
-pub record SameRegisters (k l : Known) : Type 0 where
-  pub started : l.started ≡ k.started
-  pub stopped : l.stopped ≡ k.stopped
-  pub register : l.register ≡ k.register
-  pub reads : l.reads ≡ k.reads
-  pub dequeue : l.dequeue ≡ k.dequeue
-
-pub record SameMemory (k l : Known) : Type 0 where
-  pub memory : l.memory ≡ k.memory
-  pub soiled : l.soiled ≡ k.soiled
-  pub device : l.device ≡ k.device
-
--- slots, and which ring an endpoint has
-pub record SameSlots (k l : Known) : Type 0 where
-  pub slot_state : l.slot_state ≡ k.slot_state
-  pub ring_of : l.ring_of ≡ k.ring_of
-  pub was_bound : l.was_bound ≡ k.was_bound
-  pub stop_seen : l.stop_seen ≡ k.stop_seen
-
 -- how far a controller may be on a ring
 pub record SamePointer (v w : RingView) : Type 0 where
   pub floor : w.floor ≡ v.floor
@@ -28,6 +9,26 @@ pub record SamePointer (v w : RingView) : Type 0 where
 
 pub same_pointer : (v : RingView) → SamePointer v v
 same_pointer v = record { floor = refl; held = refl }
+
+pub record SameRegisters (k l : Known) : Type 0 where
+  pub started : l.started ≡ k.started
+  pub stopped : l.stopped ≡ k.stopped
+  pub register : l.register ≡ k.register
+  pub reads : l.reads ≡ k.reads
+  pub dequeue : l.dequeue ≡ k.dequeue
+
+-- slots, and which ring an endpoint has
+pub record SameSlots (k l : Known) : Type 0 where
+  pub slot_state : l.slot_state ≡ k.slot_state
+  pub ring_of : l.ring_of ≡ k.ring_of
+  pub isochronous : l.isochronous ≡ k.isochronous
+  pub was_bound : l.was_bound ≡ k.was_bound
+  pub stop_seen : l.stop_seen ≡ k.stop_seen
+
+pub record SameMemory (k l : Known) : Type 0 where
+  pub memory : l.memory ≡ k.memory
+  pub soiled : l.soiled ≡ k.soiled
+  pub device : l.device ≡ k.device
 
 pub record DeclarationLeaves (k l : Known) : Type 0 where
   pub registers : SameRegisters k l
@@ -68,13 +69,9 @@ module _ (h : Header) where
   unfolding learned written with_device with_word
   written_view k a w r = grind arith
 
-  register_leaves_by : (k : Known) (r : Register) (x : ℕ) → RegisterLeaves k (register_written h k r x)
-  unfolding register_written valued run_or_stop
-  register_leaves_by k r x = grind arith
-
   pub register_leaves : (k : Known) (r : Register) (x : ℕ) → RegisterLeaves k (learned h k (Reg r x))
-  unfolding learned
-  register_leaves k r x = register_leaves_by k r x
+  unfolding learned register_written valued run_or_stop
+  register_leaves k r x = grind arith
 
   pub bell_leaves : (k : Known) (s t : ℕ) → BellLeaves k (learned h k (Bell s t))
   unfolding learned rung on_ring endpoint_rung

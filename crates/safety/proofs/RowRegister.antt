@@ -15,6 +15,7 @@ pub record SameRings (k m : Known) : Type 0 where
   pub slot_state : m.slot_state ≡ k.slot_state
   pub endpoint_state : m.endpoint_state ≡ k.endpoint_state
   pub ring_of : m.ring_of ≡ k.ring_of
+  pub isochronous : m.isochronous ≡ k.isochronous
   pub was_bound : m.was_bound ≡ k.was_bound
   pub stop_seen : m.stop_seen ≡ k.stop_seen
   pub device : m.device ≡ k.device

@@ -1,5 +1,5 @@
 -- A write of any register, but one that stops the controller, where all events are read: what is known agrees with the world
-use Rattle.safety.proofs.LowerLaws.{[], ◌≡◌, ◌&&◌, ◌||◌, ◌⊎◌, if◌then◌else◌, ◌∙◌, ℕ, not, true, false, List, Option, None, Some, is_some, refl, sym, ap, subst, inl, inr, false≢true, Block, erdp_address, is_event_place, event_shape, Header, Register, Usbcmd, Crcr, Erdp, Reg, IsHeader, run_bit, reset_bit, World, counted, Known, learned, is_bad_register, lenient, Unstarted, CommandRingNamed, DriverKeeps, Agrees, ◌∷◌, Bool, rules, Shape, Data, address_of, cycle_of, number, is_border, RingView, is_way_given, place_count_pos, cycle_of-first, shape_of, command_id, register_or_zero, base_address, ring_cycle_state, RingEvent, Newest, state_of, RingMatches, UnderWayMatches, CommandMatches, NotStarted, Matches, register_written, run_or_stop, valued, next_take, has_other_words, is_out_of_order, command_at, next_command, arith, register_facts, starts_written, ring_shape, put_at, put_off}
+use Rattle.safety.proofs.LowerLaws.{[], ◌≡◌, ◌&&◌, ◌||◌, ◌⊎◌, if◌then◌else◌, ◌∙◌, ℕ, not, true, false, List, Option, None, Some, is_some, refl, sym, ap, subst, inl, inr, false≢true, Block, erdp_address, is_event_place, event_shape, Header, Register, Usbcmd, Crcr, Erdp, Reg, IsHeader, run_bit, reset_bit, World, counted, Known, learned, is_bad_register, lenient, Unstarted, CommandRingNamed, DriverKeeps, Agrees, ◌∷◌, Bool, rules, Shape, Data, address_of, cycle_of, number, is_border, RingView, is_way_given, place_count_pos, cycle_of-first, shape_of, command_id, register_or_zero, base_address, ring_cycle_state, RingEvent, Newest, state_of, RingMatches, UnderWayMatches, CommandMatches, NotStarted, register_written, run_or_stop, valued, next_take, has_other_words, is_out_of_order, command_at, next_command, arith, register_facts, starts_written, ring_shape, put_at, put_off}
 use Rattle.safety.proofs.RowRegister.{ErdpReached, agrees_once_counted, valued_agrees, erdp_agrees, erdp_stays}
 use Rattle.world_state.specs.DriverRows as driver
 use Rattle.world_state.specs.World as of_world
@@ -69,14 +69,9 @@ module _ (h : Header) (is : IsHeader h) (k : Known) (unread : List Block) (w : W
   unfolding m
   command = record { spot = Data 0; ring = first; under_way = subst (λ o. UnderWayMatches h m (Data 0) o) (sym none) (sym next_zero, seen) }
 
-  matches : Matches h m v
-  unfolding m v driver.started_with command_at
-  matches =
-      search (rules, shape_of, put_off, command_id, base_address, register_or_zero, ring_cycle_state, before, command, g.matches)
-
   pub start_agrees : Agrees h (record k { started = true }) unread (driver.started_with h w)
-  unfolding m v driver.started_with of_world.event_at
-  start_agrees = search (rules, matches)
+  unfolding m v driver.started_with of_world.event_at command_at
+  start_agrees = grind (arith, shape_of, put_off, command_id, base_address, register_or_zero, ring_cycle_state, before, command, g.matches)
 
 some_value : (o : Option ℕ) → is_some o ≡ true → (x : ℕ) × (o ≡ Some x)
 some_value o is = grind (arith, false≢true)

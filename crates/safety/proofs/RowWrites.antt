@@ -84,7 +84,7 @@ module _ (h : Header) (is : IsHeader h) (k : Known) (unread : List Block) (w : W
 
   controller : SameController w v
   unfolding v stored
-  controller = record { slot_state = refl; endpoint_state = refl; ring_of = refl; scribbles = refl; under_way = refl; inside = refl; states = λ q. refl }
+  controller = record { slot_state = refl; endpoint_state = refl; ring_of = refl; isochronous = refl; scribbles = refl; under_way = refl; inside = refl; states = λ q. refl }
 
   queue_same : (r : ℕ) → (m.ring r).queue ≡ (k.ring r).queue
   unfolding m

@@ -89,17 +89,17 @@ module _ (h : Header) (k : Known) (s t r : ℕ) (has : k.ring_of s t ≡ Some r)
 
   -- ---- any event
 
-  kind_rung : (e : Block) → k.started ≡ true → (n : BlockKind) → is_impossible_by_kind h k n e ≡ false → (is_transfer_event n && not (is_in_profile e)) ≡ false →
+  kind_rung : (e : Block) → k.started ≡ true → (n : BlockKind) → is_impossible_by_kind h k n e ≡ false → (is_transfer_event n && not (is_in_profile h k e)) ≡ false →
       (is_impossible_by_kind h woken n e ≡ false) × Woken h r (one_of s t) (event_read h k n e) (event_read h woken n e)
   unfolding is_impossible_by_kind event_read
-  kind_rung e started TransferEvent possible inside = transfer_rung h k s t r has may is d held e possible (not-false (is_in_profile e) inside)
+  kind_rung e started TransferEvent possible inside = transfer_rung h k s t r has may is d held e possible (not-false (is_in_profile h k e) inside)
   kind_rung e started CommandCompletion possible inside = completion_rung e started possible
   kind_rung e started _ possible inside = (refl, awake)
 
   pub rung_read : (e : Block) → lenient h k (Read e) ≡ [] → ReadWoken h r (one_of s t) k woken e
   rung_read e clean =
       let facts : EventFacts h k e = event_facts h k e clean in
-      read_woken h r (one_of s t) k woken e driver clean (kind_rung e facts.started (kind e) facts.possible facts.inside)
+      read_woken h r (one_of s t) k woken e driver (awake.isochronous) clean (kind_rung e facts.started (kind e) facts.possible facts.inside)
 
 module _ (h : Header) (s t : ℕ) (endpoint : (s == 0) ≡ false) where
   -- ---- a doorbell that isn't idle has a ring, and it is held

@@ -1,5 +1,5 @@
 -- What events leave as it is: registers, memory, and what is declared and given of each ring
-use Rattle.safety.proofs.Words.{[], ◌≡◌, ◌≢◌, ◌∷◌, ℕ, Bool, List, Option, refl, sym, subst, rules, cond_both, Block, BlockKind, code, slot, endpoint, Spot, number, after, RingView, RingChange, Reaches, Opens, Holds, changed, ceiling, target, Command, is_off, Change, Header, shape_of, command_id, ring_having, Known, on_ring, command_at, next_command, passed, broken_off, stopped_at, transferred, transferred_at, transfer_read, set_to, bound_to, moved_to, moved, pointed, disabled, in_state, held_at_ceiling, changed_by, changed_by_all, succeeded, stop_ended, finished, completed, event_read, arith}
+use Rattle.safety.proofs.Words.{typed, [], ◌≡◌, ◌≢◌, ◌∷◌, ℕ, Bool, List, Option, refl, sym, subst, rules, cond_both, Block, BlockKind, code, slot, endpoint, Spot, number, after, RingView, RingChange, Reaches, Opens, Holds, changed, ceiling, target, Command, is_off, Change, Header, shape_of, command_id, ring_having, Known, on_ring, command_at, next_command, passed, broken_off, stopped_at, transferred, transferred_at, transfer_read, set_to, bound_to, moved_to, moved, pointed, disabled, in_state, held_at_ceiling, changed_by, changed_by_all, succeeded, stop_ended, finished, completed, event_read, arith}
 use Rattle.safety.proofs.DriverRows.{ring_here, ring_elsewhere}
 
 -- what is declared and given of a ring
@@ -82,7 +82,7 @@ module _ (h : Header) where
       (λ _. (grind (arith, same_driver, both_drivers, moved_same, same_given))) (λ _. moved_same k (k.ring_of s i) p cycle)
 
   pub change_same : (c : Command) (k : Known) (change : Change) → SameDriver k (changed_by h c k change)
-  unfolding changed_by disabled in_state held_at_ceiling
+  unfolding changed_by disabled typed in_state held_at_ceiling
   change_same c k o = grind (arith, same_given, both_drivers, pointed_same, same_driver, on_ring_same, ceiling, shape_of)
 
   pub changes_same : (c : Command) (k : Known) (all : List Change) → SameDriver k (changed_by_all h c k all)

@@ -1,5 +1,5 @@
 -- What a change leaves of slots
-use Rattle.safety.proofs.LowerLaws.{[], ◌≡◌, ◌≢◌, ◌⊎◌, ◌==◌, ◌&&◌, ◌∷◌, ◌∙◌, ℕ, Bool, List, map, Option, None, Some, refl, ap, inl, inr, ne_eqb, cond_both, cond-false, and_left, none-some, target, Command, EndpointState, Stopped, is_off, Change, SlotGoesOn, DeviceLeft, Disables, Places, Stops, Resets, placed_by_context, ContextSize, Header, shape_of, ring_having, Known, on_ring, set_to, bound_to, moved_to, moved, pointed, disabled, in_state, held_at_ceiling, changed_by, changed_by_all, arith, at_pair}
+use Rattle.safety.proofs.LowerLaws.{typed, Types, [], ◌≡◌, ◌≢◌, ◌⊎◌, ◌==◌, ◌&&◌, ◌∷◌, ◌∙◌, ℕ, Bool, List, map, Option, None, Some, refl, ap, inl, inr, ne_eqb, cond_both, cond-false, and_left, none-some, target, Command, EndpointState, Stopped, is_off, Change, SlotGoesOn, DeviceLeft, Disables, Places, Stops, Resets, placed_by_context, ContextSize, Header, shape_of, ring_having, Known, on_ring, set_to, bound_to, moved_to, moved, pointed, disabled, in_state, held_at_ceiling, changed_by, changed_by_all, arith, at_pair}
 use Rattle.safety.proofs.StatesOneEndpoint.{same_pair}
 
 -- endpoint i of slot s may have got a ring, and no more is changed of slots
@@ -25,6 +25,7 @@ both_slots k l m t a b = record { state = b.state ∙ a.state; device = b.device
 abbrev pub slot_of : Change → ℕ
 slot_of (SlotGoesOn s) = s
 slot_of (DeviceLeft s) = s
+slot_of (Types s which isochronous) = s
 slot_of (Disables s which) = s
 slot_of (Places s i p cycle state) = s
 slot_of (Stops s i) = s
@@ -69,9 +70,10 @@ module _ (h : Header) where
 
   -- another slot
   change_elsewhere : (c : Command) (k : Known) (change : Change) (t : ℕ) → t ≢ slot_of change → SameSlot k (changed_by h c k change) t
-  unfolding changed_by disabled
+  unfolding changed_by disabled typed
   change_elsewhere c k (SlotGoesOn s) t other = record { state = cond-false (t == s) _ (k.slot_state t) (ne_eqb t s other); device = refl; rings = λ i. refl }
   change_elsewhere c k (DeviceLeft s) t other = record { state = refl; device = cond-false (t == s) None (k.device t) (ne_eqb t s other); rings = λ i. refl }
+  change_elsewhere c k (Types s which isochronous) t other = record { state = refl; device = refl; rings = λ i. refl }
   change_elsewhere c k (Disables s which) t other =
       record { state = refl; device = refl; rings = λ i. cond-false (t == s && which i) None (k.ring_of t i) (and_left (t == s) (which i) (ne_eqb t s other)) }
   change_elsewhere c k (Places s i p cycle state) t other =

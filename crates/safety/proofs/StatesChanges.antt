@@ -1,5 +1,5 @@
 -- What the success of a command changes keeps what is kept of endpoints, change by change
-use Rattle.safety.proofs.LowerLaws.{[], ◌≡◌, ◌≢◌, if◌then◌else◌, ◌∷◌, ℕ, Bool, true, false, List, Option, None, Some, refl, inl, inr, none-some, Holds, ceiling, Command, EndpointState, Off, Running, Stopped, Change, SlotGoesOn, DeviceLeft, Disables, Places, Stops, Resets, Header, IsHeader, shape_of, Known, on_ring, disabled, in_state, held_at_ceiling, changed_by, changed_by_all, EndpointsKeep, rules, arith, at_pair, EndpointsStand, endpoints_same}
+use Rattle.safety.proofs.LowerLaws.{typed, Types, [], ◌≡◌, ◌≢◌, if◌then◌else◌, ◌∷◌, ℕ, Bool, true, false, List, Option, None, Some, refl, inl, inr, none-some, Holds, ceiling, Command, EndpointState, Off, Running, Stopped, Change, SlotGoesOn, DeviceLeft, Disables, Places, Stops, Resets, Header, IsHeader, shape_of, Known, on_ring, disabled, in_state, held_at_ceiling, changed_by, changed_by_all, EndpointsKeep, rules, arith, at_pair, EndpointsStand, endpoints_same}
 use Rattle.safety.proofs.DriverRows.{ring_here, ring_elsewhere}
 use Rattle.safety.proofs.Endpoints.{change_keeps, fewer}
 use Rattle.safety.proofs.StatesOneEndpoint.{OneEndpoint, one_stands}
@@ -30,6 +30,7 @@ module _ (h : Header) where
   Fits k (Resets s i) = RestsThere (k.endpoint_state s i)
   Fits k (SlotGoesOn s) = Unit {0}
   Fits k (DeviceLeft s) = Unit {0}
+  Fits k (Types s which isochronous) = Unit {0}
   Fits k (Disables s which) = Unit {0}
 
   abbrev pub FitAll : Command → Known → List Change → Type 0
@@ -62,9 +63,10 @@ module _ (h : Header) where
   -- ---- any change, and one after the other
 
   pub change_stands : (c : Command) (k : Known) (change : Change) → EndpointsKeep h k → EndpointsStand k → Fits k change → EndpointsStand (changed_by h c k change)
-  unfolding changed_by disabled held_at_ceiling
+  unfolding changed_by disabled typed held_at_ceiling
   change_stands c k (SlotGoesOn s) keeps e fits = endpoints_same k (changed_by h c k (SlotGoesOn s)) refl refl (λ r. refl) e
   change_stands c k (DeviceLeft s) keeps e fits = endpoints_same k (changed_by h c k (DeviceLeft s)) refl refl (λ r. refl) e
+  change_stands c k (Types s which isochronous) keeps e fits = endpoints_same k (changed_by h c k (Types s which isochronous)) refl refl (λ r. refl) e
   change_stands c k (Disables s which) keeps e fits = (search (rules, none_left, off_left, fewer, state_left))
   change_stands c k (Places s i p cycle state) keeps e fits = place_stands h c k s i p cycle state keeps e fits
   change_stands c k (Stops s i) keeps e fits = (grind (arith, e.off, in_state, ceiling, shape_of, one_stands, on_ring, held_one))

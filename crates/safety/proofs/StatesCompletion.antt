@@ -1,5 +1,5 @@
 -- A Command Completion Event keeps what is known of states
-use Rattle.safety.proofs.MiddleLaws.{[], ◌≡◌, ◌==◌, if◌then◌else◌, ◌∙◌, ℕ, true, Option, None, Some, refl, sym, ap, cond_both, cond-true, and_parts, false≢true, same_Some, Block, code, slot, Spot, after, Reaches, Command, StopEndpoint, may_answer_slot, changes, Header, Config, IsHeader, shape_of, command_id, register_or_zero, Known, on_ring, command_at, next_command, succeeded, stop_ended, finished, completed, can_finish, CommandKeeps, DriverKeeps, ◌∷◌, Bool, List, rules, target, Stopped, is_off, Change, Places, Stops, ring_having, set_to, bound_to, moved_to, moved, pointed, disabled, in_state, held_at_ceiling, changed_by, changed_by_all, ◌≢◌, false, inl, inr, NoOp, EnableSlot, DisableSlot, AddressDevice, ConfigureEndpoint, EvaluateContext, ResetEndpoint, SetTrDequeue, ResetDevice, named_slot, Resets, RingsKeep, StillHolds, EndpointsKeep, ◌&&◌, nat_le, nat_lt, map, subst, eq-eqb, leb-false, ltb-true, cond-false, and_from, and_right, none-some, EndpointState, Off, Running, SlotGoesOn, DeviceLeft, Disables, placed_by_context, is_above_control, added_endpoints, is_dropped, context_pointer, context_cycle, is_bad_command, arith, endpoints_of, rings_of, view_after, SeenStand, endpoints_part, slots_part, seen_part, endpoints_same, slots_same, EndpointsStand, SlotsStand, SlotStands, at_pair, IsPlaced, placed_is, pointed_on, on_is, some_ring, GetsRing, stops_slot, resets_slot, placed_leaves, SameSlot, changes_elsewhere, placed_of_slot, placed_all, RestsThere, changes_stand, slot_deconfigured, slot_reset, state_after, slot_enabled, slot_disabled, slot_addressed, slot_configured}
+use Rattle.safety.proofs.MiddleLaws.{typed, typed_by_context, [], ◌≡◌, ◌==◌, if◌then◌else◌, ◌∙◌, ℕ, true, Option, None, Some, refl, sym, ap, cond_both, cond-true, and_parts, false≢true, same_Some, Block, code, slot, Spot, after, Reaches, Command, StopEndpoint, may_answer_slot, changes, Header, Config, IsHeader, shape_of, command_id, register_or_zero, Known, on_ring, command_at, next_command, succeeded, stop_ended, finished, completed, can_finish, CommandKeeps, DriverKeeps, ◌∷◌, Bool, List, rules, target, Stopped, is_off, Change, Places, Stops, ring_having, set_to, bound_to, moved_to, moved, pointed, disabled, in_state, held_at_ceiling, changed_by, changed_by_all, ◌≢◌, false, inl, inr, NoOp, EnableSlot, DisableSlot, AddressDevice, ConfigureEndpoint, EvaluateContext, ResetEndpoint, SetTrDequeue, ResetDevice, named_slot, Resets, RingsKeep, StillHolds, EndpointsKeep, ◌&&◌, nat_le, nat_lt, map, subst, eq-eqb, leb-false, ltb-true, cond-false, and_from, and_right, none-some, EndpointState, Off, Running, SlotGoesOn, DeviceLeft, Disables, placed_by_context, is_above_control, added_endpoints, is_dropped, context_pointer, context_cycle, is_bad_command, arith, endpoints_of, rings_of, view_after, SeenStand, endpoints_part, slots_part, seen_part, endpoints_same, slots_same, EndpointsStand, SlotsStand, SlotStands, at_pair, IsPlaced, placed_is, pointed_on, on_is, some_ring, GetsRing, stops_slot, resets_slot, placed_leaves, SameSlot, changes_elsewhere, placed_of_slot, placed_all, RestsThere, changes_stand, slot_deconfigured, slot_reset, state_after, slot_enabled, slot_disabled, slot_addressed, slot_configured}
 use Rattle.safety.proofs.KeptRings.{CompletionFacts, next_unfinished, command_holds}
 use Rattle.safety.proofs.StatesFit.{Succeeds, succeeds_is, moving_rests, slot_there, no_slot_zero, success_fits}
 use Rattle.safety.proofs.StatesTransfer.{PartsStand}
@@ -33,7 +33,7 @@ module _ (h : Header) (k : Known) (was : SlotsStand k) (e : EndpointsStand k) wh
 
   pub disabled_slots : (config n s : ℕ) → s ≢ 0 → Succeeds k.slot_state k.endpoint_state config n (DisableSlot s) →
       SlotsStand (changed_by_all h (DisableSlot s) k (SlotGoesOn s ∷ DeviceLeft s ∷ Disables s (λ i. true) ∷ []))
-  unfolding changed_by_all changed_by disabled
+  unfolding changed_by_all changed_by disabled typed
   disabled_slots config n s slot may =
       search (rules, changed_by_all, but_one, slot, changes_elsewhere, slot_goes, slot_disabled, cond-true, and_from, eq-eqb)
 
@@ -58,16 +58,17 @@ module _ (h : Header) (k : Known) (was : SlotsStand k) (e : EndpointsStand k) wh
       (λ none. off_runs (after.off s 1 none) runs)))
 
   pub configured_slots : (config n s a : ℕ) → s ≢ 0 → Succeeds k.slot_state k.endpoint_state config n (ConfigureEndpoint s false a) →
-      SlotsStand (changed_by_all h (ConfigureEndpoint s false a) k (SlotGoesOn s ∷ Disables s (is_dropped k.memory a) ∷ map (placed_by_context h.context_size k.memory s a) (added_endpoints k.memory a)))
-  unfolding changed_by_all changed_by disabled
+      SlotsStand (changed_by_all h (ConfigureEndpoint s false a) k (SlotGoesOn s ∷ typed_by_context h.context_size k.memory s a ∷ Disables s (is_dropped k.memory a) ∷ map (placed_by_context h.context_size k.memory s a) (added_endpoints k.memory a)))
+  unfolding changed_by_all changed_by disabled typed
   configured_slots config n s a slot may =
       let c : Command = ConfigureEndpoint s false a in
       let adds : List Change = map (placed_by_context h.context_size k.memory s a) (added_endpoints k.memory a) in
-      let d : Known = changed_by h c (changed_by h c k (SlotGoesOn s)) (Disables s (is_dropped k.memory a)) in
+      let types : Change = typed_by_context h.context_size k.memory s a in
+      let d : Known = changed_by h c (changed_by h c (changed_by h c k (SlotGoesOn s)) types) (Disables s (is_dropped k.memory a)) in
       let l : Known = changed_by_all h c d adds in
       let keeps : KeepsRings h d l = placed_all h c d h.context_size k.memory s a (added_endpoints k.memory a) in
       but_one k l s slot was
-      (λ t other. changes_elsewhere h c k s (SlotGoesOn s ∷ Disables s (is_dropped k.memory a) ∷ adds) t (refl, (refl, placed_of_slot h h.context_size k.memory s a (added_endpoints k.memory a))) other)
+      (λ t other. changes_elsewhere h c k s (SlotGoesOn s ∷ types ∷ Disables s (is_dropped k.memory a) ∷ adds) t (refl, (refl, (refl, placed_of_slot h h.context_size k.memory s a (added_endpoints k.memory a)))) other)
       (subst (λ x. SlotStands x (l.ring_of s) (l.device s)) (sym (ap (λ f. f s) keeps.slot_state ∙ refl ∙ slot_goes c s))
       (slot_configured (k.ring_of s) (l.ring_of s) (k.device s) (l.device s) s a (k.slot_state s) may.slot (was.each s)
       (λ has. keeps.some s 1 (first_stays s ((is_dropped k.memory a) 1) (k.ring_of s 1) refl has))))
@@ -75,7 +76,7 @@ module _ (h : Header) (k : Known) (was : SlotsStand k) (e : EndpointsStand k) wh
   pub above_slots : (c : Command) (s : ℕ) → s ≢ 0 →
       ((after : ℕ → Option ℕ) (left : Option ℕ) → ((i r : ℕ) → after i ≡ Some r → i ≡ 1) → (k.ring_of s 1 ≢ None → after 1 ≢ None) → SlotStands (state_after c (k.slot_state s)) after left) →
       SlotsStand (changed_by_all h c k (SlotGoesOn s ∷ Disables s is_above_control ∷ []))
-  unfolding changed_by_all changed_by disabled
+  unfolding changed_by_all changed_by disabled typed
   above_slots c s slot here =
       let all : List Change = SlotGoesOn s ∷ Disables s is_above_control ∷ [] in
       let l : Known = changed_by_all h c k all in
@@ -135,14 +136,10 @@ module _ (h : Header) (is : IsHeader h) where
 
 -- Behind a completion no Stopped event is known: that of the finished Stop Endpoint was the only one
 module _ (h : Header) where
-  change_seen : (c : Command) (k : Known) (change : Change) → (changed_by h c k change).stop_seen ≡ k.stop_seen
-  unfolding changed_by disabled in_state pointed bound_to moved moved_to set_to on_ring held_at_ceiling
-  change_seen c k o = grind (arith, is_off, bound_to, ring_having, moved, target, shape_of, in_state, k.ring_of)
-
   pub changes_seen : (c : Command) (k : Known) (all : List Change) → (changed_by_all h c k all).stop_seen ≡ k.stop_seen
-  unfolding changed_by_all
+  unfolding changed_by_all changed_by disabled typed in_state pointed bound_to moved moved_to set_to on_ring held_at_ceiling
   changes_seen c k [] = refl
-  changes_seen c k (change ∷ rest) = changes_seen c (changed_by h c k change) rest ∙ change_seen c k change
+  changes_seen c k (change ∷ rest) = changes_seen c (changed_by h c k change) rest ∙ (grind (arith, is_off, bound_to, ring_having, moved, target, shape_of, in_state, k.ring_of))
 
   -- where only the finished command's can have been known
   pub none_seen : (k m : Known) (c : Command) → m.stop_seen ≡ k.stop_seen → ((t j : ℕ) → k.stop_seen t j ≡ true → c ≡ StopEndpoint t j) → (t j : ℕ) → (stop_ended h m c).stop_seen t j ≡ true → ⊥

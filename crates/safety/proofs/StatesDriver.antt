@@ -1,5 +1,6 @@
 -- Declarations, writes of memory and of registers keep what is known of states
-use Rattle.safety.proofs.MiddleLaws.{[], ◌≡◌, ◌≢◌, ◌≤◌, ◌⊎◌, ◌∙◌, ℕ, List, Option, None, Some, option_and_then, slice_get, arith, refl, sym, ap, subst, inl, inr, ne_eqb, rules, cond-false, or_parts, false≢true, none-some, slice_get_within, Block, Shape, RingView, Declares, Writes, changed, floor_number, ceiling, cases_option, slice_get-append, given_count-writes, ceiling_held, Command, SlotState, Disabled, Enabled, Configured, command_of, Header, Register, Sub, Write, Reg, IsHeader, shape_of, command_id, Known, command_at, with_device, with_word, written, command_given, taken_device, learned, names_disabled_slot, is_bad_command, lenient, StatesKeep, DriverKeeps, row_keeps, ceiling_declares, endpoints_of, view_after, next_is, SlotsStand, StopsNext, endpoints_part, slots_part, seen_part, from_parts, endpoints_same, slots_same, seen_same, DeclarationLeaves, WriteLeaves, RegisterLeaves, declaration_leaves, write_leaves, written_view, register_leaves}
+use Rattle.safety.proofs.MiddleLaws.{[], ◌≡◌, ◌≢◌, ◌≤◌, ◌⊎◌, ◌∙◌, ℕ, List, Option, None, Some, option_and_then, slice_get, arith, refl, sym, ap, subst, inl, inr, ne_eqb, rules, cond-false, or_parts, false≢true, none-some, slice_get_within, Block, Shape, RingView, Declares, Writes, changed, floor_number, ceiling, cases_option, slice_get-append, given_count-writes, ceiling_held, Command, SlotState, Disabled, Enabled, Configured, command_of, Header, Register, Sub, Write, Reg, IsHeader, shape_of, command_id, Known, command_at, with_device, with_word, written, command_given, taken_device, learned, names_disabled_slot, is_bad_command, lenient, StatesKeep, DriverKeeps, ceiling_declares, endpoints_of, view_after, next_is, SlotsStand, StopsNext, endpoints_part, slots_part, seen_part, from_parts, endpoints_same, slots_same, seen_same, DeclarationLeaves, WriteLeaves, RegisterLeaves, declaration_leaves, write_leaves, written_view, register_leaves}
+use Rattle.safety.proofs.EndpointHistories.{row_keeps}
 use Rattle.segments.proofs.Named.{ceiling_open}
 use Rattle.safety.proofs.KeptClean.{CleanTaking, taking}
 

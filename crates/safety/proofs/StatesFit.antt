@@ -1,5 +1,5 @@
 -- What the success of an unfinished command changes fits the endpoints
-use Rattle.safety.proofs.MiddleLaws.{[], ◌≡◌, ◌≢◌, ◌≤◌, ◌∷◌, ◌∙◌, ℕ, nat_le, Bool, true, false, List, map, All, Some, is_some, arith, refl, sym, ap, get_or, leb-true, rules, list_any, and_parts, or_parts, false≢true, All-head, All-tail, Command, ConfigureEndpoint, ResetEndpoint, StopEndpoint, SetTrDequeue, SlotState, Disabled, EndpointState, Running, Halted, Stopped, Change, changes, placed_by_context, named_slot, named_endpoint, slot_success, endpoint_success, slot_meant, endpoint_meant, is_slot_enabled, can_succeed, added_endpoints, Header, IsHeader, is_ring, Known, changed_by, is_among, has_repeats, binding_in, binds, ring_bound, RingsKeep, StillHolds, is_bad_command, names_disabled_slot, each_fails, any_of_map, added_above, ring_at, ReadyAt, ready_next, map_map, dropped, address_ready, all_ready, EndpointsStand, MayPlace, off_is, RestsThere, FitAll}
+use Rattle.safety.proofs.MiddleLaws.{typed, [], ◌≡◌, ◌≢◌, ◌≤◌, ◌∷◌, ◌∙◌, ℕ, nat_le, Bool, true, false, List, map, All, Some, is_some, arith, refl, sym, ap, get_or, leb-true, rules, list_any, and_parts, or_parts, false≢true, All-head, All-tail, Command, ConfigureEndpoint, ResetEndpoint, StopEndpoint, SetTrDequeue, SlotState, Disabled, EndpointState, Running, Halted, Change, changes, placed_by_context, named_slot, named_endpoint, slot_success, endpoint_success, slot_meant, endpoint_meant, is_slot_enabled, can_succeed, added_endpoints, Header, IsHeader, is_ring, Known, changed_by, is_among, has_repeats, binding_in, binds, ring_bound, RingsKeep, StillHolds, is_bad_command, names_disabled_slot, each_fails, any_of_map, added_above, ring_at, ReadyAt, ready_next, map_map, dropped, address_ready, all_ready, EndpointsStand, off_is, RestsThere, FitAll}
 
 -- a command that can succeed
 pub record Succeeds (slots : ℕ → SlotState) (endpoints : ℕ → ℕ → EndpointState) (config n : ℕ) (c : Command) : Type 0 where
@@ -63,13 +63,10 @@ module _ (h : Header) (is : IsHeader h) where
 
   -- ---- Set TR Dequeue
 
-  dequeue_fits : (k : Known) (s i p : ℕ) → EndpointsStand k → RestsThere (k.endpoint_state s i) → MayPlace h k s i p Stopped
-  dequeue_fits k s i p e rests = search (rules, off_is)
-
   -- ---- any command
 
   pub success_fits : (k : Known) (config n : ℕ) (c : Command) → k.slot_state 0 ≡ Disabled → RingsKeep h k → EndpointsStand k → is_bad_command h k c ≡ false → StillHolds h k c →
       Succeeds k.slot_state k.endpoint_state config n c → FitAll h c k (changes h.context_size k.memory n c)
-  unfolding changes changed_by
+  unfolding changes changed_by typed
   success_fits k config n z zero rings e good still may =
-      grind (arith, address_ready, configure_fits, no_slot_zero, slot_there, resetting_halted, stopping_runs, dequeue_fits, moving_rests)
+      grind (arith, address_ready, configure_fits, no_slot_zero, slot_there, resetting_halted, stopping_runs, off_is, moving_rests)

@@ -1,4 +1,5 @@
 -- Only one endpoint and its ring change: what is kept of states is kept
+use Rattle.std.proofs.Common.{arith}
 use Rattle.safety.proofs.LowerLaws.{◌≡◌, ◌≢◌, ◌⊎◌, ◌∙◌, ℕ, true, None, Some, sym, ap, subst, inl, inr, rules, same_Some, none-some, Off, Running, Header, Known, EndpointsStand, StopsNext, SeenStand}
 
 -- that of slot s with index i, which has ring r
@@ -45,11 +46,5 @@ module _ (k l : Known) (s i r : ℕ) (e : EndpointsStand k) (one : OneEndpoint k
               ap (λ n. l.endpoint_state n j) here.0 ∙ ap (λ n. l.endpoint_state s n) here.1 ∙ own_seen.1
           | inr other ↦ one.others t j other ∙ seen.runs t j (sym (own.others t j other) ∙ is)
         ];
-    held = λ t j q is at none.
-        elim (same_pair t j s i) [
-          | inl here ↦
-              let ring : r ≡ q = same_Some r q (sym one.bound ∙ (ap (λ n. k.ring_of s n) (sym here.1) ∙ ap (λ n. k.ring_of n j) (sym here.0) ∙ was t j q at)) in
-              (own.here (ap (λ n. l.stop_seen s n) (sym here.1) ∙ ap (λ n. l.stop_seen n j) (sym here.0) ∙ is)).2 (ap (λ n. (l.ring n).held) ring ∙ none)
-          | inr other ↦ seen.held t j q (sym (own.others t j other) ∙ is) (was t j q at) (sym (one.held q (other_ring t j q other at)) ∙ none)
-        ];
+    held = (grind (arith, same_pair, same_Some, other_ring));
   }

@@ -119,13 +119,7 @@ module _ (k m l : Known) (s i r : ℕ) (state : EndpointState) (e : EndpointsSta
               | inr second ↦ e.one_endpoint t j u n q (sym (ring_other t j first) ∙ a) (sym (ring_other u n second) ∙ b)
             ]
           ];
-      open_runs = λ t j q at none.
-          elim (same_pair t j s i) [
-            | inl here ↦ state_here t j here.0 here.1 ∙ starts
-            | inr other ↦
-                state_at t j bound.states other
-                ∙ e.open_runs t j q (sym (ring_other t j other) ∙ at) (sym (held_at q ∙ bound.others q (apart t j q other at)) ∙ none)
-          ];
+      open_runs = (grind (arith, same_pair, state_here, state_at, ring_other, held_at));
     }
 
 pub some_ring : (o : Option ℕ) → (o ≡ None) ⊎ ((r : ℕ) × (o ≡ Some r))

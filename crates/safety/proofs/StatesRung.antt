@@ -1,5 +1,6 @@
 -- A doorbell keeps what is known of states
-use Rattle.safety.proofs.MiddleLaws.{[], ◌≡◌, ◌≢◌, ◌==◌, ◌&&◌, ◌||◌, ◌∙◌, ℕ, not, nat_lt, true, false, Option, None, Some, refl, sym, ap, eq-eqb, rules, cond_both, cond-false, or_parts, or_cases, or_left, and_from, not-false, false≢true, put_pair, Shape, RingView, Opens, changed, is_step_given, is_way_given, given_count_same, StopEndpoint, EndpointState, Running, changes, is_running, is_stopped, Header, Bell, IsHeader, shape_of, command_id, Known, on_ring, next_command, endpoint_rung, rung, learned, touches_endpoint, is_touched, is_bad_bell, lenient, StatesKeep, DriverKeeps, arith, command_not_transfer, ring_here, ring_elsewhere, at_pair, unfinished_fails, endpoints_of, BellFacts, bell_facts, EndpointsStand, StopsNext, SeenStand, endpoints_part, slots_part, seen_part, from_parts, slots_same, OneEndpoint, OneSeen, one_stands, one_seen, row_keeps, BellLeaves, bell_leaves}
+use Rattle.safety.proofs.MiddleLaws.{[], ◌≡◌, ◌≢◌, ◌==◌, ◌&&◌, ◌||◌, ◌∙◌, ℕ, nat_lt, true, false, Option, None, Some, refl, sym, ap, eq-eqb, rules, cond_both, or_parts, or_cases, or_left, and_from, not-false, false≢true, put_pair, Shape, RingView, Opens, changed, is_step_given, is_way_given, given_count_same, StopEndpoint, EndpointState, Running, changes, is_running, is_stopped, Header, Bell, IsHeader, shape_of, command_id, Known, on_ring, next_command, endpoint_rung, rung, learned, touches_endpoint, is_touched, is_bad_bell, lenient, StatesKeep, DriverKeeps, arith, command_not_transfer, ring_here, ring_elsewhere, at_pair, unfinished_fails, endpoints_of, BellFacts, bell_facts, EndpointsStand, StopsNext, SeenStand, endpoints_part, slots_part, seen_part, from_parts, slots_same, OneEndpoint, OneSeen, one_stands, one_seen, BellLeaves, bell_leaves}
+use Rattle.safety.proofs.EndpointHistories.{row_keeps}
 use Rattle.segments.proofs.Named.{ceiling_open}
 use Rattle.safety.proofs.KeptRings.{next_unfinished}
 use Rattle.safety.proofs.KeptCommands.{view_of, open_now}
@@ -24,9 +25,6 @@ module _ (h : Header) where
   module _ (is : IsHeader h) (k : Known) (d : DriverKeeps h k) where
     not_command : (s i r : ℕ) → k.ring_of s i ≡ Some r → r ≢ command_id h
     not_command s i r at same = command_not_transfer h is ((endpoints_of h k d.states).transfer s i (command_id h) (at ∙ ap (λ n. Some n) same))
-
-    command_endpoints : EndpointsStand (on_ring h k (command_id h) Opens)
-    command_endpoints = search (rules, on_ring, command_id, opened, endpoints_part, d.states, k.ring_of, ring_elsewhere, not_command)
 
     command_seen : SeenStand h (on_ring h k (command_id h) Opens)
     command_seen =
@@ -66,9 +64,6 @@ module _ (h : Header) where
       pub state : (is_running (k.endpoint_state s t) || is_stopped (k.endpoint_state s t)) ≡ true
       pub untouched : is_touched h k s t ≡ false
 
-    rung_one : (s t r : ℕ) → k.ring_of s t ≡ Some r → MayRing s t → OneEndpoint k (endpoint_rung h k s t (Some r)) s t r
-    rung_one s t r at may = search (rules, rung_rest, rung_state, rung_others, ring_elsewhere)
-
     endpoint_stands : (s t : ℕ) (o : Option ℕ) → k.started ≡ true → k.ring_of s t ≡ o → MayRing s t → EndpointsStand (endpoint_rung h k s t o) × SeenStand h (endpoint_rung h k s t o)
     unfolding endpoint_rung
     endpoint_stands s t None started at may = (endpoints_part h k d.states, seen_part h k d.states)
@@ -76,7 +71,7 @@ module _ (h : Header) where
         let l : Known = endpoint_rung h k s t (Some r) in
         let rest = rung_rest s t r in
         let e : EndpointsStand k = endpoints_part h k d.states in
-        let one : OneEndpoint k l s t r = rung_one s t r at may in
+        let one : OneEndpoint k l s t r = (search (rules, rung_rest, rung_state, rung_others, ring_elsewhere)) in
         let command : l.ring (command_id h) ≡ k.ring (command_id h) =
         ap (λ f. f (command_id h)) rest.2 ∙ ring_elsewhere h k r (command_id h) Opens (λ same. not_command s t r at (sym same)) in
         let own : OneSeen h k l s t r =
@@ -85,17 +80,13 @@ module _ (h : Header) where
           one_seen k l s t r e one h (seen_part h k d.states) own (stops_on h k l (view_same (shape_of h (command_id h)) (k.ring (command_id h)) (l.ring (command_id h)) command)),
         )
 
-    may_ring : (s t : ℕ) → is_bad_bell h k s t ≡ false → MayRing s t
-    unfolding is_bad_bell
-    may_ring s t good = search (rules, or_parts, nat_lt, not-false)
-
     both_stand : (s t : ℕ) → lenient h k (Bell s t) ≡ [] → EndpointsStand (learned h k (Bell s t)) × SeenStand h (learned h k (Bell s t))
-    unfolding learned rung
+    unfolding learned rung is_bad_bell
     both_stand s t clean =
         let facts : BellFacts h k s t = bell_facts h k s t clean in
         cond_both (s == 0) (on_ring h k (command_id h) Opens) (endpoint_rung h k s t (k.ring_of s t)) (λ l. EndpointsStand l × SeenStand h l)
-        (λ first. (command_endpoints, command_seen))
-        (λ other. endpoint_stands s t (k.ring_of s t) facts.started refl (may_ring s t (sym (cond-false (s == 0) (not (t == 0)) (is_bad_bell h k s t) other) ∙ facts.good)))
+        (λ first. ((search (rules, on_ring, command_id, opened, endpoints_part, d.states, k.ring_of, ring_elsewhere, not_command)), command_seen))
+        (λ other. endpoint_stands s t (k.ring_of s t) facts.started refl (search (rules, or_parts, nat_lt, not-false)))
 
     pub states_rung : (s t : ℕ) → lenient h k (Bell s t) ≡ [] → StatesKeep h (learned h k (Bell s t))
     states_rung s t clean =

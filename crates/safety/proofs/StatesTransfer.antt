@@ -1,5 +1,5 @@
 -- A Transfer Event keeps what is known of states
-use Rattle.safety.proofs.MiddleLaws.{◌≡◌, ◌≢◌, ◌+◌, ◌∙◌, ℕ, Bool, true, false, Option, None, Some, is_none, refl, ap, rules, and_parts, and_cases, or_parts, not-false, false≢true, none-some, put_pair, Block, code, slot, endpoint, is_success, is_halting, is_trb_error, is_stopping, Spot, number, after, Reaches, Holds, is_open, stopped_number, EndpointState, Off, Running, Halted, Error, is_running, Header, IsHeader, shape_of, command_id, Known, RingSpot, on_ring, event_at, passed, broken_off, stopped_at, transferred, transferred_at, transfer_read, is_in_profile, is_working, can_report, can_report_at, is_impossible_transfer, DriverKeeps, by_code, ring_here, ring_elsewhere, at_pair, endpoints_of, LeavesSlots, event_ring_of, transfer_command, transfer_slots, EndpointsStand, SlotsStand, StopsNext, SeenStand, endpoints_part, slots_part, seen_part, stops_is, slots_same, OneEndpoint, OneSeen, one_stands, one_seen, none_is}
+use Rattle.safety.proofs.MiddleLaws.{code_told, ◌≡◌, ◌≢◌, ◌+◌, ◌∙◌, ℕ, Bool, true, false, Option, None, Some, is_none, refl, ap, rules, and_parts, and_cases, or_parts, not-false, false≢true, none-some, put_pair, Block, slot, endpoint, is_success, is_halting, is_trb_error, is_stopping, Spot, number, after, Reaches, Holds, is_open, stopped_number, EndpointState, Off, Running, Halted, Error, is_running, Header, IsHeader, shape_of, command_id, Known, RingSpot, on_ring, event_at, passed, broken_off, stopped_at, transferred, transferred_at, transfer_read, is_in_profile, is_working, can_report, can_report_at, is_impossible_transfer, DriverKeeps, by_code, ring_here, ring_elsewhere, at_pair, endpoints_of, LeavesSlots, event_ring_of, transfer_command, transfer_slots, EndpointsStand, SlotsStand, StopsNext, SeenStand, endpoints_part, slots_part, seen_part, stops_is, slots_same, OneEndpoint, OneSeen, one_stands, one_seen, none_is}
 use Rattle.safety.proofs.StatesDriver.{view_same, stops_on}
 use Rattle.safety.proofs.StatesRung.{running_is}
 
@@ -22,9 +22,6 @@ module _ (h : Header) (k : Known) (e : EndpointsStand k) (seen : SeenStand h k) 
   record OnlyThis (l : Known) : Type 0 where
     pub one : OneEndpoint k l s i r
     pub own : OneSeen h k l s i r
-
-  nothing_more : OnlyThis k
-  nothing_more = search rules
 
   passed_other : (t : Spot) (q : ℕ) → q ≢ r → ((passed h k r t).ring q).held ≡ (k.ring q).held
   unfolding passed
@@ -51,13 +48,13 @@ module _ (h : Header) (k : Known) (e : EndpointsStand k) (seen : SeenStand h k) 
       by_code OnlyThis (is_success c) (is_halting c) (is_trb_error c) (is_stopping c) _ _ _ _ _ _ _ _ can (λ _. search (rules, passed_other, ring_here, after, shape_of, number))
       (λ both. must_only (broken_off h k s i r t Halted) (put_pair k.must_move s i true) (broken_only t Halted (λ off. cc) (works_is k s i r (and_parts _ _ both).1)))
       (λ both. broken_only t Error (λ off. cc) (works_is k s i r (and_parts _ _ both).1))
-      (λ all. let both = and_parts _ _ (and_parts _ _ all).0 in stopped_only t (works_is k s i r both.0) (stops_is h k s i both.1)) nothing_more
+      (λ told. let both = and_parts _ _ (and_parts _ _ (and_parts _ _ told).1).0 in stopped_only t (works_is k s i r both.0) (stops_is h k s i both.1)) (search rules)
 
   only_both : (l : Known) → l.ring (command_id h) ≡ k.ring (command_id h) → OnlyThis l → EndpointsStand l × SeenStand h l
   only_both l command only = search (rules, one_stands, one_seen, only.one, only.own, stops_on, view_same)
 
 module _ (h : Header) (is : IsHeader h) (k : Known) (d : DriverKeeps h k) where
-  pub reported : (b : Block) → is_impossible_transfer h k b ≡ false → is_in_profile b ≡ true → can_report_at h k b (event_at h k b) ≡ true
+  pub reported : (b : Block) → is_impossible_transfer h k b ≡ false → is_in_profile h k b ≡ true → can_report_at h k b (event_at h k b) ≡ true
   unfolding is_impossible_transfer
   reported b possible inside = search (rules, and_cases, false≢true, not-false, or_parts)
 
@@ -67,15 +64,15 @@ module _ (h : Header) (is : IsHeader h) (k : Known) (d : DriverKeeps h k) where
   at_stands b None found can command = (endpoints_part h k d.states, seen_part h k d.states)
   at_stands b (Some at) found can command =
       only_both h k (endpoints_part h k d.states) (seen_part h k d.states) (slot b) (endpoint b) at.ring (event_ring_of h k b at found)
-      (transferred h k (code b) (slot b) (endpoint b) at.ring at.spot) command
-      (transferred_only h k (endpoints_part h k d.states) (seen_part h k d.states) (slot b) (endpoint b) at.ring (event_ring_of h k b at found) (code b) at.spot can)
+      (transferred h k (code_told h k b) (slot b) (endpoint b) at.ring at.spot) command
+      (transferred_only h k (endpoints_part h k d.states) (seen_part h k d.states) (slot b) (endpoint b) at.ring (event_ring_of h k b at found) (code_told h k b) at.spot can)
 
-  transfer_both : (b : Block) → is_impossible_transfer h k b ≡ false → is_in_profile b ≡ true → (transfer_read h k b).ring (command_id h) ≡ k.ring (command_id h) →
+  transfer_both : (b : Block) → is_impossible_transfer h k b ≡ false → is_in_profile h k b ≡ true → (transfer_read h k b).ring (command_id h) ≡ k.ring (command_id h) →
       EndpointsStand (transfer_read h k b) × SeenStand h (transfer_read h k b)
   unfolding transfer_read
   transfer_both b possible inside command = at_stands b (event_at h k b) refl (reported b possible inside) command
 
-  pub transfer_stands : (b : Block) → is_impossible_transfer h k b ≡ false → is_in_profile b ≡ true → PartsStand h (transfer_read h k b)
+  pub transfer_stands : (b : Block) → is_impossible_transfer h k b ≡ false → is_in_profile h k b ≡ true → PartsStand h (transfer_read h k b)
   transfer_stands b possible inside =
       let both = transfer_both b possible inside (transfer_command h is k (endpoints_of h k d.states) b) in
       let slots : LeavesSlots h k (transfer_read h k b) = transfer_slots h k b in

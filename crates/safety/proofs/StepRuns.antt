@@ -1,5 +1,5 @@
 -- A step of the controller keeps the invariant, and so does a row of the driver, or the run has ended behind it
-use Rattle.safety.proofs.UpperLaws.{[], ◌≡◌, ◌∷◌, ◌∙◌, false, List, Option, Some, refl, sym, ap, subst, inl, inr, rules, cases_Bool, cond-false, cond-true, false≢true, none-some, Block, Header, Row, Sub, Write, Reg, Bell, Read, Step, NextRow, Look, Report, Finish, Other, Scribble, IsHeader, IsRow, IsStep, World, IsSafe, Known, learned, MayCome, DriverKeeps, IsDriverRow, Runs, all_read, ◌||◌, if◌then◌else◌, ℕ, Bool, true, not, kind, Usbcmd, run_bit, reset_bit, counted, Ended, harm_of, harms, has_changed_context, is_changed_since, is_context_changed, waits, register_written, run_or_stop, valued, arith, finish_runs, look_runs, other_runs, report_runs, declaration_leaves, write_leaves, bell_leaves, safe, scribble_runs, learned_read, event_same, read_runs, more_law}
+use Rattle.safety.proofs.UpperLaws.{[], ◌≡◌, ◌∷◌, ◌∙◌, false, List, Option, Some, refl, sym, ap, subst, inl, inr, rules, cases_Bool, cond-false, cond-true, false≢true, none-some, Block, Header, Row, Sub, Write, Reg, Bell, Read, Step, NextRow, Look, Report, Finish, Other, Scribble, IsHeader, IsRow, IsStep, World, IsSafe, Known, learned, MayCome, DriverKeeps, IsDriverRow, Runs, all_read, ◌||◌, if◌then◌else◌, ℕ, Bool, true, not, kind, Usbcmd, run_bit, reset_bit, counted, Ended, harm_of, harms, has_changed_context, is_changed_since, is_context_changed, waits, register_written, run_or_stop, valued, arith, finish_runs, look_runs, other_runs, report_runs, declaration_leaves, write_leaves, bell_leaves, safe, scribble_runs, learned_read, event_same, read_runs, more_law, is_ring_row}
 use Rattle.safety.specs.Invariant.{Holds}
 use Rattle.safety.proofs.DriverHistories.{kept_driver, run_keeps}
 use Rattle.safety.proofs.ReadRow.{read_on}
@@ -8,7 +8,6 @@ use Rattle.safety.proofs.Squares.{square_law}
 use Rattle.safety.proofs.StillRings.{still_rings}
 use Rattle.world_state.specs.DriverRows as driver
 use Rattle.world_state.specs.Steps as steps
-use Rattle.traces.specs.Rows.{is_ring_row}
 
 -- The driver stops the controller: the run has ended, and its world is safe
 

@@ -1,5 +1,5 @@
 -- Behind an event an endpoint whose doorbell does nothing stays one
-use Rattle.safety.proofs.UpperLaws.{[], ◌≡◌, ◌==◌, ◌&&◌, ◌∙◌, ℕ, not, true, false, Option, Some, refl, sym, ap, subst, inl, inr, eqb-true, eq-eqb, rules, list_any, cases_Bool, and_parts, or_from, and_from, not-false, false≢true, false_from_ne_true, Block, BlockKind, TransferEvent, CommandCompletion, kind, code, slot, endpoint, is_transfer_event, is_command_completion, Spot, number, after, Command, StopEndpoint, changes, Header, Read, IsHeader, shape_of, Known, RingSpot, on_ring, event_at, next_command, passed, broken_off, transferred, transferred_at, transfer_read, event_read, learned, touches_endpoint, is_touched, is_in_profile, is_stopping_now, can_report, can_report_at, is_impossible_by_kind, lenient, some_of, any_of, DriverKeeps, IsIdleEndpoint, MayRing, arith, EventFacts, event_facts, at_pair, event_same, StopsNext, stops_is, event_ring_of, chain, unfinished_fails, completion_facts, next_unfinished, reached_held, stop_touches, TransferLeaves, transferred_leaves, listed_before, EndpointHolds}
+use Rattle.safety.proofs.UpperLaws.{code_told, [], ◌≡◌, ◌==◌, ◌&&◌, ◌∙◌, ℕ, not, true, false, Option, Some, refl, sym, ap, subst, inl, inr, eqb-true, eq-eqb, rules, list_any, cases_Bool, and_parts, or_from, and_from, not-false, false≢true, false_from_ne_true, Block, BlockKind, TransferEvent, CommandCompletion, kind, slot, endpoint, is_transfer_event, is_command_completion, Spot, number, after, Command, StopEndpoint, changes, Header, Read, IsHeader, shape_of, Known, RingSpot, on_ring, event_at, next_command, passed, broken_off, transferred, transferred_at, transfer_read, event_read, learned, touches_endpoint, is_touched, is_in_profile, is_stopping_now, can_report, can_report_at, is_impossible_by_kind, lenient, some_of, any_of, DriverKeeps, IsIdleEndpoint, MayRing, arith, EventFacts, event_facts, at_pair, event_same, StopsNext, stops_is, event_ring_of, chain, unfinished_fails, completion_facts, next_unfinished, reached_held, stop_touches, TransferLeaves, transferred_leaves, listed_before, EndpointHolds}
 use Rattle.commands.specs.Changes.{touches}
 use Rattle.safety.proofs.StatesTransfer.{reported}
 use Rattle.safety.proofs.UntouchedCompletion.{completion_holds}
@@ -62,13 +62,13 @@ module _ (h : Header) where
 
       at_idle : (b : Block) (o : Option RingSpot) → event_at h k b ≡ o → can_report_at h k b o ≡ true → IsIdleEndpoint h (transferred_at h k b o) s i
       unfolding transferred_at can_report_at
-      at_idle b o found can = grind (arith, on_ring_idle, code, slot, endpoint, event_ring_of)
+      at_idle b o found can = grind (arith, on_ring_idle, code_told, slot, endpoint, event_ring_of)
 
       -- ---- any event
 
-      event_idle : (b : Block) (n : BlockKind) → kind b ≡ n → is_impossible_by_kind h k n b ≡ false → (is_transfer_event n && not (is_in_profile b)) ≡ false → IsIdleEndpoint h (event_read h k n b) s i
+      event_idle : (b : Block) (n : BlockKind) → kind b ≡ n → is_impossible_by_kind h k n b ≡ false → (is_transfer_event n && not (is_in_profile h k b)) ≡ false → IsIdleEndpoint h (event_read h k n b) s i
       unfolding event_read is_impossible_by_kind transfer_read
-      event_idle b TransferEvent at possible inside = at_idle b (event_at h k b) refl (reported h is k d b possible (not-false (is_in_profile b) inside))
+      event_idle b TransferEvent at possible inside = at_idle b (event_at h k b) refl (reported h is k d b possible (not-false (is_in_profile h k b) inside))
       event_idle b CommandCompletion at possible inside =
           idle_held k (event_read h k CommandCompletion b) s i
           (completion_holds h s i is k d b started (completion_facts h k b (ap is_command_completion at) (ap (λ m. is_impossible_by_kind h k m b) at ∙ possible)) may.untouched) may.state

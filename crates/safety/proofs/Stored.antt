@@ -50,6 +50,7 @@ module _ (h : Header) where
     slots = m.slots;
     endpoints = m.endpoints;
     ring_of = m.ring_of;
+    isochronous = m.isochronous;
     rings = m.rings;
     before = λ off. let b = m.before off in record { inactive = b.inactive; no_events = b.no_events; none = b.none };
     command = λ on. let c = m.command on in record { spot = c.spot; ring = c.ring; under_way = c.under_way };

@@ -1,5 +1,5 @@
 -- What a Transfer Event leaves as it is: all rings but that of its endpoint, and all slots
-use Rattle.safety.proofs.LowerLaws.{◌≡◌, ◌≢◌, ◌+◌, if◌then◌else◌, ◌∙◌, ℕ, true, Option, Some, refl, sym, ap, option_map, cond_both, none-some, same_Some, put_pair, Block, pointer, code, slot, endpoint, is_success, is_halting, is_trb_error, is_stopping, Spot, number, after, Reaches, Holds, named, stopped_number, Halted, Error, Header, IsHeader, shape_of, command_id, Known, RingSpot, on_ring, spot_on, event_at, passed, broken_off, stopped_at, transferred, transferred_at, transfer_read, EndpointsKeep, rules, arith, command_not_transfer}
+use Rattle.safety.proofs.LowerLaws.{spot_told, ◌≡◌, ◌≢◌, ◌+◌, if◌then◌else◌, ◌∙◌, ℕ, true, Option, Some, refl, sym, ap, option_map, cond_both, none-some, same_Some, put_pair, Block, pointer, code, slot, endpoint, is_success, is_halting, is_trb_error, is_stopping, Spot, number, after, Reaches, Holds, named, stopped_number, Halted, Error, Header, IsHeader, shape_of, command_id, Known, RingSpot, on_ring, spot_on, event_at, passed, broken_off, stopped_at, transferred, transferred_at, transfer_read, EndpointsKeep, rules, arith, command_not_transfer}
 use Rattle.safety.proofs.DriverRows.{ring_elsewhere}
 
 module _ (h : Header) where
@@ -9,8 +9,7 @@ module _ (h : Header) where
   spot_ring k a o at e = grind (arith, none-some, named, shape_of, option_map, same_Some)
 
   pub event_ring_of : (k : Known) (b : Block) (at : RingSpot) → event_at h k b ≡ Some at → k.ring_of (slot b) (endpoint b) ≡ Some at.ring
-  unfolding event_at
-  event_ring_of k b at e = spot_ring k (pointer b) (k.ring_of (slot b) (endpoint b)) at e
+  event_ring_of k b at e = spot_ring k (pointer b) (k.ring_of (slot b) (endpoint b)) at (spot_told h k b at e)
 
   -- ---- another ring
 
@@ -52,10 +51,6 @@ module _ (h : Header) where
     pub was_bound : l.was_bound ≡ k.was_bound
     pub device : l.device ≡ k.device
 
-  at_slots : (k : Known) (b : Block) (o : Option RingSpot) → LeavesSlots k (transferred_at h k b o)
-  unfolding transferred_at transferred passed broken_off stopped_at on_ring
-  at_slots k b o = grind (arith, broken_off, put_pair, true, is_stopping, stopped_at, is_success, passed, is_halting, is_trb_error, code, slot, endpoint)
-
   pub transfer_slots : (k : Known) (b : Block) → LeavesSlots k (transfer_read h k b)
-  unfolding transfer_read
-  transfer_slots k b = at_slots k b (event_at h k b)
+  unfolding transfer_read transferred_at transferred passed broken_off stopped_at on_ring
+  transfer_slots k b = grind (arith, broken_off, put_pair, true, is_stopping, stopped_at, is_success, passed, is_halting, is_trb_error, code, slot, endpoint)

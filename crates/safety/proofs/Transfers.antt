@@ -1,5 +1,5 @@
 -- A Transfer Event that may be read keeps what the rules keep of each ring
-use Rattle.safety.proofs.LowerLaws.{◌≡◌, ◌+◌, ◌<◌, ◌≤◌, ◌||◌, if◌then◌else◌, ◌∙◌, ℕ, not, Bool, true, false, Option, None, Some, arith, refl, sym, inl, inr, rules, RingsKept, changed, and_parts, and_cases, or_parts, not-false, false≢true, none-some, same_Some, put_pair, Block, pointer, code, slot, endpoint, is_success, is_halting, is_trb_error, is_stopping, Spot, number, after, Reaches, Holds, floor_number, ceiling, named, is_data_below, is_stop_spot, stopped_number, RingKeeps, reaches_keeps, reaches_and_holds_keeps, holds_and_reaches_keeps, after_reached, number-after, stop_spot_reached, stopped_within, ceiling_held, ceiling_within, below_is, IsAhead, named_ahead, EndpointState, Halted, Error, Header, IsHeader, shape_of, Known, RingSpot, on_ring, spot_on, event_at, passed, broken_off, stopped_at, transferred, transferred_at, transfer_read, is_in_profile, is_working, can_report, can_report_at, is_impossible_transfer, is_off, RingsKeep, is_open, is_running, IsRestored, shown_where_restored, shape_allowed, open_held, passes_at, passes_held, passes_restored}
+use Rattle.safety.proofs.LowerLaws.{◌≡◌, ◌+◌, ◌<◌, ◌≤◌, ◌||◌, if◌then◌else◌, ◌∙◌, ℕ, not, Bool, true, false, Option, None, Some, arith, refl, sym, inl, inr, rules, RingsKept, changed, and_parts, and_cases, or_parts, not-false, false≢true, none-some, same_Some, put_pair, Block, pointer, slot, endpoint, is_success, is_halting, is_trb_error, is_stopping, Spot, number, after, Reaches, Holds, floor_number, ceiling, named, is_data_below, is_stop_spot, stopped_number, RingKeeps, reaches_keeps, reaches_and_holds_keeps, holds_and_reaches_keeps, after_reached, number-after, stop_spot_reached, stopped_within, ceiling_held, ceiling_within, below_is, IsAhead, named_ahead, EndpointState, Halted, Error, Header, IsHeader, shape_of, Known, RingSpot, on_ring, spot_on, event_at, passed, broken_off, stopped_at, transferred, transferred_at, transfer_read, is_in_profile, is_working, can_report, can_report_at, is_impossible_transfer, is_off, RingsKeep, is_open, is_running, IsRestored, shown_where_restored, shape_allowed, open_held, passes_at, passes_held, passes_restored, code_told, spot_told}
 use Rattle.safety.specs.RingsKeep.{IsDriverRing}
 use Rattle.safety.proofs.DriverRows.{stands, same_keeps, on_ring_keeps, on_ring_twice_keeps}
 
@@ -87,20 +87,20 @@ module _ (h : Header) (is : IsHeader h) (k : Known) (keeps : RingsKeep h k) wher
       by_code (RingsKept h k) (is_success c) (is_halting c) (is_trb_error c) (is_stopping c) _ _ _ _ _ _ _ _ can (λ given. passed_keeps r t from (below given))
       (λ both. same_keeps h k (broken_off h k s i r t Halted) (record (broken_off h k s i r t Halted) { must_move = put_pair k.must_move s i true }) refl refl (broken_keeps s i r t Halted from (below (and_parts _ _ both).0)))
       (λ both. broken_keeps s i r t Error from (below (and_parts _ _ both).0))
-      (λ all. let given = and_parts _ _ all in stopped_keeps s i r t ahead given.1 (working_open s i r (and_parts _ _ given.0).0)) (stands h k keeps)
+      (λ told. let given = and_parts _ _ (and_parts _ _ told).1 in stopped_keeps s i r t ahead given.1 (working_open s i r (and_parts _ _ given.0).0)) (stands h k keeps)
 
   reported_keeps : (b : Block) (o : Option RingSpot) → event_at h k b ≡ o → can_report_at h k b o ≡ true → RingsKept h k (transferred_at h k b o)
-  unfolding transferred_at can_report_at event_at
-  reported_keeps b None found can = absurd (false≢true can)
+  unfolding transferred_at can_report_at
+  reported_keeps b None found can = stands h k keeps
   reported_keeps b (Some at) found can =
-      transferred_keeps (code b) (slot b) (endpoint b) at.ring at.spot
+      transferred_keeps (code_told h k b) (slot b) (endpoint b) at.ring at.spot
       (λ driver. named_ahead (shape_of h at.ring) k.memory (k.ring at.ring) (keeps at.ring driver) (pointer b) at.spot
-      (spot_is h k (pointer b) (k.ring_of (slot b) (endpoint b)) at found)) can
+      (spot_is h k (pointer b) (k.ring_of (slot b) (endpoint b)) at (spot_told h k b at found))) can
 
-  pub transfer_keeps : (b : Block) → is_impossible_transfer h k b ≡ false → is_in_profile b ≡ true → RingsKept h k (transfer_read h k b)
+  pub transfer_keeps : (b : Block) → is_impossible_transfer h k b ≡ false → is_in_profile h k b ≡ true → RingsKept h k (transfer_read h k b)
   unfolding transfer_read is_impossible_transfer
   transfer_keeps b possible inside =
-      elim (and_cases (is_in_profile b) (is_off (k.endpoint_state (slot b) (endpoint b)) || not (can_report_at h k b (event_at h k b))) possible) [
+      elim (and_cases (is_in_profile h k b) (is_off (k.endpoint_state (slot b) (endpoint b)) || not (can_report_at h k b (event_at h k b))) possible) [
         | inl outside ↦ absurd (false≢true (sym outside ∙ inside))
         | inr none ↦
             let parts = or_parts (is_off (k.endpoint_state (slot b) (endpoint b))) (not (can_report_at h k b (event_at h k b))) none in

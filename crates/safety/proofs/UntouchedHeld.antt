@@ -1,5 +1,5 @@
 -- The success of a command that doesn't touch an endpoint leaves its state, its ring, whether that must be moved, and where it is held
-use Rattle.safety.proofs.MiddleLaws.{[], ◌≡◌, ◌≢◌, ◌==◌, ◌&&◌, ◌∷◌, ◌∙◌, ℕ, Bool, false, List, Option, Some, refl, sym, ap, inl, inr, eq-eqb, list_any, cases_Bool, false≢true, and_from, or_parts, ceiling, Command, EndpointState, Stopped, Change, Places, Stops, is_off, Header, IsHeader, shape_of, Known, pointed, disabled, in_state, held_at_ceiling, changed_by, changed_by_all, EndpointsKeep, rules, arith, ring_elsewhere, change_keeps, EndpointsStand, MayPlace, pointed_off, pointed_on, is_off_of, some_ring, EndpointStays, untouched_stays, Fits, FitAll, change_stands}
+use Rattle.safety.proofs.MiddleLaws.{typed, [], ◌≡◌, ◌≢◌, ◌==◌, ◌&&◌, ◌∷◌, ◌∙◌, ℕ, Bool, false, List, Some, refl, sym, ap, inl, inr, eq-eqb, list_any, cases_Bool, false≢true, and_from, or_parts, ceiling, Command, EndpointState, Change, Places, Stops, is_off, Header, IsHeader, shape_of, Known, pointed, disabled, in_state, held_at_ceiling, changed_by, changed_by_all, EndpointsKeep, rules, ring_elsewhere, change_keeps, EndpointsStand, MayPlace, pointed_off, pointed_on, is_off_of, some_ring, EndpointStays, untouched_stays, Fits, FitAll, change_stands}
 use Rattle.commands.specs.Changes.{touches}
 
 -- the endpoint of slot s at index i is in its state, and its ring is held as before
@@ -35,14 +35,10 @@ module _ (h : Header) (s i : ℕ) where
               ]
         ]
 
-    stopped_held : (t j : ℕ) (o : Option ℕ) → k.ring_of t j ≡ o → (s == t && i == j) ≡ false → ((held_at_ceiling h (in_state h k t j Stopped) o).ring r).held ≡ (k.ring r).held
-    unfolding held_at_ceiling in_state
-    stopped_held t j o there apart = grind (arith, in_state, ring_elsewhere, ceiling, shape_of, others_ring)
-
     untouched_held : (c : Command) (change : Change) → Fits h k change → touches s i change ≡ false → ((changed_by h c k change).ring r).held ≡ (k.ring r).held
-    unfolding changed_by disabled in_state
+    unfolding changed_by disabled typed in_state held_at_ceiling
     untouched_held c (Places t j p cycle state) fits apart = search (rules, pointed_held)
-    untouched_held c (Stops t j) fits apart = search (rules, stopped_held)
+    untouched_held c (Stops t j) fits apart = search (rules, in_state, ring_elsewhere, ceiling, shape_of, others_ring)
     untouched_held c _ fits apart = refl
 
   untouched_holds : (c : Command) (k : Known) (change : Change) → EndpointsKeep h k → EndpointsStand k → Fits h k change → touches s i change ≡ false → EndpointHolds k (changed_by h c k change) s i

@@ -1,5 +1,5 @@
 -- A change that doesn't touch an endpoint leaves its state, which ring it has, and whether that must be moved
-use Rattle.safety.proofs.Words.{◌≡◌, ◌==◌, ◌&&◌, ◌∙◌, ℕ, Bool, false, Option, None, Some, refl, cond_both, cond-false, put_pair, Command, EndpointState, Off, Stopped, Change, Disables, Places, Stops, Resets, is_off, Header, ring_having, Known, on_ring, set_to, bound_to, moved_to, moved, pointed, disabled, in_state, held_at_ceiling, changed_by, arith}
+use Rattle.safety.proofs.Words.{typed, ◌≡◌, ◌==◌, ◌&&◌, ◌∙◌, ℕ, Bool, false, Option, None, Some, refl, cond_both, cond-false, put_pair, Command, EndpointState, Off, Stopped, Change, Disables, Places, Stops, Resets, is_off, Header, ring_having, Known, on_ring, set_to, bound_to, moved_to, moved, pointed, disabled, in_state, held_at_ceiling, changed_by, arith}
 use Rattle.commands.specs.Changes.{touches}
 
 pub record EndpointStays (k l : Known) (s i : ℕ) : Type 0 where
@@ -41,7 +41,7 @@ module _ (h : Header) (s i : ℕ) where
   must_stays k l t j must apart a = record { state = a.state; ring_of = a.ring_of; must_move = cond-false (s == t && i == j) must (k.must_move s i) apart }
 
   pub untouched_stays : (c : Command) (k : Known) (change : Change) → touches s i change ≡ false → EndpointStays k (changed_by h c k change) s i
-  unfolding changed_by disabled held_at_ceiling on_ring
+  unfolding changed_by disabled typed held_at_ceiling on_ring
   untouched_stays c k (Disables t which) apart = record { state = cond-false (s == t && which i) Off (k.endpoint_state s i) apart; ring_of = cond-false (s == t && which i) None (k.ring_of s i) apart; must_move = refl }
   untouched_stays c k (Places t j p cycle e) apart =
       let l : Known = pointed h k t j p cycle in

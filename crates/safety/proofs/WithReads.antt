@@ -26,6 +26,7 @@ module _ (h : Header) where
     slots = m.slots;
     endpoints = m.endpoints;
     ring_of = m.ring_of;
+    isochronous = m.isochronous;
     rings = m.rings;
     before = m.before;
     command = λ on. let c = m.command on in record { spot = c.spot; ring = c.ring; under_way = under_way_with_reads n k c.spot w.under_way c.under_way };

@@ -11,6 +11,7 @@ pub record Woken (h : Header) (r : ℕ) (S : ℕ → ℕ → Bool) (k l : Known)
   pub was_bound : l.was_bound ≡ k.was_bound
   pub slot_state : l.slot_state ≡ k.slot_state
   pub ring_of : l.ring_of ≡ k.ring_of
+  pub isochronous : l.isochronous ≡ k.isochronous
   pub must_move : l.must_move ≡ k.must_move
   pub stop_seen : l.stop_seen ≡ k.stop_seen
   pub device : l.device ≡ k.device

@@ -1,5 +1,5 @@
 -- What the success of a command changes, where it doesn't touch the endpoint that was woken: its ring stays woken
-use Rattle.safety.proofs.MiddleLaws.{[], ◌≡◌, ◌≢◌, ◌==◌, ◌&&◌, if◌then◌else◌, ◌∷◌, ◌∙◌, ℕ, Bool, true, false, List, Option, None, Some, sym, ap, subst, eq-eqb, eqb-true, rules, list_any, false≢true, or_parts, and_parts, and_from, cond-false, same_Some, put, put_pair, Spot, Command, EndpointState, Stopped, is_off, Change, SlotGoesOn, DeviceLeft, Disables, Places, Stops, Resets, slot_gone_on, Header, IsHeader, ring_having, Known, set_to, bound_to, moved_to, moved, pointed, disabled, in_state, held_at_ceiling, changed_by, changed_by_all, EndpointsKeep, change_keeps, EndpointsStand, MayPlace, untouched_stays, Woken, woken_reach, woken_elsewhere, woken_state, Fits, FitAll, change_stands}
+use Rattle.safety.proofs.MiddleLaws.{typed, Types, [], ◌≡◌, ◌≢◌, ◌==◌, ◌&&◌, if◌then◌else◌, ◌∷◌, ◌∙◌, ℕ, Bool, true, false, List, Option, None, Some, sym, ap, subst, eq-eqb, eqb-true, rules, list_any, false≢true, or_parts, and_parts, and_from, cond-false, same_Some, put, put_pair, Spot, Command, EndpointState, Stopped, is_off, Change, SlotGoesOn, DeviceLeft, Disables, Places, Stops, Resets, slot_gone_on, Header, IsHeader, ring_having, Known, set_to, bound_to, moved_to, moved, pointed, disabled, in_state, held_at_ceiling, changed_by, changed_by_all, EndpointsKeep, change_keeps, EndpointsStand, MayPlace, untouched_stays, Woken, woken_reach, woken_elsewhere, woken_state, Fits, FitAll, change_stands}
 use Rattle.commands.specs.Changes.{touches}
 use Rattle.safety.proofs.AlikeChanges.{both_sides_if}
 
@@ -66,9 +66,10 @@ module _ (h : Header) (r s i : ℕ) where
       (λ on. moved_woken k l w (k.ring_of t j) p cycle (other_ring k o t j apart))))
 
   pub change_woken : (c : Command) (k l : Known) → Awake k l → Owns k → (change : Change) → touches s i change ≡ false → Fits h k change → Awake (changed_by h c k change) (changed_by h c l change)
-  unfolding changed_by disabled in_state
+  unfolding changed_by disabled typed in_state
   change_woken c k l w o (SlotGoesOn t) apart fits = search (rules, slot_gone_on)
   change_woken c k l w o (DeviceLeft t) apart fits = search (rules, put)
+  change_woken c k l w o (Types t which isochronous) apart fits = search rules
   change_woken c k l w o (Disables u which) apart fits = search (rules, cond-false, and_parts, eqb-true)
   change_woken c k l w o (Places t j p cycle e) apart fits =
       let x : Known = pointed h k t j p cycle in

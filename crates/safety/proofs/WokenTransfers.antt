@@ -1,14 +1,12 @@
 -- A Transfer Event that is possible where a ring is held: it is so where the ring was woken, and leaves it woken
-use Rattle.safety.proofs.MiddleLaws.{◌≡◌, ◌≢◌, ◌≤◌, ◌&&◌, ◌||◌, if◌then◌else◌, ◌∙◌, ℕ, Bool, true, false, not, Option, None, Some, arith, refl, sym, ap, subst, ltb-true, lt-ltb, rules, false≢true, and_parts, and_from, or_parts, or_from, not-false, not_from_true, same_Some, option_map, Block, pointer, code, slot, endpoint, is_success, is_halting, is_trb_error, is_stopping, Spot, number, after, changed, given_count, ceiling, is_data_below, is_open, is_stop_spot, is_step_given, is_way_given, given_count_same, EndpointState, Halted, Error, is_off, is_running, Header, shape_of, Known, RingSpot, on_ring, spot_on, event_at, passed, broken_off, stopped_at, transferred, transferred_at, transfer_read, is_in_profile, is_working, is_stopping_now, can_report, can_report_at, is_impossible_transfer, both_sides, chain_from, SameDriver, event_ring_of, Woken, woken_floor, woken_reach, woken_elsewhere, woken_state, woken_move, woken_seen}
+use Rattle.safety.proofs.MiddleLaws.{is_stopping, told_alike, code_told, ◌≡◌, ◌≢◌, ◌≤◌, ◌&&◌, ◌||◌, if◌then◌else◌, ◌∙◌, ℕ, Bool, true, false, not, Option, None, Some, arith, refl, sym, ap, subst, ltb-true, lt-ltb, rules, false≢true, and_parts, and_from, or_parts, or_from, not-false, not_from_true, same_Some, option_map, Block, slot, endpoint, is_success, is_halting, is_trb_error, Spot, number, after, changed, given_count, ceiling, is_data_below, is_open, is_stop_spot, is_step_given, is_way_given, given_count_same, EndpointState, Halted, Error, is_off, is_running, Header, shape_of, Known, RingSpot, on_ring, spot_on, event_at, passed, broken_off, stopped_at, transferred, transferred_at, transfer_read, is_in_profile, is_working, is_stopping_now, can_report, can_report_at, is_impossible_transfer, both_sides, chain_from, SameDriver, event_ring_of, Woken, woken_floor, woken_reach, woken_elsewhere, woken_state, woken_move, woken_seen}
 use Rattle.segments.proofs.Named.{ceiling_open}
 use Rattle.safety.proofs.AlikeChanges.{both_sides_if}
 use Rattle.safety.proofs.HeldFurther.{named_same}
 
 -- an event that is no success comes from an endpoint that works
-pub works_there : (b c low works stops spot : Bool) → b ≡ false → (if b then low else if c then low && works else works && stops && spot) ≡ true → works ≡ true
-works_there true c low works stops spot out can = absurd (false≢true (sym out))
-works_there false true low works stops spot out can = (and_parts low works can).1
-works_there false false low works stops spot out can = (and_parts works stops (and_parts (works && stops) spot can).0).0
+pub works_there : (b c low told works stops spot : Bool) → b ≡ false → (if b then low else if c then low && works else told && (works && stops && spot)) ≡ true → works ≡ true
+works_there b c low told works stops spot out can = grind arith
 
 module _ (h : Header) (r : ℕ) (S : ℕ → ℕ → Bool) (k l : Known) (w : Woken h r S k l) where
   -- ---- what is read
@@ -48,17 +46,20 @@ module _ (h : Header) (r : ℕ) (S : ℕ → ℕ → Bool) (k l : Known) (w : Wo
     unfolding can_report
     report_apart c s i q t has can out =
         works_apart s i q has
-        (works_there (is_success c) (is_halting c || is_trb_error c) (is_data_below (ceiling (shape_of h q) (k.ring q)) t) (is_working k s i q) (is_stopping_now h k s i)
+        (works_there (is_success c) (is_halting c || is_trb_error c) (is_data_below (ceiling (shape_of h q) (k.ring q)) t) (is_stopping c) (is_working k s i q) (is_stopping_now h k s i)
         (is_stop_spot (shape_of h q) (k.ring q) t) out can)
 
     report_at : (b : Block) (o : Option RingSpot) → ((at : RingSpot) → o ≡ Some at → k.ring_of (slot b) (endpoint b) ≡ Some at.ring) → can_report_at h k b o ≡ true →
         (can_report_at h l b o ≡ true) × Woken h r S (transferred_at h k b o) (transferred_at h l b o)
     unfolding can_report_at transferred_at
-    report_at b None has can = absurd (false≢true can)
-    report_at b (Some at) has can = (
-      report_woken (code b) (slot b) (endpoint b) at.ring at.spot (has at refl) can,
-      transferred_woken (code b) (slot b) (endpoint b) at.ring at.spot (report_apart (code b) (slot b) (endpoint b) at.ring at.spot (has at refl) can),
-    )
+    report_at b None has can = (can, w)
+    report_at b (Some at) has can =
+        let c : ℕ = code_told h k b in
+        let told : code_told h l b ≡ c = told_alike h k l b w.isochronous in (
+          ap (λ x. can_report h l x (slot b) (endpoint b) at.ring at.spot) told ∙ report_woken c (slot b) (endpoint b) at.ring at.spot (has at refl) can,
+          subst (λ x. Woken h r S (transferred h k c (slot b) (endpoint b) at.ring at.spot) (transferred h l x (slot b) (endpoint b) at.ring at.spot)) (sym told)
+              (transferred_woken c (slot b) (endpoint b) at.ring at.spot (report_apart c (slot b) (endpoint b) at.ring at.spot (has at refl) can)),
+        )
 
     off_woken : (s i : ℕ) → is_off (k.endpoint_state s i) ≡ false → is_off (l.endpoint_state s i) ≡ false
     off_woken s i on = search rules
@@ -66,18 +67,18 @@ module _ (h : Header) (r : ℕ) (S : ℕ → ℕ → Bool) (k l : Known) (w : Wo
     module _ (d : SameDriver k l) where
       event_same : (b : Block) → event_at h l b ≡ event_at h k b
       unfolding event_at spot_on
-      event_same b = ap (λ f. spot_on h l (pointer b) (f (slot b) (endpoint b))) w.ring_of ∙ (grind (arith, option_map, named_same, woken_floor))
+      event_same b = grind (arith, option_map, named_same, woken_floor, w.ring_of)
 
-      pub transfer_woken : (b : Block) → is_impossible_transfer h k b ≡ false → is_in_profile b ≡ true →
+      pub transfer_woken : (b : Block) → is_impossible_transfer h k b ≡ false → is_in_profile h k b ≡ true →
           (is_impossible_transfer h l b ≡ false) × Woken h r S (transfer_read h k b) (transfer_read h l b)
       unfolding transfer_read is_impossible_transfer
       transfer_woken b possible inside =
           let s : ℕ = slot b in
           let i : ℕ = endpoint b in
           let parts = or_parts (is_off (k.endpoint_state s i)) (not (can_report_at h k b (event_at h k b)))
-          (second (is_in_profile b) (is_off (k.endpoint_state s i) || not (can_report_at h k b (event_at h k b))) inside possible) in
+          (second (is_in_profile h k b) (is_off (k.endpoint_state s i) || not (can_report_at h k b (event_at h k b))) inside possible) in
           let both = report_at b (event_at h k b) (event_ring_of h k b) (not-false (can_report_at h k b (event_at h k b)) parts.1) in (
-            and_right (is_in_profile b) (is_off (l.endpoint_state s i) || not (can_report_at h l b (event_at h l b)))
+            and_right (is_in_profile h l b) (is_off (l.endpoint_state s i) || not (can_report_at h l b (event_at h l b)))
                 (or_from (is_off (l.endpoint_state s i)) (not (can_report_at h l b (event_at h l b))) (off_woken s i parts.0)
                 (not_from_true (can_report_at h l b (event_at h l b)) (ap (λ o. can_report_at h l b o) (event_same b) ∙ both.0))),
             subst (λ o. Woken h r S (transferred_at h k b (event_at h k b)) (transferred_at h l b o)) (sym (event_same b)) both.1,

@@ -1,5 +1,5 @@
 -- The words of std, of the crates below and of this crate's own definitions that its proofs cite, passed on by one file
-pub use Rattle.commands.specs.Changes.{Change, DeviceLeft, Disables, Places, Resets, SlotGoesOn, Stops, is_above_control, placed_by_context, slot_gone_on}
+pub use Rattle.commands.specs.Changes.{Change, DeviceLeft, Disables, Places, Resets, SlotGoesOn, Stops, Types, is_above_control, placed_by_context, slot_gone_on, typed_by_context}
 unfoldable pub use Rattle.commands.specs.Changes.{changes}
 pub use Rattle.commands.specs.Command.{command_by_kind, command_of, exclude, is_stop_of, may_answer_slot, named_context, named_endpoint, named_slot, other_endpoint, same_slot}
 pub use Rattle.commands.specs.States.{endpoint_meant, endpoint_success, is_at_rest, is_disabled, is_off, is_running, is_slot_enabled, is_stopped, slot_meant, slot_success}
@@ -10,7 +10,7 @@ pub use Rattle.commands.specs.declared.state.EndpointState.{EndpointState}
 pub use Rattle.commands.specs.declared.state.EndpointState.TheVariants.{Disabled as Off, Error, Halted, Running, Stopped}
 pub use Rattle.commands.specs.declared.state.SlotState.{SlotState}
 pub use Rattle.commands.specs.declared.state.SlotState.TheVariants.{Addressed, Configured, Default, Disabled, Enabled}
-pub use Rattle.contexts.specs.Contexts.{context_cycle, context_pointer, device_context, device_context_bytes, endpoint_streams, endpoint_type, has_flag, input_add_flag, input_context_bytes, input_drop_flag, input_endpoint, is_dropped, slot_entry}
+pub use Rattle.contexts.specs.Contexts.{context_cycle, context_pointer, device_context, device_context_bytes, endpoint_streams, endpoint_type, has_flag, has_isochronous, input_add_flag, input_context_bytes, input_drop_flag, input_endpoint, is_dropped, is_isochronous, slot_entry}
 unfoldable pub use Rattle.contexts.specs.Contexts.{added_endpoints}
 pub use Rattle.contexts.specs.declared.size.ContextSize.{ContextSize}
 pub use Rattle.contexts.specs.declared.size.ContextSize.TheVariants.{Bytes32, Bytes64}
@@ -22,7 +22,7 @@ unfoldable pub use Rattle.ownership_rules.specs.Areas.{is_bad_area, is_in_range_
 unfoldable pub use Rattle.ownership_rules.specs.Commands.{adds_streams, has_bad_content, has_bad_context, has_bad_entry, is_bad_added, is_bad_command, is_bad_device, is_busy, names_disabled_endpoint, names_disabled_slot, streams_in, takes_bad_device, type_in}
 unfoldable pub use Rattle.ownership_rules.specs.Declarations.{declaration_tests, is_driver_ring}
 unfoldable pub use Rattle.ownership_rules.specs.Doorbells.{doorbell_tests, is_bad_bell, is_bad_doorbell, is_touched, touches_endpoint}
-unfoldable pub use Rattle.ownership_rules.specs.Events.{can_finish, can_report, can_report_at, event_tests, is_impossible, is_impossible_by_kind, is_impossible_completion, is_impossible_transfer, is_in_profile, is_past_room, is_stopping_now, is_working, may_be_taken, was_stop_seen}
+unfoldable pub use Rattle.ownership_rules.specs.Events.{can_finish, can_report, can_report_at, event_tests, is_code_of_profile, is_impossible, is_impossible_by_kind, is_impossible_completion, is_impossible_transfer, is_in_profile, is_past_room, is_stopping_now, is_working, may_be_taken, was_stop_seen}
 pub use Rattle.ownership_rules.specs.Moves.{Binding}
 unfoldable pub use Rattle.ownership_rules.specs.Moves.{awaits_binding, binding_in, binds, binds_ring, drops, has_repeats, is_among, is_bad_binding, is_bad_dequeue, is_bad_move, is_bad_place, is_bad_stay, is_being_bound, is_being_moved, is_kept, is_placed, is_taken, moves_ring, ring_bound}
 pub use Rattle.ownership_rules.specs.Older.{stricter}
@@ -31,25 +31,28 @@ pub use Rattle.ownership_rules.specs.OpenLeases.{DeviceContext, InputContext, Le
 unfoldable pub use Rattle.ownership_rules.specs.OpenLeases.{context_ranges, covers, device_ranges, entry_ranges, is_leased, is_the_controllers, lease_bytes, lease_start, open_leases, open_on, open_ranges, range_of_command, range_of_context, range_of_device, range_of_entry, segment_ranges, slots, table_range}
 pub use Rattle.ownership_rules.specs.Refusal.{Test, broken_of}
 unfoldable pub use Rattle.ownership_rules.specs.Registers.{is_bad_crcr, is_bad_erdp, is_bad_register, is_early_start, is_late_reset, is_no_first_block, is_unwritten, is_wrong_start, may_pass, names_no_place, register_tests}
+pub use Rattle.ownership_rules.specs.Rings.{is_transfer_ring}
+unfoldable pub use Rattle.ownership_rules.specs.Rings.{is_bad_free, is_bad_ring, is_bad_segment, is_had, shows_first_lap}
 unfoldable pub use Rattle.ownership_rules.specs.Rules.{broken, lenient, lenient_tests, tests}
+unfoldable pub use Rattle.ownership_rules.specs.Withdrawals.{has_stopped, is_bad_withdraw, is_left, rests_with, some_flips}
 unfoldable pub use Rattle.ownership_rules.specs.Writes.{changes_owned, holds_of, on_crossing, on_position, some_command, some_crossed, some_given, write_tests}
 pub use Rattle.ownership_rules.specs.declared.refusal.Refusal.{Refusal}
 pub use Rattle.ownership_rules.specs.declared.refusal.Refusal.TheVariants.{AfterStop, BadErdp, BadRegister, NotDeclared, NotInProfile}
 pub use Rattle.ring_knowledge.proofs.Ranges.{none_each}
 pub use Rattle.ring_knowledge.proofs.StopSpots.{way_without}
-unfoldable pub use Rattle.ring_knowledge.specs.Completions.{bound_to, changed_by, changed_by as known_changed_by, changed_by_all, changed_by_all as known_changed_by_all, completed, disabled, disabled as known_disabled, finished, finished as known_finished, held_at_ceiling, in_state, in_state as known_in_state, moved, moved_to, pointed, set_to, stop_ended, succeeded, succeeded as known_succeeded}
+unfoldable pub use Rattle.ring_knowledge.specs.Completions.{bound_to, changed_by, changed_by as known_changed_by, changed_by_all, changed_by_all as known_changed_by_all, completed, disabled, disabled as known_disabled, finished, finished as known_finished, held_at_ceiling, in_state, in_state as known_in_state, moved, moved_to, pointed, set_to, stop_ended, succeeded, succeeded as known_succeeded, typed, typed as known_typed}
+pub use Rattle.ring_knowledge.specs.Histories.{header_now, known_after, known_now, restored}
+unfoldable pub use Rattle.ring_knowledge.specs.Histories.{forgotten, restored_on, ring_moved, ring_restored}
 pub use Rattle.ring_knowledge.specs.Known.{Known}
 unfoldable pub use Rattle.ring_knowledge.specs.Known.{nothing}
 unfoldable pub use Rattle.ring_knowledge.specs.Learned.{event_read, learned}
 unfoldable pub use Rattle.ring_knowledge.specs.Registers.{endpoint_rung, register_written, run_or_stop, rung, valued}
 pub use Rattle.ring_knowledge.specs.Rings.{Crossing, Given, Position, RingSpot}
-unfoldable pub use Rattle.ring_knowledge.specs.Rings.{command_at, event_at, given_by, given_of, next_command, on_ring, spot_on, unfinished, unfinished_positions}
+unfoldable pub use Rattle.ring_knowledge.specs.Rings.{code_told, command_at, event_at, given_by, given_of, next_command, on_ring, spot_on, unfinished, unfinished_positions}
 unfoldable pub use Rattle.ring_knowledge.specs.Transfers.{broken_off, passed, passed as transfers_passed, stopped_at, transfer_read, transferred, transferred_at}
 unfoldable pub use Rattle.ring_knowledge.specs.Writes.{command_given, device_named, entry_of, no_device, taken_device, with_device, with_word, written}
-pub use Rattle.safety.proofs.RingChanges.LiveRuns.{LiveScene, live_next, live_reached, live_row, live_step, live_with}
 pub use Rattle.safety.specs.Beneath.{HeldMore, IsHeldMore, IsIdleEndpoint, MayRing, MoreLaw, Square, SquareLaw, is_idle, is_open_if}
 pub use Rattle.safety.specs.EndpointsKeep.{EndpointsKeep, IsTransferRing as IsTransferTest}
-pub use Rattle.ownership_rules.specs.Rings.{is_transfer_ring}
 pub use Rattle.safety.specs.Headline.{Headline}
 pub use Rattle.safety.specs.Invariant.{ArePossible, Ended, Runs, all_read}
 pub use Rattle.safety.specs.Keeps.{CommandKeeps, CommandRingKeeps, CommandRingNamed, DeviceKeeps, DriverKeeps, IsDriverRing, IsTransferRing, IsUnfinished, MovesIf, StatesKeep, Stays, StaysIf, Unstarted}
@@ -62,19 +65,10 @@ pub use Rattle.safety.specs.LazyRuns.Lazy.{further as lazy_further}
 unfoldable pub use Rattle.safety.specs.LazyRuns.Lazy.{behind_taken, brought, brought as lazy_brought, command_taken, further, goals, goals as lazy_goals, lazy_run, lazy_steps, looks_to, open_goals, pointers_after, pointers_at, pointers_for, post_of, report_goals, spots_before, steps_before, steps_for, stop_goal, stopped_goals, taken_up_to}
 unfoldable pub use Rattle.safety.specs.LazyRuns.Needs.{begins_anew, ends_need, is_placed_by, is_placed_by_all, need, number_behind, number_reported, ring_placed}
 unfoldable pub use Rattle.safety.specs.LazyRuns.OnLiterals.{lazy_on_literals}
-pub use Rattle.safety.specs.Matches.{Agrees, BoundRing, CommandMatches, EndpointRing, FreeRing, IsUnchanged, Matches, Newest, NotStarted, RingMatches, RingState, TakenCommand, UnderWayMatches, Unreported, state_of}
-pub use Rattle.safety.specs.Placings.{AreFree, MayChange, MayChangeAll, MayFinish, MayPoint, MovesOn, StillHolds}
-pub use Rattle.safety.specs.Restoring.{EndpointRestored, IsRestoring, KeepsPassed, MayCome, MovesRestored}
-pub use Rattle.traces.specs.Rows.{IsComing, IsRow, IsStep}
-unfoldable pub use Rattle.world_state.specs.RingRows.{emptied, without_descriptor}
-unfoldable pub use Rattle.ring_knowledge.specs.Histories.{forgotten, restored_on, ring_moved, ring_restored}
-unfoldable pub use Rattle.ownership_rules.specs.Rings.{is_bad_free, is_bad_ring, is_bad_segment, is_had, shows_first_lap}
-unfoldable pub use Rattle.traces.specs.LivingRings.{with_ring, without_ring}
+pub use Rattle.safety.specs.Matches.{Agrees, BoundRing, CommandMatches, EndpointRing, FreeRing, IsUnchanged, Matches, Newest, NotStarted, Rests, RingMatches, RingState, TakenCommand, UnderWayMatches, Unreported, state_of}
+pub use Rattle.safety.specs.Placings.{AreFree, MayChange, MayChangeAll, MayFinish, MayPoint, StillHolds}
+pub use Rattle.safety.specs.Restoring.{EndpointRestored, KeepsPassed, MayCome, MovesRestored}
 pub use Rattle.safety.specs.RingChanges.Histories.{AreKept, IsKept}
-pub use Rattle.world_state.specs.Scenes.{Scene, row_made, row_next, scene_reached, step_made, scene_ending}
-pub use Rattle.traces.specs.LivingRings.{header_after}
-pub use Rattle.ring_knowledge.specs.Histories.{header_now, known_after, known_now, restored}
-unfoldable pub use Rattle.ownership_rules.specs.Withdrawals.{has_stopped, is_bad_withdraw, is_left, rests_with, some_flips}
 pub use Rattle.safety.specs.RingsKeep.{PassesNoMore, RingKept, RingsKeep, RingsKept}
 pub use Rattle.safety.specs.Stands.{EventsStand, Stands, touches_events}
 pub use Rattle.segments.proofs.Crossings.{crossed_link, crosses, crossing_positive, cycle_of-crossed, is_crossing-lap, link_address-lap, link_address_is, link_target-crossed}
@@ -122,8 +116,8 @@ pub use Rattle.std.proofs.Common.{All, Bool, Contains, List, None, Option, Some,
 pub use Rattle.std.proofs.Math.Nat.{mod-eq_of_lt}
 pub use Rattle.std.proofs.Math.Path.{fun_ext}
 pub use Rattle.std.proofs.lemmas.Bool.{and_cases, and_from, and_left, and_parts, and_right, cases_Bool, cases_eq, cases_lt, cond-false, cond-true, cond_both, eqb-false, false_from_ne_true, false≢true, lt-leb, not-false, not-true, not_from_false, not_from_true, or_cases, or_from, or_left, or_parts, or_right}
-pub use Rattle.std.proofs.lemmas.List.{drop_all, get_or-append_right, get_or-map, length-map, length-reverse, reverse-append, reverse-reverse}
-pub use Rattle.std.proofs.lemmas.List.Elements.{All-append, All-cons, All-contains, All-filter, All-get_or, All-head, All-nil, All-push, All-tail, All-weaker}
+pub use Rattle.std.proofs.lemmas.List.{drop_all, get_or-append_right, get_or-map, get_or-reverse, length-map, length-reverse, reverse-append, reverse-reverse}
+pub use Rattle.std.proofs.lemmas.List.Elements.{All-append, All-cons, All-contains, All-filter, All-get_or, All-head, All-map, All-nil, All-push, All-tail, All-weaker}
 pub use Rattle.std.proofs.lemmas.List.Folds.{Any-from_list_any, find-append, list_any-append, list_any_at}
 pub use Rattle.std.proofs.lemmas.List.FromFn.{get_or-map-range_with_len, length-map-range_with_len, map-range_with_len_more}
 pub use Rattle.std.proofs.lemmas.List.Quantifiers.{position-Some}
@@ -134,32 +128,37 @@ pub use Rattle.std.specs.List.{cons_option, filter_map, flat_map, list_all, list
 pub use Rattle.std.specs.Option.{option_map, option_or}
 pub use Rattle.traces.specs.Header.{IsHeader, clash, id_of, id_or_none, is_command_kind, is_driver_kind, is_event_kind, is_ring, is_transfer_kind, may_stand_together, ring_with, shape_or}
 unfoldable pub use Rattle.traces.specs.Header.{command_id, command_ring, driver_rings, event_ring, event_shape, event_size, ring_having, shape_of, touches_ring}
+pub use Rattle.traces.specs.LivingRings.{header_after}
+unfoldable pub use Rattle.traces.specs.LivingRings.{with_ring, without_ring}
 pub use Rattle.traces.specs.Register.{base_address, command_abort, command_stop, register_or_zero, reset_bit, ring_cycle_state, run_bit, same_register, with_register}
+pub use Rattle.traces.specs.Rows.{AreSteps, IsComing, IsRow, IsStep, is_ring_row}
+pub use Rattle.traces.specs.Versions.{has_isoch, profile_of}
 pub use Rattle.traces.specs.declared.header.Header.{Header}
 pub use Rattle.traces.specs.declared.register.Register.{Register}
 pub use Rattle.traces.specs.declared.register.Register.TheVariants.{Config, Crcr, Dcbaap, Erdp, Erstba, Erstsz, Usbcmd}
 pub use Rattle.traces.specs.declared.ring.Ring.{Ring}
 pub use Rattle.traces.specs.declared.row.Row.{Row}
-pub use Rattle.traces.specs.declared.row.Row.TheVariants.{Bell, Read, Reg, Sub, Write, Ring as RingRow, Free as FreeRow}
+pub use Rattle.traces.specs.declared.row.Row.TheVariants.{Bell, Free as FreeRow, Nop as NopRow, Read, Reg, Ring as RingRow, Sub, Write}
 pub use Rattle.traces.specs.declared.step.Step.{Step}
 pub use Rattle.traces.specs.declared.step.Step.TheVariants.{Finish, Look, NextRow, Other, Report, Scribble}
 pub use Rattle.traces.specs.declared.version.Version.TheVariants.{One, Three}
 pub use Rattle.trb.proofs.BlockLemmas.{cycle-with_cycle, endpoint-with_cycle, is_set-with_cycle, kind-with_cycle, slot-with_cycle}
 pub use Rattle.trb.specs.Bits.{is_set}
 pub use Rattle.trb.specs.Block.{IsBlock, aligned, block_at, code, cycle, endpoint, kind, pointer, same_words, slot, with_cycle, word}
-pub use Rattle.trb.specs.CompletionCode.{is_halting, is_stopping, is_success, is_transfer_code, is_trb_error}
+pub use Rattle.trb.specs.CompletionCode.{counted_code, is_halting, is_isoch_error, is_of_service, is_stopping, is_success, is_transfer_code, is_trb_error}
 pub use Rattle.trb.specs.Descriptor.{is_bad_descriptor, is_badly_formed, is_command_left_out, is_left_out, is_no_command}
 pub use Rattle.trb.specs.Kind.{is_command_completion, is_event, is_link, is_other_event, is_transfer, is_transfer_event}
 pub use Rattle.trb.specs.declared.block.Block.{Block}
 pub use Rattle.trb.specs.declared.kind.BlockKind.{BlockKind}
 pub use Rattle.trb.specs.declared.kind.BlockKind.TheVariants.{CommandCompletion, TransferEvent}
+pub use Rattle.trb.specs.declared.profile.Profile.{Profile}
 pub use Rattle.trb.specs.declared.ring_kind.RingKind.{RingKind}
 pub use Rattle.trb.specs.declared.ring_kind.RingKind.TheVariants.{Cmd, Evt, Xfer}
 pub use Rattle.world_state.proofs.EventsRead.{read_made}
 pub use Rattle.world_state.proofs.FirstFound.{first_at-found}
 pub use Rattle.world_state.proofs.Pairs.{put_pair_same}
 pub use Rattle.world_state.proofs.Ranges.{any_in_range}
-unfoldable pub use Rattle.world_state.specs.Bindings.{changed_by as world_changed_by, changed_by_all as world_changed_by_all, disabled as world_disabled, effect, effect as bindings_effect, has_one_of, in_state as world_in_state, inactive, is_had_by_another, placed, placed_on}
+unfoldable pub use Rattle.world_state.specs.Bindings.{changed_by as world_changed_by, changed_by_all as world_changed_by_all, disabled as world_disabled, effect, effect as bindings_effect, has_one_of, in_state as world_in_state, inactive, is_had_by_another, placed, placed_on, typed as world_typed}
 pub use Rattle.world_state.specs.DriverRows.{event_read as driver_event_read}
 unfoldable pub use Rattle.world_state.specs.DriverRows.{activated, bell_row, declared as driver_declared, endpoint_bell, endpoint_bell as driver_endpoint_bell, register_row, row_done, run_or_stop as driver_run_or_stop, started_with, valued as driver_valued, with_dequeue}
 unfoldable pub use Rattle.world_state.specs.Finishes.{ended, ended_with, finished as finish_finished, finished_as, passes_end, succeeded as finish_succeeded}
@@ -167,7 +166,10 @@ pub use Rattle.world_state.specs.Harms.{IsSafe}
 unfoldable pub use Rattle.world_state.specs.Harms.{harm_of, harms, has_changed_context, has_other_words, is_changed_since, is_context_changed, is_end, is_inside_descriptor, is_out_of_order, is_right_place, waits}
 unfoldable pub use Rattle.world_state.specs.Looks.{command_begun, crossed, looked, looked_at, may_scribble, seen_by_look, taken as looks_taken, taken_on}
 unfoldable pub use Rattle.world_state.specs.OnLiterals.{world_on_literals}
-unfoldable pub use Rattle.world_state.specs.Posts.{can_post, is_last, is_stop_under_way, other_posted, posted, posted as posts_posted, report_code, report_error, report_stop, report_success, reported, reported_on, stopped_with, with_reported, with_stopped}
+unfoldable pub use Rattle.world_state.specs.Posts.{can_post, code_posted, is_last, is_stop_under_way, other_posted, posted, posted as posts_posted, report_code, report_error, report_stop, report_success, reported, reported_on, stopped_with, with_reported, with_stopped}
+pub use Rattle.world_state.specs.RingRows.{is_in_way}
+unfoldable pub use Rattle.world_state.specs.RingRows.{emptied, listed, may_come, without_descriptor}
+pub use Rattle.world_state.specs.Scenes.{Scene, row_next, scene_ending, scene_reached, step_made, with_coming, with_left, with_world}
 pub use Rattle.world_state.specs.Steps.{NoHarm}
 unfoldable pub use Rattle.world_state.specs.Steps.{counted, is_scribbled, made, made as steps_made, scribbled, while_running}
 unfoldable pub use Rattle.world_state.specs.Takes.{declared_next, first_at, is_as_declared, is_place, next_take, takes_of, unreported, was_placed}

@@ -1,5 +1,5 @@
 -- A write that gives no command leaves what an event reads, so that the event stays possible and does the same
-use Rattle.safety.proofs.MiddleLaws.{[], ◌≡◌, ◌<◌, ◌&&◌, ◌∷◌, ◌∙◌, ℕ, true, false, map, nat_le, None, Some, option_and_then, arith, refl, ap, subst, ltb-true, fun_ext, put, Block, ceiling, writes_more, Command, AddressDevice, ConfigureEndpoint, Running, named_context, SlotGoesOn, Disables, Places, changes, placed_by_context, ContextSize, added_endpoints, is_dropped, context_pointer, context_cycle, Header, Write, Read, IsHeader, shape_of, command_id, Known, command_at, next_command, with_device, with_word, written, taken_device, command_given, learned, may_be_taken, lenient, DriverKeeps, IsUnfinished, rules, AgreeIn, map_same, added_indices, added_same, drop_flag_same, pointer_same, cycle_same, written_memory, Alike, held_same}
+use Rattle.safety.proofs.MiddleLaws.{add_flag_same, type_same, typed_by_context, [], ◌≡◌, ◌<◌, ◌&&◌, ◌∷◌, ◌∙◌, ℕ, true, false, map, nat_le, None, Some, option_and_then, arith, refl, ap, subst, ltb-true, fun_ext, put, Block, ceiling, writes_more, Command, AddressDevice, ConfigureEndpoint, Running, named_context, SlotGoesOn, Disables, Places, changes, placed_by_context, ContextSize, added_endpoints, is_dropped, context_pointer, context_cycle, Header, Write, Read, IsHeader, shape_of, command_id, Known, command_at, next_command, with_device, with_word, written, taken_device, command_given, learned, may_be_taken, lenient, DriverKeeps, IsUnfinished, rules, AgreeIn, map_same, added_indices, added_same, drop_flag_same, pointer_same, cycle_same, written_memory, Alike, held_same}
 use Rattle.safety.proofs.KeptRings.{next_unfinished}
 use Rattle.safety.proofs.WriteBeside.{beside_old}
 use Rattle.safety.proofs.AlikeEvents.{EventAlike, ReadAlike, read_alike}
@@ -16,14 +16,18 @@ module _ (size : ContextSize) (f g : ℕ → ℕ) where
   dropped_agree : (x : ℕ) → AgreeIn size f g x → is_dropped g x ≡ is_dropped f x
   dropped_agree x same = fun_ext (λ i. ap (λ b. nat_le 2 i && b) (drop_flag_same size f g x same i))
 
+  types_agree : (s x : ℕ) → AgreeIn size f g x → typed_by_context size g s x ≡ typed_by_context size f s x
+  types_agree s x same = grind (arith, add_flag_same, type_same)
+
   pub changes_agree : (n : ℕ) (c : Command) → ((x : ℕ) → named_context c ≡ Some x → AgreeIn size f g x) → changes size g n c ≡ changes size f n c
   unfolding changes
   changes_agree n (AddressDevice s bsr x) same = ap (λ p. SlotGoesOn s ∷ p ∷ []) (placed_agree s x 1 (same x refl) (omega arith))
   changes_agree n (ConfigureEndpoint s false x) same =
       let here : AgreeIn size f g x = same x refl in
-      ap (λ t. SlotGoesOn s ∷ Disables s t ∷ map (placed_by_context size g s x) (added_endpoints g x)) (dropped_agree x here)
-      ∙ ap (λ xs. SlotGoesOn s ∷ Disables s (is_dropped f x) ∷ map (placed_by_context size g s x) xs) (added_same size f g x here)
-      ∙ ap (λ all. SlotGoesOn s ∷ Disables s (is_dropped f x) ∷ all)
+      ap (λ t. SlotGoesOn s ∷ t ∷ Disables s (is_dropped g x) ∷ map (placed_by_context size g s x) (added_endpoints g x)) (types_agree s x here)
+      ∙ ap (λ t. SlotGoesOn s ∷ typed_by_context size f s x ∷ Disables s t ∷ map (placed_by_context size g s x) (added_endpoints g x)) (dropped_agree x here)
+      ∙ ap (λ xs. SlotGoesOn s ∷ typed_by_context size f s x ∷ Disables s (is_dropped f x) ∷ map (placed_by_context size g s x) xs) (added_same size f g x here)
+      ∙ ap (λ all. SlotGoesOn s ∷ typed_by_context size f s x ∷ Disables s (is_dropped f x) ∷ all)
       (map_same (placed_by_context size g s x) (placed_by_context size f s x) (added_endpoints f x) (added_indices f x) (λ i low. placed_agree s x i here low))
   changes_agree n _ same = refl
 

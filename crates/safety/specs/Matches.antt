@@ -124,6 +124,7 @@ module _ (h : Header) where
     pub slots : (s : ℕ) → w.slot_state s ≡ k.slot_state s
     pub endpoints : (s i : ℕ) → w.endpoint_state s i ≡ k.endpoint_state s i
     pub ring_of : (s i : ℕ) → w.ring_of s i ≡ k.ring_of s i
+    pub isochronous : (s i : ℕ) → w.isochronous s i ≡ k.isochronous s i
     -- any number but the command ring's, also one that no ring has
     pub rings : (r : ℕ) → r ≢ command_id h → EndpointRing k w r
     pub before : k.started ≡ false → NotStarted w

@@ -10,7 +10,7 @@ use Rattle.segments.specs.Moves.{target, is_reached, is_move}
 use Rattle.commands.specs.declared.command.Command.{Command}
 use Rattle.commands.specs.declared.command.Command.TheVariants.{AddressDevice, ConfigureEndpoint, SetTrDequeue}
 use Rattle.commands.specs.States.{is_off}
-use Rattle.commands.specs.Changes.{Change, SlotGoesOn, DeviceLeft, Disables, Places, Stops, Resets, changes}
+use Rattle.commands.specs.Changes.{Change, SlotGoesOn, DeviceLeft, Types, Disables, Places, Stops, Resets, changes}
 use Rattle.contexts.specs.Contexts.{added_endpoints, is_dropped, context_pointer, context_cycle}
 use Rattle.traces.specs.declared.header.Header.{Header}
 use Rattle.traces.specs.Header.{shape_of, ring_having}
@@ -37,6 +37,7 @@ module _ (h : Header) where
   MayChange k (Places s i p cycle state) = MayPoint k s i p cycle
   MayChange k (SlotGoesOn s) = Unit {0}
   MayChange k (DeviceLeft s) = Unit {0}
+  MayChange k (Types s which isochronous) = Unit {0}
   MayChange k (Disables s which) = Unit {0}
   MayChange k (Stops s i) = Unit {0}
   MayChange k (Resets s i) = Unit {0}

@@ -12,7 +12,7 @@ use Rattle.trace_reader.specs.declared.fault.LineFault.{LineFault}
 use Rattle.trace_reader.specs.declared.fault.LineFault.TheVariants.{Header as BadHeader, Row as BadRow, Number, Limit, Shape}
 use Rattle.traces.specs.declared.header.Header.{Header}
 use Rattle.traces.specs.declared.version.Version.{Version}
-use Rattle.traces.specs.declared.version.Version.TheVariants.{One, Two, Three}
+use Rattle.traces.specs.declared.version.Version.TheVariants.{One, Two, Three, Four}
 use Rattle.traces.specs.declared.ring.Ring.{Ring}
 use Rattle.traces.specs.declared.row.Row.{Row}
 use Rattle.traces.specs.declared.row.Row.TheVariants.{Ring as RingRow, Sub}
@@ -48,13 +48,14 @@ next_number st = st.lines + 1
 abbrev pub most_of : State → ℕ
 most_of st = most_lines_of st.keeps st.version
 
--- 1 Header: the first line is `xtrace 1`, `xtrace 2` or `xtrace 3`, the second `ctx 20` or `ctx 40`, as the contexts have
+-- 1 Header: the first line is `xtrace 1`, `xtrace 2`, `xtrace 3` or `xtrace 4`, the second `ctx 20` or `ctx 40`, as the contexts have
 -- 32 bytes or 64
 unfoldable pub version_of : TextLine → Option Version
 version_of line =
     if line.is_ended && bytes_eq line.content (codes "xtrace 1") then Some One
     else if line.is_ended && bytes_eq line.content (codes "xtrace 2") then Some Two
     else if line.is_ended && bytes_eq line.content (codes "xtrace 3") then Some Three
+    else if line.is_ended && bytes_eq line.content (codes "xtrace 4") then Some Four
     else None
 
 unfoldable pub size_of : TextLine → Option ContextSize

@@ -16,7 +16,7 @@ use Rattle.traces.specs.declared.row.Row.{Row}
 use Rattle.traces.specs.declared.row.Row.TheVariants.{Sub, Write, Reg, Bell, Read, Ring as RingRow, Free as FreeRow, Nop as NopRow}
 use Rattle.traces.specs.Register.{register_name}
 use Rattle.traces.specs.declared.version.Version.{Version}
-use Rattle.traces.specs.declared.version.Version.TheVariants.{One, Two, Three}
+use Rattle.traces.specs.declared.version.Version.TheVariants.{One, Two, Three, Four}
 use Rattle.trace_reader.specs.Reading.{TraceText}
 
 -- a word stands as it is; the letters of a number's digits may be of either case, and are lower case where it is printed
@@ -62,6 +62,7 @@ abbrev pub version_word : Version → List ℕ
 version_word One = codes "1"
 version_word Two = codes "2"
 version_word Three = codes "3"
+version_word Four = codes "4"
 
 abbrev pub version_fields : Version → List Field
 version_fields version = Word (codes "xtrace") ∷ Word (version_word version) ∷ []

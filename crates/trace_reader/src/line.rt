@@ -16,7 +16,7 @@ use traces::{Header, Row, Version};
 /// Lines of a plan, and of a trace all rows of which are kept in memory.
 pub const MOST_LINES: u32 = 1048576;
 
-/// Lines of a trace of version 3 whose rows are read one by one.
+/// Lines of a trace of version 3 or a later one whose rows are read one by one.
 pub const MOST_STREAMED_LINES: u32 = 4294967294;
 
 /// Lines of a schedule.
@@ -38,7 +38,7 @@ pub fn most_lines_of(keeps: bool, version: Version) -> u32
     }
     match version {
         Version::One | Version::Two => MOST_LINES,
-        Version::Three => MOST_STREAMED_LINES,
+        Version::Three | Version::Four => MOST_STREAMED_LINES,
     }
 }
 
@@ -53,6 +53,8 @@ pub fn version_of(line: &Line) -> Option<Version>
         Some(Version::Two)
     } else if line.is_ended() && line.content() == b"xtrace 3".as_slice() {
         Some(Version::Three)
+    } else if line.is_ended() && line.content() == b"xtrace 4".as_slice() {
+        Some(Version::Four)
     } else {
         None
     }

@@ -81,6 +81,7 @@ fn push_version(out: &mut Vec<u8>, version: Version) -> Result<(), AllocError>
         Version::One => out.extend_from_slice(b"xtrace 1\n"),
         Version::Two => out.extend_from_slice(b"xtrace 2\n"),
         Version::Three => out.extend_from_slice(b"xtrace 3\n"),
+        Version::Four => out.extend_from_slice(b"xtrace 4\n"),
     }
 }
 

@@ -20,7 +20,7 @@ use line_text::{Line, first_line};
 use std::alloc::Global;
 use traces::{Header, Rings, Row, Rows, Trace, Version};
 
-/// Reads the text of a trace: `xtrace 1`, `2` or `3`, `ctx 20` or `ctx 40`, the lines of the rings, then the rows. Every byte
+/// Reads the text of a trace: `xtrace 1` to `xtrace 4`, `ctx 20` or `ctx 40`, the lines of the rings, then the rows. Every byte
 /// sequence is answered, by its trace or by the first bad line and the least of its faults. It has at most 2^20 lines. `Memory` is answered
 /// only where a growth was refused.
 pub fn read_trace(alloc: Global, text: &[u8]) -> Result<Trace, ReadFault>
@@ -43,7 +43,7 @@ pub fn read_trace(alloc: Global, text: &[u8]) -> Result<Trace, ReadFault>
     read_kept(alloc, true, text)
 }
 
-/// Reads the text of a trace that may have as many lines as one whose rows are read one by one: of version 3 up to 2^32 - 2.
+/// Reads the text of a trace that may have as many lines as one whose rows are read one by one: from version 3 on up to 2^32 - 2.
 pub fn read_long_trace(alloc: Global, text: &[u8]) -> Result<Trace, ReadFault>
     ensures read { IfOk result (λ trace. trace_of false text.now ≡ Ok (text_of trace)) }
     ensures refused { IfErr result (λ e. IfBadLine e (λ line code. trace_of false text.now ≡ Err (line, code))) }

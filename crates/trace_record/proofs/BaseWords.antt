@@ -24,11 +24,11 @@ pub use Rattle.ownership_rules.specs.declared.refusal.Refusal.{Refusal}
 pub use Rattle.ring_knowledge.proofs.GivenWords.{given_from}
 pub use Rattle.ring_knowledge.proofs.Words.{FollowsRegisters, FollowsRing, Header, Known, Register, Segment, Spot, Usbcmd, address_aligned, crossed_link, crosses, crossings_of, length-set, link_address_is, link_aligned, place_at-data, place_at-link, place_below, positions_of, reset_bit, run_bit, segment_at}
 unfoldable pub use Rattle.ring_knowledge.proofs.Words.{crossings_given, due_crossings, due_positions, leased_crossings, leased_positions, nothing, positions_given, register_written, run_or_stop, stopped_number, target, valued}
-unfoldable pub use Rattle.ring_knowledge.specs.Completions.{bound_to, changed_by, completed, disabled, finished, held_at_ceiling, in_state, moved, moved_to, pointed, set_to, stop_ended}
+unfoldable pub use Rattle.ring_knowledge.specs.Completions.{bound_to, changed_by, completed, disabled, finished, held_at_ceiling, in_state, moved, moved_to, pointed, set_to, stop_ended, typed}
 unfoldable pub use Rattle.ring_knowledge.specs.Learned.{learned}
 unfoldable pub use Rattle.ring_knowledge.specs.Registers.{endpoint_rung, rung}
 pub use Rattle.ring_knowledge.specs.Rings.{Crossing, Position, RingSpot}
-unfoldable pub use Rattle.ring_knowledge.specs.Rings.{command_at, event_at, given_by, given_of, next_command, on_ring, spot_on, unfinished, unfinished_positions}
+unfoldable pub use Rattle.ring_knowledge.specs.Rings.{code_told, command_at, event_at, given_by, given_of, next_command, on_ring, spot_on, unfinished, unfinished_positions}
 unfoldable pub use Rattle.ring_knowledge.specs.Transfers.{broken_off, passed, stopped_at, transfer_read, transferred, transferred_at}
 unfoldable pub use Rattle.ring_knowledge.specs.Writes.{command_given, entry_of, taken_device, with_device, with_word, written}
 pub use Rattle.ring_knowledge.specs.declared.ring_record.RingGiving.{RingGiving}
@@ -95,7 +95,7 @@ pub use Rattle.trace_record.specs.declared.trace_record.TraceRecord.{TraceRecord
 pub use Rattle.traces.specs.Header.{IsHeader, clash, id_of, id_or_none, is_command_kind, is_driver_kind, is_event_kind, is_ring, is_transfer_kind, may_stand_together, ring_with, shape_or}
 unfoldable pub use Rattle.traces.specs.Header.{command_id, command_ring, driver_rings, event_ring, event_shape, ring_having, shape_of, touches_ring}
 pub use Rattle.traces.specs.Register.{base_address, register_or_zero}
-pub use Rattle.traces.specs.Versions.{is_three}
+pub use Rattle.traces.specs.Versions.{is_lenient}
 pub use Rattle.traces.specs.declared.register.Register.TheVariants.{Dcbaap, Erstba}
 pub use Rattle.traces.specs.declared.ring.Ring.{Ring}
 pub use Rattle.traces.specs.declared.row.Row.{Row}

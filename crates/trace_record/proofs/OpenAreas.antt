@@ -1,5 +1,5 @@
 -- The contexts under lease, by the addresses at which they start
-use Rattle.trace_record.proofs.LowerLaws.{rules, ◌≡◌, ◌∷◌, ◌∙◌, ◌||◌, ℕ, List, [], Bool, true, false, Option, None, refl, ap, sym, list_any, filter_map, flat_map, cons_option, overlap, Command, named_context, device_context_bytes, input_context_bytes, Header, driver_rings, Known, or_false, any_append, any_flat_map, inputs_of, device_contexts, rings_have, table_has, entries_have, ◌&&◌, ◌==◌, not, Shape, touches, event_shape, event_ring, shape_or, any_map, Evt, older, stricter, writes_to_owned, changes_owned, is_three}
+use Rattle.trace_record.proofs.LowerLaws.{rules, ◌≡◌, ◌∷◌, ◌∙◌, ◌||◌, ℕ, List, [], Bool, true, false, Option, None, refl, ap, sym, list_any, filter_map, flat_map, cons_option, overlap, Command, named_context, device_context_bytes, input_context_bytes, Header, driver_rings, Known, or_false, any_append, any_flat_map, inputs_of, device_contexts, rings_have, table_has, entries_have, ◌&&◌, ◌==◌, not, Shape, touches, event_shape, event_ring, shape_or, any_map, Evt, older, stricter, writes_to_owned, changes_owned, is_lenient}
 use Rattle.ring_knowledge.specs.Rings as rings
 use Rattle.ownership_rules.specs.OpenLeases as leases
 
@@ -63,14 +63,14 @@ module _ (h : Header) (k : Known) (a : ℕ) where
 
   -- ---- what a write may not do, by the trace's version
 
-  pub owned_is : (w : ℕ) → writes_to_owned h k a w ≡ (leases.is_leased h k a && (not (is_three h.version) || (not (k.memory a == w) || leases.is_the_controllers h k a)))
+  pub owned_is : (w : ℕ) → writes_to_owned h k a w ≡ (leases.is_leased h k a && (not (is_lenient h.version) || (not (k.memory a == w) || leases.is_the_controllers h k a)))
   unfolding writes_to_owned stricter older changes_owned
   owned_is w = search (rules, controllers_leased, or_false, not)
 
-  pub owned_by_version : (w : ℕ) → leases.is_leased h k a ≡ true → not (is_three h.version) ≡ true → writes_to_owned h k a w ≡ true
+  pub owned_by_version : (w : ℕ) → leases.is_leased h k a ≡ true → not (is_lenient h.version) ≡ true → writes_to_owned h k a w ≡ true
   owned_by_version w leased older = search (rules, owned_is, not)
 
-  pub owned_by_change : (w : ℕ) → leases.is_leased h k a ≡ true → not (is_three h.version) ≡ false →
+  pub owned_by_change : (w : ℕ) → leases.is_leased h k a ≡ true → not (is_lenient h.version) ≡ false →
       writes_to_owned h k a w ≡ (not (k.memory a == w) || leases.is_the_controllers h k a)
   owned_by_change w leased newer = search (rules, owned_is, not)
 

@@ -1,5 +1,5 @@
 -- The words and the lemmas that most files here cite, passed on by one file
-pub use Rattle.trace_record.proofs.BaseWords.{AreFresh, AreHints, AreNumbers, Block, Bool, Cmd, Command, Contains-get_or, Crossing, Data, Dcbaap, Endpoint, EndpointState, Err, Erstba, EventCounts, EventState, Evt, FollowsDevices, FollowsEvents, FollowsPlace, FollowsRegisters, FollowsRing, FollowsTrace, FollowsUnfinished, Header, HoldsAreas, HoldsSoiled, IfSome, IsBinarySearchResult, IsDisabled, IsFreshSo, IsGivenBy, IsGivenOn, IsHeader, IsIn, IsNonDecreasingBy, IsNonDecreasingBy-from_sort_by_key, IsOwnedSo, IsPartitionPoint, IsPartitionPoint-from_clause, IsPartitionedBy-leb, IsPartitionedBy-ltb, IsPermutation, IsPlaced, IsShape, IsWithBound, Known, Link, List, None, Option, Position, Read, Refusal, Ring, RingGiving, RingKind, RingRecord, RingView, Row, RowPlace, Segment, Shape, Slot, SlotState, SoiledWords, Some, Start, Stopped, Test, TraceRecord, Write, Writes, Xfer, [], address_aligned, address_of, and_left, and_right, ap, append-nil, arith, as_list, base_address, bit_and, bit_at, bit_at-zero, bit_not, bits_of, broken_of, cases_Bool, cases_eq, cases_lt, changed, command_in, command_on, common_steps, cons_option, count_of, crossed_link, crosses, crossings_of, cycle_of, device_context_bytes, device_contexts, endpoint_at, entries_have, eq-eqb, eqb-true, false, false≢true, filter, filter_map, first_broken, first_of, flat_map, floor_number, fresh_endpoint, fresh_slot, fun_ext, get_or, get_or_default, given_from, gives, gives_crossing, has, if◌then◌else◌, inl, input_context_bytes, inputs_of, inr, insert, is_about, is_addressing, is_command_kind, is_crossing, is_crossing_due, is_driver_kind, is_due, is_event_kind, is_in, is_inside, is_inside-place_at, is_marked, is_off, is_owned, is_some, is_three, kept_count, kept_of, leb, length, length-append, length-replicate, length-set, length_permutation, link_address, link_address_is, link_aligned, list_any, list_any-IsPermutation, lt-ltb, ltb-true, map, mark_of, named_by, named_context, nat_cmp, nat_eq, nat_le, nat_lt, nat_tests, new_ring, not, one_of, option_eq, option_flatten, overlap, place_at-data, place_at-link, place_below, place_count, place_of, placed_endpoint, position, positions_of, put, range_with_len, refl, register_or_zero, remove, replicate, ring_got, rings_have, rules, rung_endpoint, set, shape_or, slice_get, slice_get_read, slice_get_within, slice_index_or, slot_success, start_of, starts_from, subst, suc, sum_of, sym, table_bytes, table_has, take, touches, touches-word, transferred_endpoint, true, unwrap_or, w64, zero, ℕ, ◌%◌, ◌&&◌, ◌*◌, ◌++◌, ◌+◌, ◌-◌, ◌/◌, ◌<◌, ◌==◌, ◌^◌, ◌||◌, ◌∙◌, ◌∷◌, ◌≡◌, ◌≢◌, ◌≤◌, ◌⊎◌}
+pub use Rattle.trace_record.proofs.BaseWords.{AreFresh, AreHints, AreNumbers, Block, Bool, Cmd, Command, Contains-get_or, Crossing, Data, Dcbaap, Endpoint, EndpointState, Err, Erstba, EventCounts, EventState, Evt, FollowsDevices, FollowsEvents, FollowsPlace, FollowsRegisters, FollowsRing, FollowsTrace, FollowsUnfinished, Header, HoldsAreas, HoldsSoiled, IfSome, IsBinarySearchResult, IsDisabled, IsFreshSo, IsGivenBy, IsGivenOn, IsHeader, IsIn, IsNonDecreasingBy, IsNonDecreasingBy-from_sort_by_key, IsOwnedSo, IsPartitionPoint, IsPartitionPoint-from_clause, IsPartitionedBy-leb, IsPartitionedBy-ltb, IsPermutation, IsPlaced, IsShape, IsWithBound, Known, Link, List, None, Option, Position, Read, Refusal, Ring, RingGiving, RingKind, RingRecord, RingView, Row, RowPlace, Segment, Shape, Slot, SlotState, SoiledWords, Some, Start, Stopped, Test, TraceRecord, Write, Writes, Xfer, [], address_aligned, address_of, and_left, and_right, ap, append-nil, arith, as_list, base_address, bit_and, bit_at, bit_at-zero, bit_not, bits_of, broken_of, cases_Bool, cases_eq, cases_lt, changed, command_in, command_on, common_steps, cons_option, count_of, crossed_link, crosses, crossings_of, cycle_of, device_context_bytes, device_contexts, endpoint_at, entries_have, eq-eqb, eqb-true, false, false≢true, filter, filter_map, first_broken, first_of, flat_map, floor_number, fresh_endpoint, fresh_slot, fun_ext, get_or, get_or_default, given_from, gives, gives_crossing, has, if◌then◌else◌, inl, input_context_bytes, inputs_of, inr, insert, is_about, is_addressing, is_command_kind, is_crossing, is_crossing_due, is_driver_kind, is_due, is_event_kind, is_in, is_inside, is_inside-place_at, is_marked, is_off, is_owned, is_some, is_lenient, kept_count, kept_of, leb, length, length-append, length-replicate, length-set, length_permutation, link_address, link_address_is, link_aligned, list_any, list_any-IsPermutation, lt-ltb, ltb-true, map, mark_of, named_by, named_context, nat_cmp, nat_eq, nat_le, nat_lt, nat_tests, new_ring, not, one_of, option_eq, option_flatten, overlap, place_at-data, place_at-link, place_below, place_count, place_of, placed_endpoint, position, positions_of, put, range_with_len, refl, register_or_zero, remove, replicate, ring_got, rings_have, rules, rung_endpoint, set, shape_or, slice_get, slice_get_read, slice_get_within, slice_index_or, slot_success, start_of, starts_from, subst, suc, sum_of, sym, table_bytes, table_has, take, touches, touches-word, transferred_endpoint, true, unwrap_or, w64, zero, ℕ, ◌%◌, ◌&&◌, ◌*◌, ◌++◌, ◌+◌, ◌-◌, ◌/◌, ◌<◌, ◌==◌, ◌^◌, ◌||◌, ◌∙◌, ◌∷◌, ◌≡◌, ◌≢◌, ◌≤◌, ◌⊎◌}
 unfoldable pub use Rattle.trace_record.proofs.BaseWords.{binding_in, binds, binds_ring, changed_by, changes_owned, command_at, command_given, command_id, command_ring, covers, crossings_given, driver_rings, due_crossings, due_positions, endpoint_count, entry_of, event_ring, event_shape, given_by, given_of, in_state, is_being_bound, is_the_controllers, lease_bytes, lease_start, leased_crossings, leased_positions, next_command, nothing, older, positions_given, shape_of, slots, stop_ended, stricter, table_range, unfinished, unfinished_positions, with_device, writes_to_owned}
 pub use Rattle.trace_record.proofs.DeviceSlots.Addressing.{addressing_is, at_most_one, few_addressing, kept_names}
 pub use Rattle.trace_record.proofs.DeviceSlots.EndpointCounts.{count_first, count_has, counts_set, few_counted, one_at_most, read_count, read_kept}

@@ -35,7 +35,7 @@ impl TraceRecord {
         match row {
             Row::Write { at, word } => {
                 self.is_leased(*at, place.is_lent)
-                    && (!header.version.is_three() || self.is_disturbed(memory, *at, *word))
+                    && (!header.version.is_lenient() || self.is_disturbed(memory, *at, *word))
             }
             _ => false,
         }

@@ -1,7 +1,7 @@
 -- This project's limits on the texts that are read
 use Rattle.std.specs.Prelude.{ℕ, Bool, true, false}
 use Rattle.traces.specs.declared.version.Version.{Version}
-use Rattle.traces.specs.declared.version.Version.TheVariants.{One, Two, Three}
+use Rattle.traces.specs.declared.version.Version.TheVariants.{One, Two, Three, Four}
 
 -- lines of a plan, and of a trace all rows of which are kept in memory
 abbrev pub most_lines : ℕ
@@ -17,6 +17,7 @@ most_lines_of true version = most_lines
 most_lines_of false One = most_lines
 most_lines_of false Two = most_lines
 most_lines_of false Three = most_streamed_lines
+most_lines_of false Four = most_streamed_lines
 
 -- bytes of a line before its line feed
 abbrev pub most_bytes : ℕ

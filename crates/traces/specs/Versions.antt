@@ -1,16 +1,29 @@
 -- The versions of a trace, by its first line
-use Rattle.std.specs.Prelude.{Bool, true, false}
+use Rattle.std.specs.Prelude.{if◌then◌else◌, Bool, true, false}
 use Rattle.traces.specs.declared.version.Version.{Version}
-use Rattle.traces.specs.declared.version.Version.TheVariants.{One, Two, Three}
+use Rattle.trb.specs.declared.profile.Profile.{Profile}
+use Rattle.trb.specs.declared.profile.Profile.TheVariants.{WithoutIsoch, WithIsoch}
+use Rattle.traces.specs.declared.version.Version.TheVariants.{One, Two, Three, Four}
 
 -- the rules that a harm needs; the versions before refuse more
-abbrev pub is_three : Version → Bool
-is_three One = false
-is_three Two = false
-is_three Three = true
+abbrev pub is_lenient : Version → Bool
+is_lenient One = false
+is_lenient Two = false
+is_lenient Three = true
+is_lenient Four = true
 
 -- rings come and go behind the first row, and descriptors are withdrawn
 abbrev pub has_ring_rows : Version → Bool
 has_ring_rows One = false
 has_ring_rows Two = true
 has_ring_rows Three = true
+has_ring_rows Four = true
+
+-- isochronous endpoints are used (xHCI 3.2.11, 4.10.3)
+abbrev pub has_isoch : Version → Bool
+has_isoch Four = true
+has_isoch _ = false
+
+-- which transfers there are
+abbrev pub profile_of : Version → Profile
+profile_of version = if has_isoch version then WithIsoch else WithoutIsoch

@@ -1,8 +1,10 @@
 ghost use Rattle.std.specs.Prelude.{◌≡◌};
-ghost use Rattle.traces.specs.Versions.{has_ring_rows, is_three};
+ghost use Rattle.traces.specs.Versions.{has_isoch, has_ring_rows, is_lenient, profile_of};
+
+use trb::Profile;
 
 /// The version of a trace, which its first line names. Versions 1 and 2 judge by the rules that came first; version 3 by
-/// those that a harm needs.
+/// those that a harm needs; version 4 has isochronous transfers too.
 #[derive(Clone, Copy, Debug, PartialEq, Eq)]
 pub enum Version {
     /// `xtrace 1`.
@@ -11,20 +13,40 @@ pub enum Version {
     Two,
     /// `xtrace 3`.
     Three,
+    /// `xtrace 4`.
+    Four,
 }
 
 impl Version {
-    /// It is version 3.
-    pub fn is_three(self) -> bool
-        ensures { result ≡ is_three self }
+    /// It judges by the rules that a harm needs, as versions 3 and 4 do.
+    pub fn is_lenient(self) -> bool
+        ensures { result ≡ is_lenient self }
     {
-        matches!(self, Version::Three)
+        matches!(self, Version::Three | Version::Four)
     }
 
     /// Rings come and go behind the first row, and descriptors are withdrawn.
     pub fn has_ring_rows(self) -> bool
         ensures { result ≡ has_ring_rows self }
     {
-        matches!(self, Version::Two | Version::Three)
+        matches!(self, Version::Two | Version::Three | Version::Four)
+    }
+
+    /// Isochronous endpoints are used (xHCI 3.2.11, 4.10.3).
+    pub fn has_isoch(self) -> bool
+        ensures { result ≡ has_isoch self }
+    {
+        matches!(self, Version::Four)
+    }
+
+    /// Which transfers there are.
+    pub fn profile(self) -> Profile
+        ensures { result ≡ profile_of self }
+    {
+        if self.has_isoch() {
+            Profile::WithIsoch
+        } else {
+            Profile::WithoutIsoch
+        }
     }
 }

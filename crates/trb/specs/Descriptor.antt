@@ -1,11 +1,13 @@
--- The forms of descriptors (TDs) on a command and on a transfer ring: xHCI 3.2.8 to 3.2.11, 4.11.2, 6.4.1, 6.4.3
+-- The forms of descriptors (TDs) on a command and on a transfer ring, by which transfers there are: xHCI 3.2.8 to 3.2.11, 4.11.2, 6.4.1, 6.4.3
 use Rattle.std.specs.Prelude.{ℕ, ◌==◌, ◌&&◌, ◌||◌, if◌then◌else◌, Bool, true, false, not, List, [], ◌∷◌, length, nat_lt, codes, Option, Some, None}
 use Rattle.std.specs.List.{list_all, list_any}
 use Rattle.trb.specs.declared.block.Block.{Block}
 use Rattle.trb.specs.declared.kind.BlockKind.{BlockKind}
-use Rattle.trb.specs.declared.kind.BlockKind.TheVariants.{Normal, SetupStage, DataStage, StatusStage, NoOp, SetTrDequeue, ResetEndpoint}
+use Rattle.trb.specs.declared.kind.BlockKind.TheVariants.{Normal, SetupStage, DataStage, StatusStage, Isoch, NoOp, SetTrDequeue, ResetEndpoint}
 use Rattle.trb.specs.declared.fault.Fault.{Fault}
 use Rattle.trb.specs.declared.fault.Fault.TheVariants.{BadDescriptor, NotInProfile}
+use Rattle.trb.specs.declared.profile.Profile.{Profile}
+use Rattle.trb.specs.declared.profile.Profile.TheVariants.{WithoutIsoch}
 use Rattle.trb.specs.declared.ring_kind.RingKind.{RingKind}
 use Rattle.trb.specs.declared.ring_kind.RingKind.TheVariants.{Cmd, Evt, Xfer}
 use Rattle.trb.specs.Bits.{bits, is_set}
@@ -44,16 +46,17 @@ may_begin Normal b rest = are_normal rest
 may_begin SetupStage b rest = has_setup_data b && length rest == 0
 may_begin DataStage b rest = are_normal rest
 may_begin StatusStage b rest = length rest == 0
+may_begin Isoch b rest = are_normal rest
 may_begin NoOp b rest = length rest == 0
 may_begin _ b rest = false
 
--- Normal blocks; a Setup Stage; a Data Stage and Normal blocks; a Status Stage; a No Op
+-- Normal blocks; a Setup Stage; a Data Stage and Normal blocks; a Status Stage; an Isoch and Normal blocks; a No Op
 abbrev pub is_transfer_arrangement : List Block → Bool
 is_transfer_arrangement [] = false
 is_transfer_arrangement (b ∷ rest) = may_begin (kind b) b rest
 
-abbrev pub has_left_out_type : List Block → Bool
-has_left_out_type blocks = list_any (λ b. is_left_out_transfer (kind b)) blocks
+abbrev pub has_left_out_type : Profile → List Block → Bool
+has_left_out_type profile blocks = list_any (λ b. is_left_out_transfer profile (kind b)) blocks
 
 -- an interrupter target, word 2 bits 31:22, other than 0
 abbrev pub has_other_target : Block → Bool
@@ -63,12 +66,13 @@ has_other_target b = not (bits (word b 2) 22 10 == 0)
 abbrev pub has_other_type : List Block → Bool
 has_other_type blocks = list_any (λ b. not (is_transfer (kind b))) blocks
 
--- beside an isochronous or Event Data block the arrangement isn't looked at, the types are
-abbrev pub is_bad_transfer : List Block → Bool
-is_bad_transfer blocks = is_badly_formed blocks || has_other_type blocks || (not (is_transfer_arrangement blocks) && not (has_left_out_type blocks))
+-- beside a block that is left out the arrangement isn't looked at, the types are
+abbrev pub is_bad_transfer : Profile → List Block → Bool
+is_bad_transfer profile blocks =
+    is_badly_formed blocks || has_other_type blocks || (not (is_transfer_arrangement blocks) && not (has_left_out_type profile blocks))
 
-abbrev pub is_transfer_left_out : List Block → Bool
-is_transfer_left_out blocks = has_left_out_type blocks || list_any has_other_target blocks
+abbrev pub is_transfer_left_out : Profile → List Block → Bool
+is_transfer_left_out profile blocks = has_left_out_type profile blocks || list_any has_other_target blocks
 
 -- Set TR Dequeue of a stream (SCT above 0); Reset Endpoint that keeps the transfer state (TSP)
 abbrev pub has_left_out_field : BlockKind → Block → Bool
@@ -87,19 +91,23 @@ abbrev pub is_bad_command : List Block → Bool
 is_bad_command blocks = is_badly_formed blocks || not (length blocks == 1) || list_any is_no_command blocks
 
 -- no form of a descriptor of such a ring
-abbrev pub is_bad_descriptor : RingKind → List Block → Bool
-is_bad_descriptor Cmd blocks = is_bad_command blocks
-is_bad_descriptor Xfer blocks = is_bad_transfer blocks
-is_bad_descriptor Evt blocks = true
+abbrev pub is_bad_descriptor : Profile → RingKind → List Block → Bool
+is_bad_descriptor profile Cmd blocks = is_bad_command blocks
+is_bad_descriptor profile Xfer blocks = is_bad_transfer profile blocks
+is_bad_descriptor profile Evt blocks = true
 
 -- outside the profile
-abbrev pub is_left_out : RingKind → List Block → Bool
-is_left_out Cmd blocks = list_any is_command_left_out blocks
-is_left_out Xfer blocks = is_transfer_left_out blocks
-is_left_out Evt blocks = false
+abbrev pub is_left_out : Profile → RingKind → List Block → Bool
+is_left_out profile Cmd blocks = list_any is_command_left_out blocks
+is_left_out profile Xfer blocks = is_transfer_left_out profile blocks
+is_left_out profile Evt blocks = false
 
 -- what is wrong with these blocks as a descriptor of such a ring; where both hold, no form comes first
+abbrev pub fault_in : Profile → RingKind → List Block → Option Fault
+fault_in profile r blocks =
+    if is_bad_descriptor profile r blocks then Some BadDescriptor else
+    if is_left_out profile r blocks then Some NotInProfile else None
+
+-- the same of the versions without isochronous transfers
 abbrev pub fault_of : RingKind → List Block → Option Fault
-fault_of r blocks =
-    if is_bad_descriptor r blocks then Some BadDescriptor else
-    if is_left_out r blocks then Some NotInProfile else None
+fault_of r blocks = fault_in WithoutIsoch r blocks

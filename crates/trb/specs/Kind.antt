@@ -1,6 +1,8 @@
 -- The types of blocks: xHCI 6.4.6, table 6-91
 use Rattle.std.specs.Prelude.{ℕ, Bool, true, false, List, [], ◌∷◌, codes, ◌||◌, ◌&&◌, ◌==◌, nat_le, slice_index_or}
 use Rattle.trb.specs.declared.kind.BlockKind.{BlockKind}
+use Rattle.trb.specs.declared.profile.Profile.{Profile}
+use Rattle.trb.specs.declared.profile.Profile.TheVariants.{WithoutIsoch}
 use Rattle.trb.specs.declared.kind.BlockKind.TheVariants.{Normal, SetupStage, DataStage, StatusStage, Isoch, Link, EventData, NoOp, EnableSlot, DisableSlot, AddressDevice, ConfigureEndpoint, EvaluateContext, ResetEndpoint, StopEndpoint, SetTrDequeue, ResetDevice, NoOpCommand, TransferEvent, CommandCompletion, PortStatusChange, BandwidthRequest, Doorbell, HostController, DeviceNotification, MfindexWrap, Unknown}
 
 -- the types by their numbers, from 0 on
@@ -95,11 +97,11 @@ is_transfer EventData = true
 is_transfer NoOp = true
 is_transfer _ = false
 
--- isochronous and Event Data blocks: not in the profile
-abbrev pub is_left_out_transfer : BlockKind → Bool
-is_left_out_transfer Isoch = true
-is_left_out_transfer EventData = true
-is_left_out_transfer _ = false
+-- blocks of transfers that a profile leaves out: isochronous ones by that without them, and Event Data blocks
+abbrev pub is_left_out_transfer : Profile → BlockKind → Bool
+is_left_out_transfer WithoutIsoch Isoch = true
+is_left_out_transfer _ EventData = true
+is_left_out_transfer _ _ = false
 
 abbrev pub is_command : BlockKind → Bool
 is_command EnableSlot = true

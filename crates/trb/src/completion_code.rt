@@ -1,6 +1,6 @@
 //! Completion codes of Transfer Events: xHCI 6.4.5, table 6-90.
 ghost use Rattle.std.specs.Prelude.{◌≡◌};
-ghost use Rattle.trb.specs.CompletionCode.{is_halting, is_stopping, is_success, is_trb_error};
+ghost use Rattle.trb.specs.CompletionCode.{counted_code, is_halting, is_isoch_error, is_of_service, is_stopping, is_success, is_trb_error};
 
 /// Success or Short Packet: the block is finished.
 #[inline(always)]
@@ -32,4 +32,37 @@ pub fn is_stopping(code: u8) -> bool
     ensures { result ≡ is_stopping code }
 {
     code == 26 || code == 27 || code == 28
+}
+
+/// How a code counts, by whether its endpoint is isochronous: no error halts such an endpoint, the errors tell that a block was passed, as
+/// Success does; nothing stalls there, and Stall counts as no code (xHCI 4.10.2, 4.10.3).
+#[inline(always)]
+pub fn counted_code(is_isochronous: bool, code: u8) -> u8
+    ensures { result ≡ counted_code is_isochronous code }
+{
+    if !is_isochronous {
+        return code;
+    }
+    if is_isoch_error(code) {
+        1
+    } else if code == 6 {
+        0
+    } else {
+        code
+    }
+}
+
+/// An error that an isochronous endpoint tells of, and goes on.
+fn is_isoch_error(code: u8) -> bool
+    ensures { result ≡ is_isoch_error code }
+{
+    matches!(code, 2 | 3 | 4 | 18 | 20 | 31 | 36)
+}
+
+/// Ring Underrun, Ring Overrun or Missed Service Error: an isochronous endpoint tells of its service, and of no block (xHCI 4.10.3).
+#[inline(always)]
+pub fn is_of_service(code: u8) -> bool
+    ensures { result ≡ is_of_service code }
+{
+    matches!(code, 14 | 15 | 23)
 }

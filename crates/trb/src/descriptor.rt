@@ -1,61 +1,71 @@
 ghost use Rattle.std.specs.Prelude.{◌≡◌, ◌==◌};
 ghost use Rattle.std.specs.List.{list_any, list_all};
 ghost use Rattle.trb.specs.Block.{kind, cycle, is_chained};
-ghost use Rattle.trb.specs.Descriptor.{fault_of, is_bad_descriptor, is_left_out, is_bad_command, is_bad_transfer, is_transfer_left_out, is_command_left_out, is_no_command, has_left_out_field, has_other_target, has_other_type, has_left_out_type, is_transfer_arrangement, may_begin, are_normal, has_setup_data, is_badly_formed, is_chain};
+ghost use Rattle.trb.specs.Descriptor.{fault_in, fault_of, is_bad_descriptor, is_left_out, is_bad_command, is_bad_transfer, is_transfer_left_out, is_command_left_out, is_no_command, has_left_out_field, has_other_target, has_other_type, has_left_out_type, is_transfer_arrangement, may_begin, are_normal, has_setup_data, is_badly_formed, is_chain};
 
 use crate::bits::{bits, is_set};
 use crate::block::Block;
 use crate::fault::Fault;
 use crate::kind::BlockKind;
+use crate::profile::Profile;
 use crate::ring_kind::RingKind;
 
 /// The most blocks of a descriptor in the profile.
 const MAX_BLOCKS: usize = 256;
 
-/// What is wrong with these blocks as a descriptor (TD) of such a ring: xHCI 3.2.8 to 3.2.11, 4.11.2, 6.4.1, 6.4.3.
-/// A descriptor is declared with every Cycle bit 0. Where no form fits and something is outside the profile too,
-/// `BadDescriptor` comes first.
+/// What is wrong with these blocks as a descriptor (TD) of such a ring, in a trace without isochronous transfers.
 #[inline(always)]
 pub fn descriptor_fault(kind: RingKind, blocks: &[Block]) -> Option<Fault>
     ensures { result ≡ fault_of kind blocks.now }
 {
+    descriptor_fault_in(Profile::WithoutIsoch, kind, blocks)
+}
+
+/// What is wrong with these blocks as a descriptor (TD) of such a ring: xHCI 3.2.8 to 3.2.11, 4.11.2, 6.4.1, 6.4.3.
+/// A descriptor is declared with every Cycle bit 0. Where no form fits and something is outside the profile too,
+/// `BadDescriptor` comes first.
+#[inline(always)]
+pub fn descriptor_fault_in(profile: Profile, kind: RingKind, blocks: &[Block]) -> Option<Fault>
+    ensures { result ≡ fault_in profile kind blocks.now }
+{
     // most descriptors have one block: where the compiler sees that, no loop is left
     if let [block] = blocks {
-        return first_fault(kind, &[*block]);
+        return first_fault(profile, kind, &[*block]);
     }
-    first_fault(kind, blocks)
+    first_fault(profile, kind, blocks)
 }
 
 /// What is wrong with these blocks first.
 #[inline(always)]
-fn first_fault(kind: RingKind, blocks: &[Block]) -> Option<Fault>
-    ensures { result ≡ fault_of kind blocks.now }
+fn first_fault(profile: Profile, kind: RingKind, blocks: &[Block]) -> Option<Fault>
+    ensures { result ≡ fault_in profile kind blocks.now }
 {
-    if is_bad_descriptor(kind, blocks) {
+    if is_bad_descriptor(profile, kind, blocks) {
         Some(Fault::BadDescriptor)
-    } else if is_left_out(kind, blocks) {
+    } else if is_left_out(profile, kind, blocks) {
         Some(Fault::NotInProfile)
     } else {
         None
     }
 }
 
-fn is_bad_descriptor(kind: RingKind, blocks: &[Block]) -> bool
-    ensures { result ≡ is_bad_descriptor kind blocks.now }
+fn is_bad_descriptor(profile: Profile, kind: RingKind, blocks: &[Block]) -> bool
+    ensures { result ≡ is_bad_descriptor profile kind blocks.now }
 {
     match kind {
         RingKind::Cmd => is_bad_command(blocks),
-        RingKind::Xfer => is_bad_transfer(blocks),
+        RingKind::Xfer => is_bad_transfer(profile, blocks),
         RingKind::Evt => true,
     }
 }
 
-fn is_left_out(kind: RingKind, blocks: &[Block]) -> bool
-    ensures { result ≡ is_left_out kind blocks.now }
+#[inline(always)]
+fn is_left_out(profile: Profile, kind: RingKind, blocks: &[Block]) -> bool
+    ensures { result ≡ is_left_out profile kind blocks.now }
 {
     match kind {
         RingKind::Cmd => has_command_left_out(blocks),
-        RingKind::Xfer => is_transfer_left_out(blocks),
+        RingKind::Xfer => is_transfer_left_out(profile, blocks),
         RingKind::Evt => false,
     }
 }
@@ -108,18 +118,18 @@ fn has_left_out_field(block: Block) -> bool
 
 // ---- descriptors of a transfer ring
 
-fn is_bad_transfer(blocks: &[Block]) -> bool
-    ensures { result ≡ is_bad_transfer blocks.now }
+fn is_bad_transfer(profile: Profile, blocks: &[Block]) -> bool
+    ensures { result ≡ is_bad_transfer profile blocks.now }
 {
     is_badly_formed(blocks)
         || has_other_type(blocks)
-        || !is_transfer_arrangement(blocks) && !has_left_out_type(blocks)
+        || !is_transfer_arrangement(blocks) && !has_left_out_type(profile, blocks)
 }
 
-fn is_transfer_left_out(blocks: &[Block]) -> bool
-    ensures { result ≡ is_transfer_left_out blocks.now }
+fn is_transfer_left_out(profile: Profile, blocks: &[Block]) -> bool
+    ensures { result ≡ is_transfer_left_out profile blocks.now }
 {
-    has_left_out_type(blocks) || any_has_other_target(blocks)
+    has_left_out_type(profile, blocks) || any_has_other_target(blocks)
 }
 
 /// A block whose type is no transfer type, as a Link's or a command's.
@@ -129,10 +139,13 @@ fn has_other_type(blocks: &[Block]) -> bool
     blocks.iter().any(|b| !b.kind().is_transfer())
 }
 
-fn has_left_out_type(blocks: &[Block]) -> bool
-    ensures { result ≡ has_left_out_type blocks.now }
+#[inline(always)]
+fn has_left_out_type(profile: Profile, blocks: &[Block]) -> bool
+    ensures { result ≡ has_left_out_type profile blocks.now }
 {
-    blocks.iter().any(|b| b.kind().is_left_out_transfer())
+    blocks
+        .iter()
+        .any(|b| b.kind().is_left_out_transfer(profile))
 }
 
 fn any_has_other_target(blocks: &[Block]) -> bool
@@ -148,7 +161,7 @@ fn has_other_target(block: Block) -> bool
     bits(block.w[2], 22, 10) != 0
 }
 
-/// Normal blocks; a Setup Stage; a Data Stage and Normal blocks; a Status Stage; a No Op.
+/// Normal blocks; a Setup Stage; a Data Stage and Normal blocks; a Status Stage; an Isoch and Normal blocks; a No Op.
 fn is_transfer_arrangement(blocks: &[Block]) -> bool
     ensures { result ≡ is_transfer_arrangement blocks.now }
 {
@@ -162,7 +175,7 @@ fn may_begin(first: Block, rest: &[Block]) -> bool
     ensures { result ≡ may_begin (kind first) first rest.now }
 {
     match first.kind() {
-        BlockKind::Normal | BlockKind::DataStage => are_normal(rest),
+        BlockKind::Normal | BlockKind::DataStage | BlockKind::Isoch => are_normal(rest),
         BlockKind::SetupStage => has_setup_data(first) && rest.is_empty(),
         BlockKind::StatusStage | BlockKind::NoOp => rest.is_empty(),
         _ => false,

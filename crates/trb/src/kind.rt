@@ -2,6 +2,7 @@ ghost use Rattle.std.specs.Prelude.{◌≡◌, Some};
 ghost use Rattle.std.specs.Fmt.{padded};
 ghost use Rattle.trb.specs.Kind.{kind_numbered, number_of, kind_name, is_transfer, is_left_out_transfer, is_command, is_left_out_command};
 
+use crate::profile::Profile;
 use std::fmt;
 
 /// The type of a block (xHCI 6.4.6, table 6-91).
@@ -126,11 +127,15 @@ impl BlockKind {
         )
     }
 
-    /// Isochronous and Event Data blocks, which the profile leaves out.
-    pub fn is_left_out_transfer(self) -> bool
-        ensures { result ≡ is_left_out_transfer self }
+    /// The blocks of transfers that a profile leaves out: Event Data, and isochronous ones where it is without them.
+    pub fn is_left_out_transfer(self, profile: Profile) -> bool
+        ensures { result ≡ is_left_out_transfer profile self }
     {
-        matches!(self, BlockKind::Isoch | BlockKind::EventData)
+        match self {
+            BlockKind::Isoch => profile == Profile::WithoutIsoch,
+            BlockKind::EventData => true,
+            _ => false,
+        }
     }
 
     /// The commands of the profile.

@@ -9,15 +9,19 @@ mod descriptor;
 mod fault;
 mod flags;
 mod kind;
+mod profile;
 mod ring_kind;
 
 /// The methods of [`BlockFlags`], as `contains`.
 pub use bitflags::Flags;
 pub use block::Block;
 pub use blocks::Blocks;
-pub use completion_code::{is_halting, is_stopping, is_success, is_trb_error};
-pub use descriptor::{descriptor_fault, is_command_left_out, is_no_command};
+pub use completion_code::{
+    counted_code, is_halting, is_of_service, is_stopping, is_success, is_trb_error,
+};
+pub use descriptor::{descriptor_fault, descriptor_fault_in, is_command_left_out, is_no_command};
 pub use fault::Fault;
 pub use flags::BlockFlags;
 pub use kind::BlockKind;
+pub use profile::Profile;
 pub use ring_kind::RingKind;

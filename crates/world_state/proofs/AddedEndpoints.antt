@@ -1,10 +1,5 @@
 -- The endpoints that an input context adds, one after another
-use Rattle.commands.specs.Changes.{placed_by_context}
-use Rattle.contexts.specs.Contexts.{input_add_flag}
-use Rattle.contexts.specs.declared.size.ContextSize.{ContextSize}
-use Rattle.segments.proofs.Words.{range_with_len, cond-true, cond-false}
-use Rattle.std.proofs.Common.{◌≡◌, ◌+◌, ◌-◌, ◌<◌, ◌∷◌, ℕ, suc, true, false, [], ap, arith}
-use Rattle.world_state.specs.PlacingCommands.{places_from}
+use Rattle.world_state.proofs.Words.{placed_by_context, input_add_flag, ContextSize, range_with_len, cond-true, cond-false, ◌≡◌, ◌+◌, ◌-◌, ◌<◌, ◌∷◌, ℕ, suc, true, false, [], ap, arith, places_from}
 
 module _ (size : ContextSize) (memory : ℕ → ℕ) (s a i : ℕ) where
   range_is : i < 32 → range_with_len i (32 - i) ≡ i ∷ range_with_len (i + 1) (32 - (i + 1))

@@ -1,10 +1,5 @@
 -- When the driver may read an event
-use Rattle.segments.proofs.Words.{cond-true, Block}
-use Rattle.std.proofs.Common.{◌≡◌, ◌+◌, ◌<◌, ◌&&◌, true, Some, None, nat_lt, lt-ltb}
-use Rattle.traces.specs.declared.header.Header.{Header}
-use Rattle.trb.specs.Block.{same_words}
-use Rattle.world_state.specs.DriverRows.{event_read}
-use Rattle.world_state.specs.World.{World, event_at}
+use Rattle.world_state.proofs.Words.{cond-true, Block, ◌≡◌, ◌+◌, ◌<◌, ◌&&◌, true, Some, None, nat_lt, lt-ltb, Header, same_words, event_read, World, event_at}
 
 module _ (h : Header) (w : World) (e : Block) where
   pub read_made : w.reads < w.posted → same_words (event_at h w w.reads) e ≡ true → event_read h w e ≡ Some (record w { reads = w.reads + 1 })

@@ -1,12 +1,5 @@
 -- When the input context of a command under way counts as changed
-use Rattle.std.specs.Prelude.{◌≡◌, ℕ, true, false, [], ◌∷◌, Some, refl}
-use Rattle.guest_memory.specs.Memory.{put}
-use Rattle.contexts.specs.declared.size.ContextSize.TheVariants.{Bytes32}
-use Rattle.traces.specs.declared.version.Version.TheVariants.{One}
-use Rattle.traces.specs.declared.header.Header.{Header}
-use Rattle.world_state.specs.World.{World, UnderWay, opening}
-use Rattle.world_state.specs.Harms.{has_changed_context}
-use Rattle.world_state.specs.OnLiterals.{world_on_literals}
+use Rattle.world_state.proofs.Words.{◌≡◌, ℕ, true, false, [], ◌∷◌, Some, refl, put, Bytes32, One, Header, World, UnderWay, opening, has_changed_context, world_on_literals}
 
 header : Header
 header = record { version = One; context_size = Bytes32; rings = [] }

@@ -1,7 +1,5 @@
 -- The first number of a range that passes a test
-use Rattle.segments.proofs.Words.{range_with_len, cases_lt, cond-true, cond-false, Shape, place_count}
-use Rattle.std.proofs.Common.{◌≡◌, ◌+◌, ◌<◌, ◌≤◌, ◌∙◌, ℕ, zero, suc, Bool, true, false, Some, None, find, unwrap_or, refl, ap, arith, inl, inr}
-use Rattle.world_state.specs.Takes.{first_at, is_place}
+use Rattle.world_state.proofs.Words.{range_with_len, cases_lt, cond-true, cond-false, Shape, place_count, ◌≡◌, ◌+◌, ◌<◌, ◌≤◌, ◌∙◌, ℕ, zero, suc, Bool, true, false, Some, None, find, unwrap_or, refl, ap, arith, inl, inr, first_at, is_place}
 
 find_in_range : (test : ℕ → Bool) (from n q : ℕ) → from ≤ q → q < from + n → test q ≡ true → ((p : ℕ) → from ≤ p → p < q → test p ≡ false) →
     find test (range_with_len from n) ≡ Some q

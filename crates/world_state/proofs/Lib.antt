@@ -6,3 +6,4 @@ pub mod EventsRead
 pub mod EventPlaces
 pub mod AddedEndpoints
 pub mod PlacingCommands
+pub mod Words

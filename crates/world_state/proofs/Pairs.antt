@@ -1,7 +1,5 @@
 -- Functions of two numbers that are set at one pair
-use Rattle.guest_memory.specs.Memory.{put_pair}
-use Rattle.segments.proofs.Words.{cond-true, cond-false}
-use Rattle.std.proofs.Common.{◌≡◌, ◌≢◌, ◌==◌, ◌&&◌, ℕ, ap, refl, Bool, arith, eq-eqb, ne_eqb}
+use Rattle.world_state.proofs.Words.{put_pair, cond-true, cond-false, ◌≡◌, ◌≢◌, ◌==◌, ◌&&◌, ℕ, ap, refl, Bool, arith, eq-eqb, ne_eqb}
 
 pub put_pair_same : {A : Type 0} (f : ℕ → ℕ → A) (s i : ℕ) (x : A) → put_pair f s i x s i ≡ x
 put_pair_same f s i x = cond-true (s == s && i == i) x (f s i) (λ k. eq-eqb s s refl k && eq-eqb i i refl k)

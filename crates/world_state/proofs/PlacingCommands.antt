@@ -1,10 +1,5 @@
 -- A command that a block says is well: its addresses are on 16-byte boundaries, its indices below 32
-use Rattle.commands.specs.Command.{command_by_kind, command_of}
-use Rattle.commands.specs.declared.command.Command.{Command}
-use Rattle.segments.proofs.Words.{Block}
-use Rattle.std.proofs.Common.{rules, ◌≡◌, Some, None, subst, arith}
-use Rattle.trb.specs.declared.kind.BlockKind.{BlockKind}
-use Rattle.world_state.specs.PlacingCommands.{IsWell}
+use Rattle.world_state.proofs.Words.{command_by_kind, command_of, Command, Block, rules, ◌≡◌, Some, None, subst, arith, BlockKind, IsWell}
 
 well : (d c : Command) → Some d ≡ Some c → IsWell d → IsWell c
 well d c e is = subst IsWell (cc) is

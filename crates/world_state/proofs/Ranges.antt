@@ -1,6 +1,5 @@
 -- Whether a number of a range passes a test
-use Rattle.segments.proofs.Words.{list_any, range_with_len, cases_lt}
-use Rattle.std.proofs.Common.{◌≡◌, ◌+◌, ◌<◌, ◌≤◌, ◌||◌, ◌∙◌, ℕ, zero, suc, Bool, true, false, ap, refl, arith, inl, inr}
+use Rattle.world_state.proofs.Words.{list_any, range_with_len, cases_lt, ◌≡◌, ◌+◌, ◌<◌, ◌≤◌, ◌||◌, ◌∙◌, ℕ, zero, suc, Bool, true, false, ap, refl, arith, inl, inr}
 
 or_true : (b : Bool) → (b || true) ≡ true
 or_true b = grind arith

@@ -5,7 +5,7 @@ use Rattle.guest_memory.specs.Memory.{put, put_pair}
 use Rattle.commands.specs.declared.command.Command.{Command}
 use Rattle.commands.specs.declared.state.EndpointState.{EndpointState}
 use Rattle.commands.specs.declared.state.EndpointState.TheVariants.{Disabled as Off, Stopped}
-use Rattle.commands.specs.Changes.{Change, SlotGoesOn, DeviceLeft, Disables, Places, Stops, Resets, changes, slot_gone_on}
+use Rattle.commands.specs.Changes.{Change, SlotGoesOn, DeviceLeft, Types, Disables, Places, Stops, Resets, changes, slot_gone_on}
 use Rattle.traces.specs.declared.header.Header.{Header}
 use Rattle.traces.specs.Header.{is_ring, ring_having}
 use Rattle.world_state.specs.World.{World, Placed}
@@ -47,6 +47,10 @@ disabled w s which = record w {
   is_active = λ r. w.is_active r && not (has_one_of w s which r);
 }
 
+-- of the endpoints of a slot that a test names those are isochronous that another one names
+unfoldable pub typed : World → ℕ → (ℕ → Bool) → (ℕ → Bool) → World
+typed w s which isochronous = record w { isochronous = λ t i. if t == s && which i then isochronous i else w.isochronous t i }
+
 unfoldable pub in_state : World → ℕ → ℕ → EndpointState → World
 in_state w s i state = record w { endpoint_state = put_pair w.endpoint_state s i state }
 
@@ -55,6 +59,7 @@ module _ (h : Header) where
   unfoldable pub changed_by : Command → World → Change → Option World
   changed_by c w (SlotGoesOn s) = Some (record w { slot_state = slot_gone_on c w.slot_state s })
   changed_by c w (DeviceLeft s) = Some (record w { scribbles = put w.scribbles s false })
+  changed_by c w (Types s which isochronous) = Some (typed w s which isochronous)
   changed_by c w (Disables s which) = Some (disabled w s which)
   changed_by c w (Places s i p cycle state) = placed_on w s i p cycle state (ring_having h p)
   changed_by c w (Stops s i) = Some (inactive (in_state w s i Stopped) (w.ring_of s i))

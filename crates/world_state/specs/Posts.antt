@@ -5,7 +5,7 @@ use Rattle.trb.specs.declared.block.Block.{Block}
 use Rattle.trb.specs.Bits.{is_set}
 use Rattle.trb.specs.Block.{word, cycle, kind, pointer, code, slot, endpoint}
 use Rattle.trb.specs.Kind.{is_transfer_event, is_other_event}
-use Rattle.trb.specs.CompletionCode.{is_success, is_halting, is_trb_error, is_stopping}
+use Rattle.trb.specs.CompletionCode.{counted_code, is_success, is_halting, is_of_service, is_trb_error, is_stopping}
 use Rattle.segments.specs.Places.{address_of, cycle_of}
 use Rattle.commands.specs.Command.{command_of, is_stop_of}
 use Rattle.commands.specs.declared.state.EndpointState.{EndpointState}
@@ -14,6 +14,7 @@ use Rattle.commands.specs.States.{is_running}
 use Rattle.event_ring.specs.EventRing.{has_room}
 use Rattle.traces.specs.declared.header.Header.{Header}
 use Rattle.traces.specs.Header.{event_shape, event_size}
+use Rattle.traces.specs.Versions.{has_isoch}
 use Rattle.world_state.specs.World.{World, UnderWay, stored_block}
 use Rattle.world_state.specs.Takes.{unreported}
 
@@ -76,9 +77,16 @@ module _ (h : Header) where
       else if is_stopping c then report_stop w s i r a
       else None
 
+  -- how the code of an event counts
+  unfoldable pub code_posted : World → Block → ℕ
+  code_posted w b = counted_code (has_isoch h.version && w.isochronous (slot b) (endpoint b)) (code b)
+
+  -- one that tells of the service of its endpoint names no block, whatever its words say
   unfoldable pub reported_on : World → Block → Option ℕ → Option World
   reported_on w b None = None
-  reported_on w b (Some r) = report_code (posted w b) (code b) (slot b) (endpoint b) r (pointer b)
+  reported_on w b (Some r) =
+      if has_isoch h.version && is_of_service (code b) then Some (posted w b)
+      else report_code (posted w b) (code_posted w b) (slot b) (endpoint b) r (pointer b)
 
   -- a Transfer Event without Event Data, for an endpoint that has a ring
   unfoldable pub reported : World → Block → Option World

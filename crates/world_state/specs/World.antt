@@ -46,6 +46,8 @@ pub record World : Type 0 where
   pub slot_state : ℕ → SlotState
   pub endpoint_state : ℕ → ℕ → EndpointState
   pub ring_of : ℕ → ℕ → Option ℕ
+  -- the endpoint is isochronous, by the context that added it last
+  pub isochronous : ℕ → ℕ → Bool
   -- by slot: the controller may write its device context
   pub scribbles : ℕ → Bool
   -- by ring ID: the dequeue pointer, the Consumer Cycle State, whether the controller may look at the ring
@@ -78,6 +80,7 @@ opening = record {
   slot_state = λ s. Disabled;
   endpoint_state = λ s i. Off;
   ring_of = λ s i. None;
+  isochronous = λ s i. false;
   scribbles = λ s. false;
   pointer_of = λ r. 0;
   cycle_state = λ r. 0;

@@ -1,5 +1,5 @@
 -- A declaration that was checked, from what was checked of one ring
-use Rattle.driver_rows.proofs.MiddleLaws.{◌≡◌, ◌≢◌, ℕ, ◌<◌, List, true, false, inl, inr, Some, Result, Ok, Err, refl, ap, sym, ◌∙◌, subst, ◌==◌, slice_get, IfErr, OnOk, cases_Bool, Block, RingView, Declares, changed, declared, Ring, Header, Sub, IsHeader, command_id, is_command_kind, is_driver_kind, is_event_kind, RingRecord, FollowsRing, Known, learned, on_ring, unfinished, after_declaration, unfinished_declared, unfinished_same, same_blocks, ring_elsewhere, IsAmong, among_at, ring_found, no_command_here, NotDeclared, first_broken, DriverKeeps, IsDriverRing, StepFault, Refused, Memory, TraceRecord, FollowsTrace, IfRefused, IsLeast, IsRowStep, IsDeclared, room_tests, nothing_broken, command_id_is, command_found, declared_nowhere, declared_on_events, declared_on_ring, followed, here_on, only_on, rings_with, rules}
+use Rattle.driver_rows.proofs.MiddleLaws.{◌≡◌, ◌≢◌, ℕ, ◌<◌, List, true, false, inl, inr, Some, Result, Ok, Err, refl, ap, sym, ◌∙◌, subst, ◌==◌, slice_get, IfErr, OnOk, cases_Bool, Block, RingView, Declares, changed, declared, Ring, Header, Sub, IsHeader, command_id, is_command_kind, is_driver_kind, is_event_kind, profile_of, Profile, RingRecord, FollowsRing, Known, learned, on_ring, unfinished, after_declaration, unfinished_declared, unfinished_same, same_blocks, ring_elsewhere, IsAmong, among_at, ring_found, no_command_here, NotDeclared, first_broken, DriverKeeps, IsDriverRing, StepFault, Refused, Memory, TraceRecord, FollowsTrace, IfRefused, IsLeast, IsRowStep, IsDeclared, room_tests, nothing_broken, command_id_is, command_found, declared_nowhere, declared_on_events, declared_on_ring, followed, here_on, only_on, rings_with, rules}
 use Rattle.driver_rows.proofs.RingRows.OneRing.{with_record}
 
 module _ (h : Header) (headed : IsHeader h) (id : ℕ) (blocks : List Block) where
@@ -43,21 +43,26 @@ module _ (h : Header) (headed : IsHeader h) (id : ℕ) (blocks : List Block) whe
             (rings_with h headed k after kept.rings.items f.rings n ring at (only_on h headed k n ring at (Declares blocks)) new (λ kind. subst (λ (v : RingView). FollowsRing ring.shape v new) (sym (here_on h headed k n ring at (Declares blocks))) noted))
             (after_declaration h k kept.devices f.devices ring.id blocks)
 
-        step : DriverKeeps h k → k.stopped ≡ false → (new : RingRecord) → IsDeclared ring.shape (k.ring ring.id) blocks new → IsRowStep h k (Sub ring.id blocks) (with_record kept n new) m
+        step : DriverKeeps h k → k.stopped ≡ false → (new : RingRecord) → IsDeclared (profile_of h.version) ring.shape (k.ring ring.id) blocks new → IsRowStep h k (Sub ring.id blocks) (with_record kept n new) m
         unfolding learned after
         step keeps on new s =
             record { clean = nothing_broken _ (declared_on_ring h k on ring.id blocks headed ring among refl driver ∙ s.clean); followed = followed_after keeps new s.followed }
 
-      pub declared_ok : {X : Type 0} (new : RingRecord) (result : Result X StepFault) → OnOk result ((v : RingView) → FollowsRing ring.shape v old → IsDeclared ring.shape v blocks new) →
-          OnOk result ((k : Known) (m : ℕ → ℕ) → FollowsTrace h k kept m → DriverKeeps h k → k.stopped ≡ false → IsRowStep h k (Sub id blocks) (with_record kept n new) m)
-      declared_ok new (Ok x) checked = λ k m f keeps on.
-          subst (λ (i : ℕ). IsRowStep h k (Sub i blocks) (with_record kept n new) m) named (step k m f keeps on new (checked (k.ring ring.id) (f.rings.each n ring old at there driver)))
-      declared_ok new (Err e) checked = checked
+      module _ (profile : Profile) (by_version : profile ≡ profile_of h.version) where
+        pub declared_ok : {X : Type 0} (new : RingRecord) (result : Result X StepFault) →
+            OnOk result ((v : RingView) → FollowsRing ring.shape v old → IsDeclared profile ring.shape v blocks new) →
+            OnOk result ((k : Known) (m : ℕ → ℕ) → FollowsTrace h k kept m → DriverKeeps h k → k.stopped ≡ false → IsRowStep h k (Sub id blocks) (with_record kept n new) m)
+        declared_ok new (Ok x) checked = λ k m f keeps on.
+            subst (λ (i : ℕ). IsRowStep h k (Sub i blocks) (with_record kept n new) m) named
+            (step k m f keeps on new
+            (subst (λ (p : Profile). IsDeclared p ring.shape (k.ring ring.id) blocks new) by_version (checked (k.ring ring.id) (f.rings.each n ring old at there driver))))
+        declared_ok new (Err e) checked = checked
 
-      pub declared_bad : {X : Type 0} (result : Result X StepFault) →
-          IfErr result (λ e. IfRefused e (λ c. (v : RingView) → FollowsRing ring.shape v old → first_broken (room_tests ring.shape v blocks) ≡ Some c)) →
-          IfErr result (λ e. IfRefused e (λ c. (k : Known) (m : ℕ → ℕ) → FollowsTrace h k kept m → k.stopped ≡ false → IsLeast h k (Sub id blocks) c))
-      declared_bad (Ok x) breaks = breaks
-      declared_bad (Err (Refused c)) breaks = λ k m f on.
-          declared_on_ring h k on id blocks headed ring among named driver ∙ breaks (k.ring ring.id) (f.rings.each n ring old at there driver)
-      declared_bad (Err Memory) breaks = breaks
+        pub declared_bad : {X : Type 0} (result : Result X StepFault) →
+            IfErr result (λ e. IfRefused e (λ c. (v : RingView) → FollowsRing ring.shape v old → first_broken (room_tests profile ring.shape v blocks) ≡ Some c)) →
+            IfErr result (λ e. IfRefused e (λ c. (k : Known) (m : ℕ → ℕ) → FollowsTrace h k kept m → k.stopped ≡ false → IsLeast h k (Sub id blocks) c))
+        declared_bad (Ok x) breaks = breaks
+        declared_bad (Err (Refused c)) breaks = λ k m f on.
+            declared_on_ring h k on id blocks headed ring among named driver
+            ∙ subst (λ (p : Profile). first_broken (room_tests p ring.shape (k.ring ring.id) blocks) ≡ Some c) by_version (breaks (k.ring ring.id) (f.rings.each n ring old at there driver))
+        declared_bad (Err Memory) breaks = breaks

@@ -1,5 +1,5 @@
 -- Which rules a write breaks
-use Rattle.driver_rows.proofs.LowerLaws.{rules, ◌≡◌, ℕ, ◌%◌, ◌&&◌, not, List, [], ◌∷◌, Bool, true, false, Option, None, Some, refl, ap, ◌∙◌, ◌||◌, list_any, touches, positions_given, crossings_given, is_other_than_declared, is_not_declared, is_not_whole, leads_wrong, interrupts, Ring, Header, Write, IsHeader, is_driver_kind, is_event_kind, shape_of, is_three, Command, Known, command_given, positions_of, crossings_of, RingGiving, Position, WriteToOwned, NotAsSubmitted, NotDeclared, NotWhole, LinkFault, BadCommand, Busy, NotInProfile, BadMove, Test, first_of, first_broken, is_the_controllers, has_busy_slot, has_left_out_endpoint, older, places_badly, stricter, writes_to_owned, write_tests, changes_owned, some_given, some_crossed, some_command, holds_of, on_position, on_crossing, broken, lenient_tests, tests, IsLeast, or_left, or_right, or_false, any_append, any_map, any_nowhere, IsAmong, shape_there, GivesOnPosition, given_tests, first_broken-is, given_by_one, given_nowhere, owned_in_events, or_assoc}
+use Rattle.driver_rows.proofs.LowerLaws.{rules, ◌≡◌, ℕ, ◌%◌, ◌&&◌, not, List, [], ◌∷◌, Bool, true, false, Option, None, Some, refl, ap, ◌∙◌, ◌||◌, list_any, touches, positions_given, crossings_given, is_other_than_declared, is_not_declared, is_not_whole, leads_wrong, interrupts, Ring, Header, Write, IsHeader, is_driver_kind, is_event_kind, shape_of, is_lenient, Command, Known, command_given, positions_of, crossings_of, RingGiving, Position, WriteToOwned, NotAsSubmitted, NotDeclared, NotWhole, LinkFault, BadCommand, Busy, NotInProfile, BadMove, Test, first_of, first_broken, is_the_controllers, has_busy_slot, has_left_out_endpoint, older, places_badly, stricter, writes_to_owned, write_tests, changes_owned, some_given, some_crossed, some_command, holds_of, on_position, on_crossing, broken, lenient_tests, tests, IsLeast, or_left, or_right, or_false, any_append, any_map, any_nowhere, IsAmong, shape_there, GivesOnPosition, given_tests, first_broken-is, given_by_one, given_nowhere, owned_in_events, or_assoc}
 use Rattle.ring_knowledge.specs.Rings as rings
 use Rattle.ownership_rules.specs.Commands as commands
 use Rattle.ownership_rules.specs.Moves as moves
@@ -58,19 +58,19 @@ module _ (h : Header) (headed : IsHeader h) (k : Known) (on : k.stopped ≡ fals
 
   -- the rule on commands of one slot, as the trace's version has it
   busy_is : (c : Option Command) (given crossed : Bool) →
-      ((holds_of (commands.shares_slot h k) c && not (is_three h.version)) || (holds_of (commands.is_busy h k) c || given || crossed)) ≡ (holds_of (has_busy_slot h k) c || given || crossed)
+      ((holds_of (commands.shares_slot h k) c && not (is_lenient h.version)) || (holds_of (commands.is_busy h k) c || given || crossed)) ≡ (holds_of (has_busy_slot h k) c || given || crossed)
   unfolding holds_of has_busy_slot
   busy_is c given crossed = search (rules, or_assoc)
 
   -- and that on left-out endpoints
   left_out_is : (c : Option Command) (later : Bool) →
-      ((holds_of (commands.adds_isochronous h k) c && not (is_three h.version)) || (holds_of (commands.adds_streams h k) c || later)) ≡ (holds_of (has_left_out_endpoint h k) c || later)
+      ((holds_of (commands.adds_isochronous h k) c && not (is_lenient h.version)) || (holds_of (commands.adds_streams h k) c || later)) ≡ (holds_of (has_left_out_endpoint h k) c || later)
   unfolding holds_of has_left_out_endpoint
   left_out_is c later = search (rules, or_assoc)
 
   -- and that on bindings
   badly_placed_is : (c : Option Command) →
-      ((holds_of (moves.binds_again h k) c && not (is_three h.version)) || holds_of (λ d. moves.is_bad_binding h k d || moves.is_bad_move h k d) c) ≡ holds_of (places_badly h k) c
+      ((holds_of (moves.binds_again h k) c && not (is_lenient h.version)) || holds_of (λ d. moves.is_bad_binding h k d || moves.is_bad_move h k d) c) ≡ holds_of (places_badly h k) c
   unfolding holds_of places_badly
   badly_placed_is c = search (rules, or_assoc)
 

@@ -1,5 +1,5 @@
 -- A register write that was checked
-use Rattle.driver_rows.proofs.Words.{rules, ◌≡◌, ℕ, ◌-◌, [], ◌∷◌, Bool, true, false, Option, None, Some, refl, ap, sym, ◌∙◌, subst, not, is_some, ◌&&◌, ◌||◌, filter_map, RingView, is_off, device_context_bytes, input_context_bytes, EventState, is_event_place, is_reached_within, erdp_address, Header, Register, Erdp, Reg, event_ring, event_shape, RegisterRecord, FollowsRegisters, FollowsRing, Known, learned, register_written, run_or_stop, valued, unfinished, FollowsDevices, FollowsUnfinished, after_register, unfinished_register, HoldsAreas, HoldsSoiled, BadRegister, BadErdp, first_of, first_broken, older, stricter, is_three, no_place_stays, event_place, broken, lenient_tests, tests, register_tests, is_bad_register, is_bad_erdp, may_pass, names_no_place, slots, TraceRecord, FollowsEvents, FollowsTrace, device_contexts, inputs_of, IsSetUp, IsLeast, IsRowStep, IsMoved, binds_same, bound_same, first_broken-is, nothing_broken}
+use Rattle.driver_rows.proofs.Words.{rules, ◌≡◌, ℕ, ◌-◌, [], ◌∷◌, Bool, true, false, Option, None, Some, refl, ap, sym, ◌∙◌, subst, not, is_some, ◌&&◌, ◌||◌, filter_map, RingView, is_off, device_context_bytes, input_context_bytes, EventState, is_event_place, is_reached_within, erdp_address, Header, Register, Erdp, Reg, event_ring, event_shape, RegisterRecord, FollowsRegisters, FollowsRing, Known, learned, register_written, run_or_stop, valued, unfinished, FollowsDevices, FollowsUnfinished, after_register, unfinished_register, HoldsAreas, HoldsSoiled, BadRegister, BadErdp, first_of, first_broken, older, stricter, is_lenient, no_place_stays, event_place, broken, lenient_tests, tests, register_tests, is_bad_register, is_bad_erdp, may_pass, names_no_place, slots, TraceRecord, FollowsEvents, FollowsTrace, device_contexts, inputs_of, IsSetUp, IsLeast, IsRowStep, IsMoved, binds_same, bound_same, first_broken-is, nothing_broken}
 
 -- all else stays as it was
 pub record IsElsewhereSame (k l : Known) : Type 0 where
@@ -105,13 +105,13 @@ module _ (h : Header) (k : Known) (v : ℕ) where
       (((not started && some && not place) && not three) || (not (not started && some && not place) && not within)) ≡ not (within || (three && (not started && (some && not place))))
   by_tests started some place within three e = search rules
 
-  pub passed_is : IsSetUp h k → passed h Erdp v k ≡ not (reached || (is_three h.version && (not k.started && no_place)))
+  pub passed_is : IsSetUp h k → passed h Erdp v k ≡ not (reached || (is_lenient h.version && (not k.started && no_place)))
   unfolding stricter older is_bad_erdp names_no_place
   passed_is s =
-      ap (λ n. ((not k.started && is_some (event_ring h) && not (is_event_place (event_shape h) (erdp_address v))) && not (is_three h.version))
+      ap (λ n. ((not k.started && is_some (event_ring h) && not (is_event_place (event_shape h) (erdp_address v))) && not (is_lenient h.version))
       || (not (not k.started && is_some (event_ring h) && not (is_event_place (event_shape h) (erdp_address v))) && not (is_reached_within (event_shape h) k.dequeue n (erdp_address v))))
       (may_is h k s k.started refl)
-      ∙ by_tests k.started (is_some (event_ring h)) (is_event_place (event_shape h) (erdp_address v)) reached (is_three h.version) reached_place
+      ∙ by_tests k.started (is_some (event_ring h)) (is_event_place (event_shape h) (erdp_address v)) reached (is_lenient h.version) reached_place
 
 -- a value that names no event place moves nothing
 pub stays_follows : (h : Header) (k : Known) (r : Register) (v : ℕ) (o : Option EventState) → r ≡ Erdp → is_event_place (event_shape h) (erdp_address v) ≡ false → FollowsEvents h k o →

@@ -1,10 +1,6 @@
 -- What a ring that comes or goes, or a descriptor that is withdrawn, keeps: all rules where it breaks none
-use Rattle.driver_rows.proofs.LowerLaws.{◌≡◌, ℕ, false, refl, Header, Known, Ring, is_bad_free, is_bad_ring, is_bad_withdraw, restored_on}
-use Rattle.traces.specs.declared.row.Row.TheVariants.{Ring as RingRow, Free as FreeRow, Nop as NopRow}
-use Rattle.ring_knowledge.specs.Histories.{ring_restored}
-use Rattle.ownership_rules.specs.Rules.{lenient, lenient_tests}
-use Rattle.ownership_rules.specs.Withdrawals.{is_left, some_flips}
-use Rattle.safety.specs.RingChanges.Histories.{IsKept}
+use Rattle.driver_rows.proofs.Words.{◌≡◌, ℕ, false, refl, Header, Known, Ring, is_bad_free, is_bad_ring, is_bad_withdraw, restored_on, RingRow, FreeRow, NopRow, ring_restored, lenient, lenient_tests, some_flips, IsKept}
+use Rattle.ownership_rules.specs.Withdrawals.{is_left}
 
 module _ (h : Header) (k : Known) (on : k.stopped ≡ false) where
   pub coming_kept : (ring : Ring) → is_bad_ring h k ring ≡ false → IsKept h k (RingRow ring)

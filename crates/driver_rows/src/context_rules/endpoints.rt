@@ -2,7 +2,7 @@ ghost use Rattle.std.specs.Prelude.{◌≡◌, ◌+◌, ◌%◌, ◌^◌, ◌<�
 ghost use Rattle.contexts.specs.Contexts.{input_context_bytes, is_isochronous};
 ghost use Rattle.ring_knowledge.specs.Known.{Known};
 ghost use Rattle.ownership_rules.specs.Older.{has_left_out_endpoint};
-ghost use Rattle.traces.specs.Versions.{is_three};
+ghost use Rattle.traces.specs.Versions.{is_lenient};
 ghost use Rattle.trace_record.specs.Premises.{FitsMemory};
 ghost use Rattle.driver_rows.specs.ContextRules.Contents.{adds_left_out, is_left_out_by, is_left_out_in};
 
@@ -17,7 +17,7 @@ pub fn has_left_out_endpoint<M: WordMemory>(header: &Header, memory: &M, command
     requires { FitsMemory header.now.context_size command.now }
     ensures { (k : Known) → ((a : ℕ) → k.memory a ≡ M.words memory.now a) → result ≡ has_left_out_endpoint header.now k command.now }
 {
-    is_left_out_by(!header.version.is_three(), header, memory, command)
+    is_left_out_by(!header.version.is_lenient(), header, memory, command)
 }
 
 /// As `has_left_out_endpoint`; the contract sees the words of memory.

@@ -40,5 +40,6 @@ pub fn check_declaration(
     if is_event_ring(ring) {
         return Err(StepFault::Refused(Refusal::NotDeclared));
     }
-    declare_on(&ring.shape, &mut kept.rings[number], blocks)
+    let profile = header.version.profile();
+    declare_on(profile, &ring.shape, &mut kept.rings[number], blocks)
 }

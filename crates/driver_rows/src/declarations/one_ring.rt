@@ -9,20 +9,21 @@ use ownership_rules::Refusal;
 use ring_knowledge::RingRecord;
 use segments::RingShape;
 use trace_record::StepFault;
-use trb::{Block, Fault, RingKind, descriptor_fault};
+use trb::{Block, Fault, Profile, RingKind, descriptor_fault_in};
 
-/// Checks a declaration on a ring, and notes it.
+/// Checks a declaration on a ring by a profile, and notes it.
 #[inline(always)]
 pub fn declare_on(
+    profile: Profile,
     shape: &RingShape,
     known: &mut RingRecord,
     blocks: &[Block],
 ) -> Result<(), StepFault>
-    ensures ok { OnOk result ((v : RingView) → FollowsRing shape.now v known.old → IsDeclared shape.now v blocks.now known.new) }
+    ensures ok { OnOk result ((v : RingView) → FollowsRing shape.now v known.old → IsDeclared profile shape.now v blocks.now known.new) }
     ensures refused { IfErr result (λ e. IfRefused e (λ c. (v : RingView) → FollowsRing shape.now v known.old →
-        first_broken (room_tests shape.now v blocks.now) ≡ Some c)) }
+        first_broken (room_tests profile shape.now v blocks.now) ≡ Some c)) }
 {
-    if let Some(refusal) = declaration_refusal(shape, known, blocks) {
+    if let Some(refusal) = declaration_refusal(profile, shape, known, blocks) {
         return Err(StepFault::Refused(refusal));
     }
     known.declare(blocks)?;
@@ -31,24 +32,29 @@ pub fn declare_on(
 
 /// Which rule a declaration breaks first.
 #[inline(always)]
-fn declaration_refusal(shape: &RingShape, known: &RingRecord, blocks: &[Block]) -> Option<Refusal>
-    ensures first { (v : RingView) → FollowsRing shape.now v known.now → result ≡ first_broken (room_tests shape.now v blocks.now) }
+fn declaration_refusal(
+    profile: Profile,
+    shape: &RingShape,
+    known: &RingRecord,
+    blocks: &[Block],
+) -> Option<Refusal>
+    ensures first { (v : RingView) → FollowsRing shape.now v known.now → result ≡ first_broken (room_tests profile shape.now v blocks.now) }
     ensures some { IfNone result (0 < length blocks.now) }
     ensures few { IfNone result (length blocks.now ≤ 256) }
 {
     if !known.has_room(shape, blocks.len()) {
         return Some(Refusal::RingFull);
     }
-    form_refusal(shape.kind(), blocks)
+    form_refusal(profile, shape.kind(), blocks)
 }
 
 /// Which rule of forms these blocks break first.
-fn form_refusal(kind: RingKind, blocks: &[Block]) -> Option<Refusal>
-    ensures first { result ≡ first_broken (form_tests kind blocks.now) }
+fn form_refusal(profile: Profile, kind: RingKind, blocks: &[Block]) -> Option<Refusal>
+    ensures first { result ≡ first_broken (form_tests profile kind blocks.now) }
     ensures some { IfNone result (0 < length blocks.now) }
     ensures few { IfNone result (length blocks.now ≤ 256) }
 {
-    match descriptor_fault(kind, blocks) {
+    match descriptor_fault_in(profile, kind, blocks) {
         Some(Fault::BadDescriptor) => Some(Refusal::BadDescriptor),
         Some(Fault::NotInProfile) => Some(Refusal::NotInProfile),
         None => None,

@@ -81,11 +81,11 @@ fn withdraw_on(
     Ok(())
 }
 
-/// Whether a position lies below the ceiling, by version 3 below the floor.
+/// Whether a position lies below the ceiling, from version 3 on below the floor.
 fn is_passed(header: &Header, known: &RingRecord, position: u64) -> bool
     ensures { (shape : Shape) (v : RingView) → FollowsRing shape v known.now → result ≡ is_passed header.now shape v position }
 {
-    if header.version.is_three() {
+    if header.version.is_lenient() {
         return position < known.floor_number();
     }
     position < known.ceiling()

@@ -6,7 +6,7 @@ ghost use Rattle.traces.specs.Header.{IsHeader, is_command_kind};
 ghost use Rattle.ring_knowledge.specs.Known.{Known};
 ghost use Rattle.ring_knowledge.specs.RingRecords.{positions_of};
 ghost use Rattle.trace_record.specs.RingFinder.Finding.{IsFinder};
-ghost use Rattle.traces.specs.Versions.{is_three};
+ghost use Rattle.traces.specs.Versions.{is_lenient};
 ghost use Rattle.ownership_rules.specs.Moves.{binds_again};
 ghost use Rattle.ownership_rules.specs.Older.{has_busy_slot, places_badly};
 ghost use Rattle.ownership_rules.specs.Refusal.{first_broken};
@@ -77,7 +77,7 @@ fn has_busy_slot(header: &Header, t: &TraceRecord, command: &Command) -> bool
     if t.commands.is_busy(command) {
         return true;
     }
-    !header.version.is_three() && t.commands.shares_slot(command)
+    !header.version.is_lenient() && t.commands.shares_slot(command)
 }
 
 /// Whether the command binds or moves a ring to where it may not be, or binds one again where the trace's version refuses that.
@@ -111,7 +111,7 @@ fn is_bound_again<M: WordMemory>(
     requires headed { IsHeader header.now }
     requires found { IsFinder header.now.rings finder.now }
     ensures { (k : Known) → FollowsTrace header.now k t.now (M.words memory.now) → FitsMemory header.now.context_size command.now →
-        result ≡ (binds_again header.now k command.now && not (is_three header.now.version)) }
+        result ≡ (binds_again header.now k command.now && not (is_lenient header.now.version)) }
 {
-    !header.version.is_three() && binds_again(header, finder, &t.devices, memory, command)
+    !header.version.is_lenient() && binds_again(header, finder, &t.devices, memory, command)
 }

@@ -51,9 +51,7 @@ module _ (h : Header) (headed : IsHeader h) (k : Known) (rs : List RingRecord) (
         ((shape : Shape) (v : RingView) → FollowsRing shape v old → FollowsRing shape (changed shape v (Holds (ceiling shape v))) new) →
         FollowsRings h (held_at_ceiling h k o) (slice_set rs n new)
     held_with None e step = absurd (cc)
-    held_with (Some r) e step =
-        let found = found_at (λ q. q.id == r) h.rings n e in
-        at_ceiling n r e found.0 found.1 old there new (λ v follows. step found.0.shape v follows)
+    held_with (Some r) e step = search (rules, found_at, at_ceiling, found_at (λ q. q.id == r) h.rings n e)
 
 -- the command ring, behind its next command
 module _ (h : Header) (headed : IsHeader h) (k : Known) (rs : List RingRecord) (f : FollowsRings h k rs) (n : ℕ) (ring : Ring) (at : slice_get h.rings n ≡ Some ring)
@@ -83,6 +81,4 @@ module _ (h : Header) (headed : IsHeader h) (k : Known) (rs : List RingRecord) (
       grind (arith, shape_is, FollowsRing)
 
   pub passed_with : FollowsRings h (on_ring h k (command_id h) (Reaches (after (shape_of h (command_id h)) (next_command h k)))) (slice_set rs n new)
-  passed_with =
-      rings_with h headed k (on_ring h k (command_id h) (Reaches (after (shape_of h (command_id h)) (next_command h k)))) (command_id h) (behind (shape_of h (command_id h))) on_command rs f n ring at id_is new
-      (λ _. subst (λ shape. FollowsRing ring.shape (behind shape) new) (sym shape_is) stepped)
+  passed_with = search (rules, rings_with, on_ring, command_id, after, shape_of, next_command, on_command, id_is, shape_is, stepped)

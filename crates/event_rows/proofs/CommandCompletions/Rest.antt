@@ -1,5 +1,5 @@
 -- What the end of a command leaves as it is, and which device contexts are let go
-use Rattle.event_rows.proofs.Words.{rules, ◌≡◌, ◌==◌, if◌then◌else◌, ◌∷◌, ℕ, Bool, List, [], Option, Some, None, ap, refl, map, put, Block, code, slot, Spot, ContextSize, Command, DisableSlot, Change, DeviceLeft, changes, placed_by_context, Header, Known, on_ring, set_to, bound_to, moved_to, moved, pointed, disabled, in_state, held_at_ceiling, changed_by, changed_by_all, succeeded, stop_ended, finished}
+use Rattle.event_rows.proofs.Words.{rules, ◌≡◌, ◌==◌, if◌then◌else◌, ◌∷◌, ℕ, Bool, List, [], Option, Some, None, ap, refl, map, put, Block, code, slot, Spot, ContextSize, Command, DisableSlot, Change, DeviceLeft, changes, placed_by_context, Header, Known, on_ring, set_to, bound_to, moved_to, moved, pointed, typed, disabled, in_state, held_at_ceiling, changed_by, changed_by_all, succeeded, stop_ended, finished}
 
 -- the device contexts behind a change, and behind a list of changes
 abbrev pub device_by : Change → (ℕ → Option ℕ) → ℕ → Option ℕ
@@ -41,7 +41,7 @@ module _ (h : Header) where
   bound_rest k s i o p cycle = search (rules, rest_same, moved_rest)
 
   change_rest : (c : Command) (k : Known) (change : Change) → IsRest k (changed_by h c k change) (device_by change k.device)
-  unfolding changed_by disabled in_state pointed held_at_ceiling on_ring
+  unfolding changed_by typed disabled in_state pointed held_at_ceiling on_ring
   change_rest c k change = search (rules, bound_rest, moved_rest, rest_same)
 
   changes_rest : (c : Command) (k : Known) (all : List Change) → IsRest k (changed_by_all h c k all) (devices_by all k.device)

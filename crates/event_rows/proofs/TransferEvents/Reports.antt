@@ -1,5 +1,5 @@
 -- Where a controller can have posted a Transfer Event
-use Rattle.event_rows.proofs.Words.{rules, ◌≡◌, ℕ, Bool, true, false, Option, Some, None, refl, ap, sym, ◌∙◌, subst, inl, inr, ◌==◌, ◌&&◌, ◌||◌, not, slice_get, position, nat_lt, is_some, option_and_then, if◌then◌else◌, option_map, cases_Bool, eqb-true, false≢true, same_Some, none-some, Block, code, endpoint, pointer, slot, is_success, is_halting, is_trb_error, Spot, ceiling, is_data_below, is_stop_spot, named, RingView, floor_number, IsSpot, ceiling_held, command_of, is_stop_of, is_off, RingKind, Ring, Header, Crcr, IsHeader, command_id, is_command_kind, is_driver_kind, is_transfer_kind, shape_of, Known, RingRecord, FollowsRing, TraceRecord, FollowsTrace, RingSpot, command_at, event_at, next_command, spot_on, IsAmong, among_at, find_some, no_command_here, ring_found, shape_there, can_report, can_report_at, is_impossible_transfer, is_in_profile, is_stopping_now, is_working, may_be_taken, DriverKeeps, IsDriverRing, IsTransferRing, number_of, found_at, none_found, command_found, command_id_is, nat_tests}
+use Rattle.event_rows.proofs.Words.{arith, rules, ◌≡◌, ℕ, Bool, true, false, Option, Some, None, refl, ap, sym, ◌∙◌, subst, inl, inr, ◌==◌, ◌&&◌, ◌||◌, not, slice_get, position, nat_lt, is_some, option_and_then, if◌then◌else◌, option_map, cases_Bool, eqb-true, false≢true, same_Some, none-some, Block, code, endpoint, pointer, slot, is_success, is_halting, is_trb_error, Spot, ceiling, is_data_below, is_stop_spot, named, RingView, floor_number, IsSpot, ceiling_held, command_of, is_stop_of, is_off, RingKind, Ring, Header, Crcr, IsHeader, command_id, is_command_kind, is_driver_kind, is_transfer_kind, shape_of, Known, RingRecord, FollowsRing, TraceRecord, FollowsTrace, RingSpot, command_at, event_at, next_command, spot_on, IsAmong, among_at, find_some, no_command_here, ring_found, shape_there, can_report, can_report_at, is_impossible_transfer, is_in_profile, is_stopping_now, is_working, may_be_taken, DriverKeeps, IsDriverRing, IsTransferRing, number_of, found_at, none_found, command_found, command_id_is, nat_tests, is_stopping, is_of_service, code_told}
 
 pub driven : (kind : RingKind) → is_transfer_kind kind ≡ true → is_driver_kind kind ≡ true
 driven kind e = search rules
@@ -9,6 +9,11 @@ commanded kind e = search rules
 
 no_command : (kind : RingKind) → is_transfer_kind kind ≡ true → is_command_kind kind ≡ false
 no_command kind e = search rules
+
+-- what is asked of a report, in the order in which it is asked
+in_order : (success below working failure stopping now spot : Bool) → (if success then below else if failure then below && working else stopping && (working && now && spot)) ≡
+    (if success then below else if not working then false else if failure then below else if not stopping then false else if not now then false else spot)
+in_order success below working failure stopping now spot = grind arith
 
 module _ (h : Header) (headed : IsHeader h) (k : Known) (keeps : DriverKeeps h k) where
   -- ---- the ring of an endpoint
@@ -44,14 +49,19 @@ module _ (h : Header) (headed : IsHeader h) (k : Known) (keeps : DriverKeeps h k
             absurd (false≢true (sym (none_found (λ ring. ring.id == r) h.rings (sym e) known.ring found.0) ∙ found.1))
 
   module _ (b : Block) where
+    -- one that tells of the service of its endpoint names none, nor does one whose endpoint has no ring
+    pub served : is_of_service (code b) ≡ true → event_at h k b ≡ None
+    unfolding event_at
+    served serves = rw serves refl
+
     pub none_named : k.ring_of (slot b) (endpoint b) ≡ None → event_at h k b ≡ None
     unfolding event_at spot_on
-    none_named none = ap (λ o. spot_on h k (pointer b) o) none
+    none_named none = search rules
 
-    pub named_on : (ring : Ring) → IsAmong ring h.rings → k.ring_of (slot b) (endpoint b) ≡ Some ring.id → (o : Option Spot) → o ≡ named ring.shape (k.ring ring.id) (pointer b) →
+    pub named_on : is_of_service (code b) ≡ false → (ring : Ring) → IsAmong ring h.rings → k.ring_of (slot b) (endpoint b) ≡ Some ring.id → (o : Option Spot) → o ≡ named ring.shape (k.ring ring.id) (pointer b) →
         event_at h k b ≡ option_map (λ t. let x : RingSpot = record { ring = ring.id; spot = t } in x) o
     unfolding event_at spot_on
-    named_on ring among has o is = search (rules, shape_there)
+    named_on other ring among has o is = search (rules, shape_there)
 
   pub transfer_driver : (ring : Ring) → IsAmong ring h.rings → is_transfer_kind ring.shape.kind ≡ true → IsDriverRing h ring.id
   transfer_driver ring among transfer = record { ring = ring; found = ring_found h headed ring among; kind = driven ring.shape.kind transfer }
@@ -65,16 +75,14 @@ module _ (h : Header) (headed : IsHeader h) (k : Known) (keeps : DriverKeeps h k
     its_record known at = f.rings.each n its_ring.ring known its_ring.at at (driven its_ring.ring.shape.kind its_ring.transfer)
 
     its_floor : IsSpot its_ring.ring.shape (k.ring its_ring.ring.id).floor
-    its_floor =
-        let among = among_at h.rings n its_ring.ring its_ring.at in
-        subst (λ s. IsSpot s (k.ring its_ring.ring.id).floor) (shape_there h headed its_ring.ring among) (keeps.rings its_ring.ring.id (transfer_driver its_ring.ring among its_ring.transfer)).is_spot
+    its_floor = grind (arith, among_at, shape_there, transfer_driver, among_at h.rings n its_ring.ring its_ring.at)
 
-    pub named_by : (q : Ring) (known : RingRecord) (a : ℕ) (o : Option Spot) → slice_get h.rings n ≡ Some q → slice_get t.rings.items n ≡ Some known → a ≡ pointer b →
+    pub named_by : is_of_service (code b) ≡ false → (q : Ring) (known : RingRecord) (a : ℕ) (o : Option Spot) → slice_get h.rings n ≡ Some q → slice_get t.rings.items n ≡ Some known → a ≡ pointer b →
         ((v : RingView) → FollowsRing q.shape v known → IsSpot q.shape v.floor → o ≡ named q.shape v a) →
         event_at h k b ≡ option_map (λ t. let x : RingSpot = record { ring = its_ring.ring.id; spot = t } in x) o
-    named_by q known a o here at pointed value =
+    named_by other q known a o here at pointed value =
         let same : its_ring.ring ≡ q = same_Some its_ring.ring q (sym its_ring.at ∙ here) in
-        named_on b its_ring.ring (among_at h.rings n its_ring.ring its_ring.at) its_ring.has o
+        named_on b other its_ring.ring (among_at h.rings n its_ring.ring its_ring.at) its_ring.has o
         (subst (λ (x : Ring). ((v : RingView) → FollowsRing x.shape v known → IsSpot x.shape v.floor → o ≡ named x.shape v a)) (sym same) value (k.ring its_ring.ring.id) (its_record known at) its_floor
         ∙ ap (λ x. named its_ring.ring.shape (k.ring its_ring.ring.id) x) pointed)
 
@@ -117,15 +125,16 @@ module _ (h : Header) (headed : IsHeader h) (k : Known) (keeps : DriverKeeps h k
     below = is_data_below (ceiling (shape_of h r) (k.ring r)) t
 
     pub report_is : can_report h k c s i r t ≡
-        (if is_success c then below else if not (is_working k s i r) then false else if is_halting c || is_trb_error c then below else if not (is_stopping_now h k s i) then false else is_stop_spot (shape_of h r) (k.ring r) t)
+        (if is_success c then below else if not (is_working k s i r) then false else if is_halting c || is_trb_error c then below else if not (is_stopping c) then false
+        else if not (is_stopping_now h k s i) then false else is_stop_spot (shape_of h r) (k.ring r) t)
     unfolding can_report
-    report_is = search rules
+    report_is = in_order (is_success c) below (is_working k s i r) (is_halting c || is_trb_error c) (is_stopping c) (is_stopping_now h k s i) (is_stop_spot (shape_of h r) (k.ring r) t)
 
-  pub reported_at : (b : Block) (r : ℕ) (t : Spot) (o : Option RingSpot) → o ≡ Some (record { ring = r; spot = t }) → can_report_at h k b o ≡ can_report h k (code b) (slot b) (endpoint b) r t
+  pub reported_at : (b : Block) (r : ℕ) (t : Spot) (o : Option RingSpot) → o ≡ Some (record { ring = r; spot = t }) → can_report_at h k b o ≡ can_report h k (code_told h k b) (slot b) (endpoint b) r t
   unfolding can_report_at
   reported_at b r t o some = ap (λ p. can_report_at h k b p) some
 
   module _ (b : Block) where
-    pub left_out : is_in_profile b ≡ false → is_impossible_transfer h k b ≡ false
+    pub left_out : is_in_profile h k b ≡ false → is_impossible_transfer h k b ≡ false
     unfolding is_impossible_transfer
     left_out out = ap (λ p. p && (is_off (k.endpoint_state (slot b) (endpoint b)) || not (can_report_at h k b (event_at h k b)))) out

@@ -5,7 +5,7 @@ use Rattle.trb.specs.Block.{code, slot}
 use Rattle.segments.specs.RingView.{declared}
 use Rattle.segments.specs.Ceiling.{given_count}
 use Rattle.commands.specs.declared.command.Command.{Command}
-use Rattle.commands.specs.Changes.{Change, SlotGoesOn, Disables, placed_by_context}
+use Rattle.commands.specs.Changes.{Change, SlotGoesOn, Disables, placed_by_context, typed_by_context}
 use Rattle.contexts.specs.declared.size.ContextSize.{ContextSize}
 use Rattle.contexts.specs.Contexts.{is_dropped}
 use Rattle.world_state.specs.PlacingCommands.{places_from}
@@ -44,7 +44,7 @@ unfoldable pub addressed : ContextSize → (ℕ → ℕ) → ℕ → ℕ → Lis
 addressed size memory s a = SlotGoesOn s ∷ placed_by_context size memory s a 1 ∷ []
 
 unfoldable pub configured : ContextSize → (ℕ → ℕ) → ℕ → ℕ → List Change
-configured size memory s a = SlotGoesOn s ∷ Disables s (is_dropped memory a) ∷ places_from size memory s a 2
+configured size memory s a = SlotGoesOn s ∷ typed_by_context size memory s a ∷ Disables s (is_dropped memory a) ∷ places_from size memory s a 2
 
 -- the words of memory are those that are known
 abbrev pub HasWords : Known → (ℕ → ℕ) → Type 0

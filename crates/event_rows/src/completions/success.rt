@@ -15,6 +15,7 @@ ghost use Rattle.event_rows.specs.CommandCompletions.Places.{FollowsPlaces, HasW
 
 use crate::completions::placing::{Placing, add_endpoints, place, place_by_context};
 use crate::completions::rings::hold_ring;
+use crate::completions::types::note_types;
 use commands::Command;
 use contexts::InputContext;
 use guest_memory::{Addr, WordMemory};
@@ -24,9 +25,9 @@ use traces::Header;
 
 /// The slot that a command names, and its input context.
 #[derive(Clone, Copy)]
-struct NamedContext {
-    slot: u8,
-    context: u64,
+pub(crate) struct NamedContext {
+    pub(crate) slot: u8,
+    pub(crate) context: u64,
 }
 
 /// Notes what the success of the command does, in order; `slot` is that of its completion.
@@ -156,7 +157,7 @@ fn address_device<M: WordMemory>(
     place_by_context(header, finder, t, &input, named.slot, 1);
 }
 
-/// Configure Endpoint: endpoints are dropped, and then others placed (xHCI 4.6.6).
+/// Configure Endpoint: the endpoints that are added get their types, endpoints are dropped, and then those are placed (xHCI 4.6.6).
 fn configure<M: WordMemory>(
     header: &Header,
     finder: &Finder,
@@ -177,6 +178,7 @@ fn configure<M: WordMemory>(
         return;
     };
     t.devices.go_on(command, named.slot);
+    note_types(&mut t.devices, memory, header.context_size, named);
     t.devices.disable(
         named.slot,
         Named::Dropped(drop_flags(memory, named.context)),

@@ -1,8 +1,9 @@
 //! A row of a Transfer Event: xHCI 4.8.3, 4.9.2, 4.10.2, 6.4.2.1.
 ghost use Rattle.std.specs.Prelude.{◌≡◌, ◌&&◌, ◌||◌, ◌<◌, ◌^◌, not, ℕ, nat_lt, Some, false, true, length, option_and_then, slice_get};
 ghost use Rattle.std.specs.Bool.{OnTrue};
-ghost use Rattle.trb.specs.Block.{code, endpoint, slot};
+ghost use Rattle.trb.specs.declared.block.Block.{Block as BlockValue};
 ghost use Rattle.trb.specs.CompletionCode.{is_halting, is_success, is_trb_error};
+ghost use Rattle.segments.specs.declared.spot.Spot.{Spot as SpotValue};
 ghost use Rattle.segments.specs.ShapeValue.{Shape};
 ghost use Rattle.segments.specs.Spots.{number};
 ghost use Rattle.segments.specs.Ceiling.{ceiling, is_data_below, is_open, is_stop_spot};
@@ -12,7 +13,7 @@ ghost use Rattle.commands.specs.States.{is_off, is_running};
 ghost use Rattle.traces.specs.Header.{IsHeader, shape_of};
 ghost use Rattle.traces.specs.declared.header.Header.{Header as HeaderValue};
 ghost use Rattle.ring_knowledge.specs.Known.{Known};
-ghost use Rattle.ring_knowledge.specs.Transfers.{transfer_read};
+ghost use Rattle.ring_knowledge.specs.Transfers.{transfer_read, transferred};
 ghost use Rattle.ring_knowledge.specs.declared.ring_record.RingRecord.{RingRecord as RingValue};
 ghost use Rattle.ring_knowledge.specs.RingRecords.{FollowsRing};
 ghost use Rattle.ring_knowledge.specs.Rings.{event_at};
@@ -23,6 +24,7 @@ ghost use Rattle.trace_record.specs.RingFinder.Finding.{IsFinder};
 ghost use Rattle.trace_record.specs.FollowsTrace.{FollowsTrace};
 ghost use Rattle.event_rows.specs.TransferEvents.NamedSpots.{IsNamedAt};
 ghost use Rattle.event_rows.specs.TransferEvents.Reported.{IsWithRecord, MayReport, reported};
+ghost use Rattle.event_rows.specs.TransferEvents.Reports.{IsReportOf};
 
 use crate::transfers::profile::is_failure;
 use crate::transfers::spots::{NamedSpot, named_spot};
@@ -31,11 +33,20 @@ use ring_knowledge::{RingRecord, is_data_below};
 use segments::{RingShape, Spot};
 use trace_record::{DeviceRecord, Finder, TraceRecord, command_said, declared_command};
 use traces::Header;
-use trb::{Block, is_success};
+use trb::{Block, is_of_service, is_stopping, is_success};
+
+/// What a Transfer Event reports: its endpoint, and how its code counts there.
+#[derive(Clone, Copy)]
+pub(crate) struct Report {
+    slot: u8,
+    index: u8,
+    code: u8,
+}
 
 /// Notes a Transfer Event of the profile that a controller can have posted, and tells whether one can: not where its endpoint is
 /// Disabled, or hasn't come to what the event says of the spot that it names. What is noted is how far the controller has come on
-/// the ring, and in which state the endpoint is (xHCI 4.8.3, 4.9.2, 4.10.2).
+/// the ring, and in which state the endpoint is (xHCI 4.8.3, 4.9.2, 4.10.2). One that tells of the service of its endpoint names no
+/// spot, and changes nothing.
 #[inline(always)]
 pub fn read_transfer_event(
     header: &Header,
@@ -45,70 +56,87 @@ pub fn read_transfer_event(
 ) -> bool
     requires headed { IsHeader header.now }
     requires found { IsFinder header.now.rings finder.now }
-    ensures possible { (k : Known) (m : ℕ → ℕ) → FollowsTrace header.now k t.old m → DriverKeeps header.now k → is_in_profile event ≡ true →
+    ensures possible { (k : Known) (m : ℕ → ℕ) → FollowsTrace header.now k t.old m → DriverKeeps header.now k → is_in_profile header.now k event ≡ true →
         result ≡ not (is_impossible_transfer header.now k event) }
-    ensures followed { OnTrue result ((k : Known) (m : ℕ → ℕ) → FollowsTrace header.now k t.old m → DriverKeeps header.now k → is_in_profile event ≡ true →
+    ensures followed { OnTrue result ((k : Known) (m : ℕ → ℕ) → FollowsTrace header.now k t.old m → DriverKeeps header.now k → is_in_profile header.now k event ≡ true →
         FollowsTrace header.now (transfer_read header.now k event) t.new m) }
     ensures events { t.new.events ≡ t.old.events }
 {
-    if is_off(t.devices.endpoint_state(event.slot(), event.endpoint())) {
+    let report = report_of(header, &t.devices, event);
+    if is_off(t.devices.endpoint_state(report.slot, report.index)) {
         return false;
     }
     let Some(at) = named_spot(header, finder, t, event) else {
-        return false;
+        return is_of_service(event.code());
     };
-    if !can_report_at(header, finder, t, event, at) {
+    if !can_report_at(header, finder, t, report, at) {
         return false;
     }
-    note_at(header, t, event, at);
+    note_at(header, t, report, at);
     true
 }
 
-/// Whether a controller can have posted the event for the spot that it names.
+/// What an event reports.
+#[inline(always)]
+fn report_of(header: &Header, devices: &DeviceRecord, event: Block) -> Report
+    ensures known { (k : Known) → FollowsDevices k devices.now → IsReportOf header.now k event result }
+    ensures last { result.index < 32 }
+{
+    Report {
+        slot: event.slot(),
+        index: event.endpoint(),
+        code: devices.code_told(header, event),
+    }
+}
+
+/// Whether a controller can have posted an event with this report for the spot that it names.
 #[inline(always)]
 fn can_report_at(
     header: &Header,
     finder: &Finder,
     t: &TraceRecord,
-    event: Block,
+    report: Report,
     at: NamedSpot,
 ) -> bool
     requires headed { IsHeader header.now }
     requires found { IsFinder header.now.rings finder.now }
     requires below { at.number < length header.now.rings }
-    ensures { (k : Known) (m : ℕ → ℕ) → FollowsTrace header.now k t.now m → DriverKeeps header.now k → IsNamedAt header.now k event at →
-        result ≡ can_report_at header.now k event (event_at header.now k event) }
+    ensures { (k : Known) (m : ℕ → ℕ) (event : BlockValue) → FollowsTrace header.now k t.now m → DriverKeeps header.now k → IsReportOf header.now k event report →
+        IsNamedAt header.now k event at → result ≡ can_report_at header.now k event (event_at header.now k event) }
 {
     let rings = header.rings.as_slice();
     let Some(known) = t.rings.get(at.number) else {
         return false;
     };
-    can_report(finder, t, &rings[at.number].shape, known, event, at.spot)
+    can_report(finder, t, &rings[at.number].shape, known, report, at.spot)
 }
 
-/// Whether a controller can have posted the event for a spot of a ring.
+/// Whether a controller can have posted an event with this report for a spot of a ring.
 #[inline(always)]
 fn can_report(
     finder: &Finder,
     t: &TraceRecord,
     shape: &RingShape,
     known: &RingRecord,
-    event: Block,
+    report: Report,
     spot: Spot,
 ) -> bool
     ensures { (h : HeaderValue) (k : Known) (m : ℕ → ℕ) (r : ℕ) → IsHeader h → IsFinder h.rings finder.now → FollowsTrace h k t.now m → DriverKeeps h k →
-        shape_of h r ≡ shape.now → FollowsRing shape.now (k.ring r) known.now → result ≡ can_report h k (code event) (slot event) (endpoint event) r spot }
+        shape_of h r ≡ shape.now → FollowsRing shape.now (k.ring r) known.now → result ≡ can_report h k report.code report.slot report.index r spot }
 {
-    if is_success(event.code()) {
+    if is_success(report.code) {
         return is_data_below(known.ceiling(), spot);
     }
-    if !is_working(&t.devices, known, event.slot(), event.endpoint()) {
+    if !is_working(&t.devices, known, report.slot, report.index) {
         return false;
     }
-    if is_failure(event.code()) {
+    if is_failure(report.code) {
         return is_data_below(known.ceiling(), spot);
     }
-    if !is_stopping_now(finder, t, event.slot(), event.endpoint()) {
+    if !is_stopping(report.code) {
+        return false;
+    }
+    if !is_stopping_now(finder, t, report.slot, report.index) {
         return false;
     }
     known.is_stop_spot(shape, spot)
@@ -158,15 +186,17 @@ fn next_command(known: &RingRecord) -> Option<Command>
     command_said(declared_command(known, next))
 }
 
-/// Notes a Transfer Event that can have been posted, and names this spot. A Short Packet finishes the block that it names, and no
-/// more of its descriptor.
+/// Notes a Transfer Event that can have been posted, with this report, and names this spot. A Short Packet finishes the block that
+/// it names, and no more of its descriptor.
 #[inline(always)]
-fn note_at(header: &Header, t: &mut TraceRecord, event: Block, at: NamedSpot)
+fn note_at(header: &Header, t: &mut TraceRecord, report: Report, at: NamedSpot)
     requires headed { IsHeader header.now }
     requires below { at.number < length header.now.rings }
     requires few { number at.spot < 2 ^ 63 }
-    ensures followed { (k : Known) (m : ℕ → ℕ) → FollowsTrace header.now k t.old m → DriverKeeps header.now k → is_in_profile event ≡ true →
-        is_impossible_transfer header.now k event ≡ false → IsNamedAt header.now k event at → FollowsTrace header.now (transfer_read header.now k event) t.new m }
+    requires last { report.index < 32 }
+    ensures followed { (k : Known) (m : ℕ → ℕ) (event : BlockValue) → FollowsTrace header.now k t.old m → DriverKeeps header.now k → is_in_profile header.now k event ≡ true →
+        is_impossible_transfer header.now k event ≡ false → IsReportOf header.now k event report → IsNamedAt header.now k event at →
+        FollowsTrace header.now (transfer_read header.now k event) t.new m }
     ensures events { t.new.events ≡ t.old.events }
 {
     let rings = header.rings.as_slice();
@@ -174,11 +204,22 @@ fn note_at(header: &Header, t: &mut TraceRecord, event: Block, at: NamedSpot)
         &mut t.rings,
         at.number,
         &rings[at.number].shape,
-        event.code(),
+        report.code,
         at.spot,
     );
-    t.devices
-        .read_transfer(event.code(), event.slot(), event.endpoint());
+    note_state(&mut t.devices, report);
+}
+
+/// Notes in which state an endpoint is behind a report. A success leaves it as it is.
+#[inline(always)]
+fn note_state(devices: &mut DeviceRecord, report: Report)
+    requires { report.index < 32 }
+    ensures { (h : HeaderValue) (k : Known) (r : ℕ) (spot : SpotValue) → FollowsDevices k devices.old →
+        FollowsDevices (transferred h k report.code report.slot report.index r spot) devices.new }
+{
+    if !is_success(report.code) {
+        devices.read_transfer(report.code, report.slot, report.index);
+    }
 }
 
 /// Notes what an event with this code says of a spot of a ring, by its number.

@@ -12,7 +12,7 @@ use driver_rows::endpoint_ring;
 use segments::Spot;
 use trace_record::{Finder, TraceRecord};
 use traces::Header;
-use trb::Block;
+use trb::{Block, is_of_service};
 
 /// A spot and the number of its ring in the header.
 #[derive(Clone, Copy)]
@@ -21,7 +21,7 @@ pub struct NamedSpot {
     pub spot: Spot,
 }
 
-/// The spot that a Transfer Event names on the ring of its endpoint.
+/// The spot that a Transfer Event names on the ring of its endpoint. One that tells of the service of its endpoint names none.
 #[inline(always)]
 pub fn named_spot(
     header: &Header,
@@ -35,6 +35,9 @@ pub fn named_spot(
     ensures below { IfSome result (λ at. at.number < length header.now.rings) }
     ensures few { IfSome result (λ at. number at.spot < 2 ^ 63) }
 {
+    if is_of_service(event.code()) {
+        return None;
+    }
     let rings = header.rings.as_slice();
     let Some(number) = endpoint_ring(finder, &t.devices, event.slot(), event.endpoint()) else {
         return None;

@@ -1,5 +1,5 @@
 -- The completion of a command leaves the device context of a slot that it disables, and no other
-use Rattle.leases.proofs.BaseWords.{arith, ◌≡◌, ◌==◌, ◌∷◌, ◌∙◌, ℕ, Bool, List, [], map, Option, refl, added_endpoints, is_dropped, Trb, code, slot, target, Command, is_off, Change, DeviceLeft, changes, placed_by_context, Header, ring_having, shape_of, Known, command_at, next_command, on_ring, bound_to, changed_by, changed_by_all, completed, disabled, finished, held_at_ceiling, in_state, moved, moved_to, pointed, set_to, stop_ended, succeeded, devices_without, slot_left}
+use Rattle.leases.proofs.BaseWords.{arith, ◌≡◌, ◌==◌, ◌∷◌, ◌∙◌, ℕ, Bool, List, [], map, Option, refl, added_endpoints, is_dropped, Trb, code, slot, target, Command, is_off, Change, DeviceLeft, changes, placed_by_context, Header, ring_having, shape_of, Known, command_at, next_command, on_ring, bound_to, changed_by, changed_by_all, completed, disabled, finished, held_at_ceiling, in_state, moved, moved_to, pointed, set_to, stop_ended, succeeded, typed, devices_without, slot_left}
 
 -- the change lets no device context go
 abbrev Holds : Change → Type 0
@@ -20,7 +20,7 @@ module _ (h : Header) where
   bound_device k s i o p cycle = grind (arith, moved_device)
 
   change_device : (c : Command) (k : Known) (change : Change) → Holds change → (changed_by h c k change).device ≡ k.device
-  unfolding changed_by disabled in_state pointed held_at_ceiling on_ring
+  unfolding changed_by typed disabled in_state pointed held_at_ceiling on_ring
   change_device c k change holds = grind (arith, is_off, bound_to, ring_having, moved, bound_device, moved_device, in_state)
 
   changes_device : (c : Command) (k : Known) (all : List Change) → AllHold all → (changed_by_all h c k all).device ≡ k.device

@@ -1,7 +1,5 @@
 -- The leases of a trace are what was and is lent after its rows
-use Rattle.leases.proofs.BaseWords.{append_assoc, ◌≡◌, ◌+◌, ◌<◌, ◌≤◌, ◌==◌, ◌∷◌, ◌++◌, ℕ, true, List, [], length, map, reverse, arith, sym, ap, refl, cond, eqb-true, append-nil, reverse_aux, nat_tests, Header, Row, Lease, Known, nothing, header_now, known_now, Leased, open_leases, as_lease, begun, comes_before, end_from, in_order, leases, leases_from, with_ends, with_lease, without_end, Lent, lease_of, is_unended, begun_at, precedes, with_leased, in_turn, ended_where, with_begun, lents, passed_on, rules}
-use Rattle.ring_knowledge.specs.Histories.{known_after}
-use Rattle.traces.specs.LivingRings.{header_after}
+use Rattle.leases.proofs.BaseWords.{append_assoc, ◌≡◌, ◌+◌, ◌<◌, ◌≤◌, ◌==◌, ◌∷◌, ◌++◌, ℕ, true, List, [], length, map, reverse, arith, sym, ap, refl, cond, eqb-true, append-nil, reverse_aux, nat_tests, Header, Row, Lease, Known, nothing, header_now, known_now, Leased, open_leases, as_lease, begun, comes_before, end_from, in_order, leases, leases_from, with_ends, with_lease, without_end, Lent, lease_of, is_unended, begun_at, precedes, with_leased, in_turn, ended_where, with_begun, lents, passed_on, rules, known_after, header_after}
 
 -- when a lease begins and ends doesn't matter for its place
 placed_alike : (a b : Leased) (f e g d : ℕ) → comes_before (as_lease f e a) (as_lease g d b) ≡ precedes a b

@@ -1,5 +1,5 @@
 -- What is lent after a Transfer Event: the leases end of what it tells to be passed on the ring of its endpoint
-use Rattle.leases.proofs.MiddleLaws.{◌≡◌, ◌≢◌, ◌+◌, ◌≤◌, ◌==◌, ℕ, Bool, true, false, List, [], map, Some, refl, inl, inr, eqb-true, eq-eqb, cases_Bool, Trb, TransferEvent, code, kind, is_halting, is_stopping, is_success, is_trb_error, Spot, number, due_positions, floor_number, number-after, command_of, Header, Ring, Read, command_id, driver_rings, shape_of, EndpointState, Error, Known, event_read, learned, RingSpot, event_at, broken_off, passed, stopped_at, transfer_read, transferred, transferred_at, context_ranges, device_ranges, entry_ranges, open_ranges, range_of_command, range_of_device, segment_ranges, slots, table_range, is_among, IsIn, come_to, ended_where, is_passed, Lent, grown, AreOpen, rules, and_true, Narrows, floors, narrows, one_ring_left, IsWithinLap, Moves, only_ended, entries_kept}
+use Rattle.leases.proofs.MiddleLaws.{◌≡◌, ◌≢◌, ◌+◌, ◌≤◌, ◌==◌, ℕ, Bool, true, false, List, [], map, Some, refl, inl, inr, eqb-true, eq-eqb, cases_Bool, Trb, TransferEvent, kind, is_halting, is_stopping, is_success, is_trb_error, Spot, number, due_positions, floor_number, number-after, command_of, Header, Ring, Read, command_id, driver_rings, shape_of, EndpointState, Error, Known, event_read, learned, RingSpot, code_told, event_at, broken_off, passed, stopped_at, transfer_read, transferred, transferred_at, context_ranges, device_ranges, entry_ranges, open_ranges, range_of_command, range_of_device, segment_ranges, slots, table_range, is_among, IsIn, come_to, ended_where, is_passed, Lent, grown, AreOpen, rules, and_true, Narrows, floors, narrows, one_ring_left, IsWithinLap, Moves, only_ended, entries_kept}
 use Rattle.ring_knowledge.specs.Rings as rings
 
 module _ (h : Header) (k : Known) where
@@ -47,7 +47,7 @@ module _ (h : Header) (k : Known) where
   ]
 
   read_goes : (b : Trb) (at : RingSpot) → kind b ≡ TransferEvent → event_at h k b ≡ Some at →
-      GoesOn (learned h k (Read b)) at.ring (come_to (code b) at.spot (floor_number (k.ring at.ring)))
+      GoesOn (learned h k (Read b)) at.ring (come_to (code_told h k b) at.spot (floor_number (k.ring at.ring)))
   unfolding learned event_read transfer_read transferred_at
   read_goes b at transfers found = rw transfers (rw found (search (rules, counted_goes, transferred_goes)))
 
@@ -59,7 +59,7 @@ module _ (h : Header) (k : Known) where
 -- the law
 module _ (h : Header) (k : Known) (ts : List Lent) (still : AreOpen h k ts) (b : Trb) (n : ℕ) where
   module _ (at : RingSpot) (transfers : kind b ≡ TransferEvent) (found : event_at h k b ≡ Some at) (apart : at.ring ≢ command_id h)
-      (rises : floor_number (k.ring at.ring) ≤ come_to (code b) at.spot (floor_number (k.ring at.ring)))
+      (rises : floor_number (k.ring at.ring) ≤ come_to (code_told h k b) at.spot (floor_number (k.ring at.ring)))
       (lap : (q : Ring) → IsIn q (driver_rings h) → IsWithinLap q.shape (k.ring q.id)) where
     abbrev k' : Known
     k' = learned h k (Read b)
@@ -68,7 +68,7 @@ module _ (h : Header) (k : Known) (ts : List Lent) (still : AreOpen h k ts) (b :
     from = floor_number (k.ring at.ring)
 
     abbrev to : ℕ
-    to = come_to (code b) at.spot from
+    to = come_to (code_told h k b) at.spot from
 
     goes : GoesOn h k k' at.ring to
     goes = read_goes h k b at transfers found

@@ -1,7 +1,5 @@
 -- The entry of each slot with a device context ends within the address space: it was tested when the context was taken
-use Rattle.leases.proofs.BaseWords.{rules, ◌≡◌, ◌+◌, ◌^◌, ◌≤◌, ◌∙◌, ℕ, true, false, [], Some, refl, sym, ap, subst, inl, inr, ltb-false, cases_Bool, false≢true, none-some, cases_option, Header, Register, Dcbaap, Row, Sub, Write, Reg, Bell, Read, RingRow, FreeRow, IsHeader, with_register, Known, nothing, learned, entry_of, is_bad_register, lenient, DriverKeeps, area_parts, register_facts, entry_same, at_number, event_behind, registered, bell_leaves, declaration_leaves, register_leaves, write_leaves, rules_of, after_write, taken, written_device, written_device_none, EntriesFit}
-use Rattle.traces.specs.declared.row.Row.TheVariants.{Nop as NopRow}
-use Rattle.traces.specs.Rows.{is_ring_row}
+use Rattle.leases.proofs.BaseWords.{rules, ◌≡◌, ◌+◌, ◌^◌, ◌≤◌, ◌∙◌, ℕ, true, false, [], Some, refl, sym, ap, subst, inl, inr, ltb-false, cases_Bool, false≢true, none-some, cases_option, Header, Register, Dcbaap, Row, Sub, Write, Reg, Bell, Read, RingRow, FreeRow, IsHeader, with_register, Known, nothing, learned, entry_of, is_bad_register, lenient, DriverKeeps, area_parts, register_facts, entry_same, at_number, event_behind, registered, bell_leaves, declaration_leaves, register_leaves, write_leaves, rules_of, after_write, taken, written_device, written_device_none, EntriesFit, NopRow, is_ring_row}
 
 -- no device context more, and the same array of entries
 pub still_fit : (k l : Known) → l.register Dcbaap ≡ k.register Dcbaap → ((s d : ℕ) → l.device s ≡ Some d → k.device s ≡ Some d) → EntriesFit k → EntriesFit l

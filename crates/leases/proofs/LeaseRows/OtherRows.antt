@@ -1,6 +1,5 @@
 -- What is lent after a clean declaration, doorbell or register write
-use Rattle.leases.proofs.MiddleLaws.{arith, ◌≡◌, ◌<◌, ◌∷◌, ◌≢◌, ◌⊎◌, ℕ, List, [], true, false, None, Result, refl, ap, sym, inl, inr, subst, length, OnOk, le-leb, lt-ltb, and_from, Trb, table_bytes, place_count, due_positions, floor_number, Ring, Header, Row, Sub, Write, Reg, Bell, Read, RingRow, FreeRow, Register, Dcbaap, Erstba, IsHeader, command_id, driver_rings, event_shape, is_driver_kind, shape_of, base_address, Known, learned, is_bad_register, is_written, Range, SegmentTable, is_among, open_leases, IsIn, from_filter, in_filter, DriverKeeps, register_facts, due_has_ring, Lent, with_begun, FindsRanges, RangeIndexes, shape_there, IsAmong, TraceRecord, HoldsAll, IsOtherRow, IsNextRow, AreOpen, grown, rules, from_range, others_begin, nothing_new, bell_same, reg_same, sub_same, lent_table, AreShaped}
-use Rattle.traces.specs.declared.row.Row.TheVariants.{Nop as NopRow}
+use Rattle.leases.proofs.MiddleLaws.{arith, ◌≡◌, ◌<◌, ◌∷◌, ◌≢◌, ◌⊎◌, ℕ, List, [], true, false, None, Result, refl, ap, sym, inl, inr, subst, length, OnOk, le-leb, lt-ltb, and_from, Trb, table_bytes, place_count, due_positions, floor_number, Ring, Header, Row, Sub, Write, Reg, Bell, Read, RingRow, FreeRow, Register, Dcbaap, Erstba, IsHeader, command_id, driver_rings, event_shape, is_driver_kind, shape_of, base_address, Known, learned, is_bad_register, is_written, Range, SegmentTable, is_among, open_leases, IsIn, from_filter, in_filter, DriverKeeps, register_facts, due_has_ring, Lent, with_begun, FindsRanges, RangeIndexes, shape_there, IsAmong, TraceRecord, HoldsAll, IsOtherRow, IsNextRow, AreOpen, grown, rules, from_range, others_begin, nothing_new, bell_same, reg_same, sub_same, lent_table, AreShaped, NopRow}
 use Rattle.ring_knowledge.specs.Rings as rings
 
 -- from what an answer promises to what follows

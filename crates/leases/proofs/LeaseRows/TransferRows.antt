@@ -1,5 +1,5 @@
 -- What is lent after an event but a completion: a Transfer Event ends the leases of what its ring passes
-use Rattle.leases.proofs.UpperLaws.{◌≡◌, ◌≢◌, ◌+◌, ◌≤◌, ◌∙◌, ◌==◌, ℕ, List, true, false, None, Some, Option, refl, ap, sym, arith, subst, map, position, option_map, and_parts, BlockKind, TransferEvent, CommandCompletion, code, endpoint, kind, pointer, slot, is_transfer_event, is_stopping, is_success, Spot, Shape, number, named, RingKeeps, floor_number, named_ahead, Ring, Header, Read, IsHeader, driver_rings, is_driver_kind, ring_with, shape_of, Known, event_read, learned, RingSpot, event_at, spot_on, transfer_read, transferred_at, is_among, open_leases, IsIn, DriverKeeps, IsDriverRing, IsTransferRing, transfer_driver, transfer_not_command, come_to, Lent, ended_where, is_passed, RangeIndexes, none_here, not_found, ring_found, shape_there, false_unless, IsAmong, TraceRecord, HoldsAll, IsNextRow, grown, rules, IsWithinLap, nothing_new, command_same, entries_kept, open_same, transfer_lent, from_drivers}
+use Rattle.leases.proofs.UpperLaws.{◌≡◌, ◌≢◌, ◌+◌, ◌≤◌, ◌∙◌, ◌==◌, ℕ, List, true, false, None, Some, Option, refl, ap, sym, arith, subst, map, position, option_map, and_parts, BlockKind, TransferEvent, CommandCompletion, code, endpoint, kind, pointer, slot, is_transfer_event, is_of_service, is_stopping, is_success, Spot, Shape, number, named, RingKeeps, floor_number, named_ahead, Ring, Header, Read, IsHeader, driver_rings, is_driver_kind, ring_with, shape_of, Known, event_read, learned, RingSpot, code_told, event_at, spot_on, transfer_read, transferred_at, is_among, open_leases, IsIn, DriverKeeps, IsDriverRing, IsTransferRing, transfer_driver, transfer_not_command, come_to, Lent, ended_where, is_passed, RangeIndexes, none_here, not_found, ring_found, shape_there, false_unless, IsAmong, TraceRecord, HoldsAll, IsNextRow, grown, rules, IsWithinLap, nothing_new, command_same, entries_kept, open_same, transfer_lent, from_drivers, if◌then◌else◌, Bool, inl, inr, ◌&&◌, [], ◌∷◌, nat_tests, cases_Bool, has_isoch, counted_code, Leased}
 use Rattle.trb.specs.declared.block.Block as blocks
 
 -- one event more was read
@@ -36,6 +36,25 @@ no_ring_spot : (h : Header) (k : Known) (p : ℕ) (o : Option ℕ) → o ≡ Non
 unfolding spot_on
 no_ring_spot h k p o none = ap (spot_on h k p) none
 
+-- by a code that tells of the service of an endpoint the controller stays where it stood
+served : (isochronous : Bool) (c : ℕ) → is_of_service c ≡ true → (t : Spot) (floor : ℕ) → come_to (counted_code isochronous c) t floor ≡ floor
+unfolding come_to
+served isochronous c serves t floor = grind (arith, nat_tests)
+
+-- on the way from a number to itself nothing is passed
+none_passed : (r n : ℕ) (l : Leased) → is_passed r n n l ≡ false
+none_passed r n l = grind (arith, nat_tests)
+
+none_ends : (r n row : ℕ) (ts : List Lent) → map (ended_where (is_passed r n n) row) ts ≡ ts
+unfolding ended_where
+none_ends r n row [] = refl
+none_ends r n row (t ∷ ts) = search (rules, none_passed, none_ends r n row ts)
+
+-- no spot, whichever test says so
+either : {A : Type 0} (b : Bool) (o : Option A) → o ≡ None → (if b then None else o) ≡ None
+either true o none = refl
+either false o none = none
+
 -- the ring of an endpoint is one of the header
 pub ring_of_header : (h : Header) (k : Known) → DriverKeeps h k → (s i r : ℕ) → k.ring_of s i ≡ Some r → position (λ (q : Ring). q.id == r) h.rings ≡ None → ⊥
 ring_of_header h k d s i r at none = grind (arith, ring_with, not_found, none_here, d.states.transfer s i r at, not_found (λ q. q.id == r) h.rings (none_here h (λ q. q.id == r) h.rings none refl))
@@ -57,9 +76,18 @@ module _ (h : Header) (headed : IsHeader h) (k : Known) (ts : List Lent) (b : bl
   unfolding event_read transfer_read transferred_at
   unnamed transfers none = ap (λ n. event_read h k n b) (is_transfer (kind b) transfers) ∙ ap (transferred_at h k b) none
 
+  -- one that tells of the service of its endpoint
+  pub service_lent : is_transfer_event (kind b) ≡ true → is_of_service (code b) ≡ true → grown h k (Read b) number_ ts ≡ ts
+  unfolding event_at
+  service_lent transfers serves = quiet (unnamed transfers (rw serves refl))
+
+  told_served : is_of_service (code b) ≡ true → (spot : Spot) (floor : ℕ) → come_to (code_told h k b) spot floor ≡ floor
+  unfolding code_told
+  told_served serves spot floor = served (has_isoch h.version && k.isochronous (slot b) (endpoint b)) (code b) serves spot floor
+
   pub unbound_lent : is_transfer_event (kind b) ≡ true → k.ring_of (slot b) (endpoint b) ≡ None → grown h k (Read b) number_ ts ≡ ts
   unfolding event_at
-  unbound_lent transfers none = quiet (unnamed transfers (no_ring_spot h k (pointer b) (k.ring_of (slot b) (endpoint b)) none))
+  unbound_lent transfers none = quiet (unnamed transfers (either (is_of_service (code b)) _ (no_ring_spot h k (pointer b) (k.ring_of (slot b) (endpoint b)) none)))
 
   module _ (transfers : is_transfer_event (kind b) ≡ true) (r : ℕ) (of : k.ring_of (slot b) (endpoint b) ≡ Some r) (q : Ring) (among : IsAmong q h.rings) (id : q.id ≡ r) where
     here : k.ring_of (slot b) (endpoint b) ≡ Some q.id
@@ -79,30 +107,35 @@ module _ (h : Header) (headed : IsHeader h) (k : Known) (ts : List Lent) (b : bl
 
     pub unnamed_lent : named q.shape (k.ring q.id) (pointer b) ≡ None → grown h k (Read b) number_ ts ≡ ts
     unfolding event_at
-    unnamed_lent none = quiet (unnamed transfers (spot_none h k (pointer b) (k.ring_of (slot b) (endpoint b)) q.id here (named_here None none)))
+    unnamed_lent none = quiet (unnamed transfers (either (is_of_service (code b)) _ (spot_none h k (pointer b) (k.ring_of (slot b) (endpoint b)) q.id here (named_here None none))))
 
     module _ (spot : Spot) (is : named q.shape (k.ring q.id) (pointer b) ≡ Some spot) where
-      pub comes : floor_number (k.ring q.id) ≤ come_to (code b) spot (floor_number (k.ring q.id))
-      comes = comes_on (code b) spot (floor_number (k.ring q.id)) (named_ahead q.shape k.memory (k.ring q.id) ring_keeps (pointer b) spot is).from
+      pub comes : floor_number (k.ring q.id) ≤ come_to (code_told h k b) spot (floor_number (k.ring q.id))
+      comes = comes_on (code_told h k b) spot (floor_number (k.ring q.id)) (named_ahead q.shape k.memory (k.ring q.id) ring_keeps (pointer b) spot is).from
 
-      found : event_at h k b ≡ Some (record { ring = q.id; spot = spot })
+      found : is_of_service (code b) ≡ false → event_at h k b ≡ Some (record { ring = q.id; spot = spot })
       unfolding event_at
-      found = spot_found h k (pointer b) (k.ring_of (slot b) (endpoint b)) q.id spot here (named_here (Some spot) is)
+      found other = rw other (spot_found h k (pointer b) (k.ring_of (slot b) (endpoint b)) q.id spot here (named_here (Some spot) is))
 
-      passed_lent : grown h k (Read b) number_ ts ≡ map (ended_where (is_passed q.id (floor_number (k.ring q.id)) (come_to (code b) spot (floor_number (k.ring q.id)))) number_) ts
-      passed_lent = search (
-        rules,
-        transfer_lent h k ts next.step.opened b number_ (record { ring = q.id; spot = spot }),
-        is_transfer,
-        found,
-        transfer_not_command,
-        transfer,
-        comes,
-        lap_now,
-        keeps,
-      )
+      passed_lent : grown h k (Read b) number_ ts ≡ map (ended_where (is_passed q.id (floor_number (k.ring q.id)) (come_to (code_told h k b) spot (floor_number (k.ring q.id)))) number_) ts
+      passed_lent = elim (cases_Bool (is_of_service (code b))) [
+        | inl serves ↦
+            service_lent transfers serves
+            ∙ sym (ap (λ n. map (ended_where (is_passed q.id (floor_number (k.ring q.id)) n) number_) ts) (told_served serves spot (floor_number (k.ring q.id))) ∙ none_ends q.id (floor_number (k.ring q.id)) number_ ts)
+        | inr other ↦ search (
+          rules,
+          transfer_lent h k ts next.step.opened b number_ (record { ring = q.id; spot = spot }),
+          is_transfer,
+          found other,
+          transfer_not_command,
+          transfer,
+          comes,
+          lap_now,
+          keeps,
+        )
+      ]
 
       module _ {B : Type 0} {Holds : Header → List Lent → B → Type 0} where
-        pub transfer_ends : (book : B) (x : RangeIndexes) (from to : ℕ) → from ≡ floor_number (k.ring q.id) → to ≡ come_to (code b) spot (floor_number (k.ring q.id)) →
+        pub transfer_ends : (book : B) (x : RangeIndexes) (from to : ℕ) → from ≡ floor_number (k.ring q.id) → to ≡ come_to (code_told h k b) spot (floor_number (k.ring q.id)) →
             HoldsAll Holds h (map (ended_where (is_passed q.id from to) number_) ts) book x → HoldsAll Holds h (grown h k (Read b) number_ ts) book x
         transfer_ends book x from to same reached all = search (rules, passed_lent)

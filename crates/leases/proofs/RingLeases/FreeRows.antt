@@ -1,7 +1,5 @@
 -- What is lent behind the rows by which descriptors are withdrawn and rings restored, of a history
-use Rattle.leases.proofs.BaseWords.{arith, ◌≡◌, ◌+◌, ◌∷◌, ◌∙◌, ℕ, false, List, None, Some, length, refl, sym, ap, false≢true, Header, Known, Row, Bell, RingRow, FreeRow, learned, on_ring, open_leases, Restores, Withdraws, Lent, grown, passed_on, header_now, known_now, restored, restored_on, ring_restored, lents}
-use Rattle.traces.specs.declared.row.Row.TheVariants.{Nop as NopRow}
-use Rattle.traces.specs.Rows.{is_ring_row}
+use Rattle.leases.proofs.BaseWords.{arith, ◌≡◌, ◌+◌, ◌∷◌, ◌∙◌, ℕ, false, List, None, Some, length, refl, sym, ap, false≢true, Header, Known, Row, Bell, RingRow, FreeRow, learned, on_ring, open_leases, Restores, Withdraws, Lent, grown, passed_on, header_now, known_now, restored, restored_on, ring_restored, lents, NopRow, is_ring_row}
 use Rattle.leases.proofs.LeaseBooks.SameLeases.{bell_same}
 
 module _ (h : Header) (first : ℕ) (past : List Row) where

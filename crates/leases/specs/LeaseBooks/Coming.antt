@@ -4,7 +4,7 @@ use Rattle.trb.specs.CompletionCode.{is_halting, is_stopping, is_success, is_trb
 use Rattle.segments.specs.declared.spot.Spot.{Spot}
 use Rattle.segments.specs.Spots.{number}
 
--- to which number its controller has come on a ring, on which it stood at another one, by the code and the spot that it names: it has
--- finished the block there, or was stopped before it
+-- to which number its controller has come on a ring, on which it stood at another one, by how the code counts and the spot that it
+-- names: it has finished the block there, or was stopped before it
 unfoldable pub come_to : ℕ → Spot → ℕ → ℕ
 come_to c t floor = if is_success c || is_halting c || is_trb_error c then number t + 1 else if is_stopping c then number t else floor

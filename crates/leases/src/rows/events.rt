@@ -22,7 +22,8 @@ use traces::Header;
 use trb::{Block, BlockKind, is_halting, is_stopping, is_success, is_trb_error};
 
 /// Notes the row of a number that reads an event, but a Command Completion Event; the record is that before it. A Transfer Event
-/// ends the leases of the blocks and Links that its ring's controller has passed. Where the leases of ranges stand stays.
+/// ends the leases of the blocks and Links that its ring's controller has passed; one that tells of the service of its endpoint ends none.
+/// Where the leases of ranges stand stays.
 #[inline(always)]
 pub(crate) fn note_transfer<B: LeaseLog>(
     book: &mut B,
@@ -58,8 +59,9 @@ pub(crate) fn note_transfer<B: LeaseLog>(
     let Some(spot) = known.named(&ring.shape, event.pointer()) else {
         return;
     };
+    // one that tells of the service of its endpoint names no block: by its code the controller stays at the floor
     let floor = known.floor_number();
-    let reached = come_to(event.code(), spot, floor);
+    let reached = come_to(t.devices.code_told(header, event), spot, floor);
     book.end_passed(number, ring, floor, reached);
 }
 
@@ -70,7 +72,7 @@ fn is_transfer(event: Block) -> bool
     matches!(event.kind(), BlockKind::TransferEvent)
 }
 
-/// To which number the controller of a ring has come that stood at a floor, by an event's code and the spot that it names.
+/// To which number the controller of a ring has come that stood at a floor, by how an event's code counts and the spot that it names.
 #[tactic(auto, unfolding(crate::specs::LeaseBooks::Coming::come_to))]
 fn come_to(code: u8, spot: Spot, floor: u64) -> u64
     requires { number spot < 2 ^ 63 }

@@ -25,11 +25,11 @@ module _ (h : Header) (k : Known) (on : k.stopped ≡ false) (b : Block) where
   impossible is = tested ∙ rw is refl
 
   module _ (possible : is_impossible h k b ≡ false) where
-    pub left_out : (is_transfer_event (kind b) && not (is_in_profile b)) ≡ true → IsLeast h k (Read b) NotInProfile
+    pub left_out : (is_transfer_event (kind b) && not (is_in_profile h k b)) ≡ true → IsLeast h k (Read b) NotInProfile
     unfolding event_tests
     left_out is = tested ∙ rw (possible, is) refl
 
-    pub clean_event : (is_transfer_event (kind b) && not (is_in_profile b)) ≡ false → broken h k (Read b) ≡ []
+    pub clean_event : (is_transfer_event (kind b) && not (is_in_profile h k b)) ≡ false → broken h k (Read b) ≡ []
     unfolding event_tests
     clean_event is = nothing_broken (broken h k (Read b)) (tested ∙ rw (possible, is) refl)
 
@@ -69,12 +69,12 @@ module _ (h : Header) (k : Known) (b : Block) where
   other_possible no_transfer no_completion = grind arith
 
   -- an event that the profile leaves out is possible by its type
-  pub left_out_possible : IsHeader h → DriverKeeps h k → (is_transfer_event (kind b) && not (is_in_profile b)) ≡ true → is_impossible_by_kind h k (kind b) b ≡ false
+  pub left_out_possible : IsHeader h → DriverKeeps h k → (is_transfer_event (kind b) && not (is_in_profile h k b)) ≡ true → is_impossible_by_kind h k (kind b) b ≡ false
   unfolding is_impossible_by_kind
   left_out_possible headed keeps left = search (rules, and_parts, left_out_transfer, not_true)
 
-  pub within_profile : kind b ≡ TransferEvent → (is_transfer_event (kind b) && not (is_in_profile b)) ≡ false → is_in_profile b ≡ true
-  within_profile is within = not-false (is_in_profile b) (ap (λ n. is_transfer_event n && not (is_in_profile b)) (sym is) ∙ within)
+  pub within_profile : kind b ≡ TransferEvent → (is_transfer_event (kind b) && not (is_in_profile h k b)) ≡ false → is_in_profile h k b ≡ true
+  within_profile is within = not-false (is_in_profile h k b) (ap (λ n. is_transfer_event n && not (is_in_profile h k b)) (sym is) ∙ within)
 
   -- of an event that is possible
   module _ (possible : is_impossible h k b ≡ false) where
@@ -109,14 +109,14 @@ module _ (h : Header) (k : Known) (b : Block) where
 
 -- an event that breaks no rule is possible and, where it is a Transfer Event, in the profile
 module _ (h : Header) (k : Known) (b : Block) (clean : broken h k (Read b) ≡ []) where
-  fails : (is_impossible h k b ≡ false) × ((is_transfer_event (kind b) && not (is_in_profile b)) ≡ false)
+  fails : (is_impossible h k b ≡ false) × ((is_transfer_event (kind b) && not (is_in_profile h k b)) ≡ false)
   unfolding lenient_tests event_tests
   fails = let all : AllFail (event_tests h k b) = tests_fail h k (Read b) (lenient_row h k (Read b) clean) in (all.0, all.1.0)
 
   pub possible : is_impossible h k b ≡ false
   possible = fails.0
 
-  pub in_profile : kind b ≡ TransferEvent → is_in_profile b ≡ true
+  pub in_profile : kind b ≡ TransferEvent → is_in_profile h k b ≡ true
   in_profile is = within_profile h k b is fails.1
 
 -- what is noted of an event, by its kind
@@ -124,7 +124,7 @@ module _ (h : Header) (headed : IsHeader h) (k : Known) (b : Block) (keeps : Dri
   placed : is_no_event h k b ≡ false
   placed = (parts h k b (possible h k b clean)).0
 
-  pub noted_transfer : kind b ≡ TransferEvent → (is_in_profile b ≡ true → is_impossible_transfer h k b ≡ false → FollowsTrace h (transfer_read h k b) after m) →
+  pub noted_transfer : kind b ≡ TransferEvent → (is_in_profile h k b ≡ true → is_impossible_transfer h k b ≡ false → FollowsTrace h (transfer_read h k b) after m) →
       FollowsTrace h (event_read h k (kind b) b) after m
   noted_transfer is noted = search (rules, read_transfer, in_profile, transfer_possible, possible)
 
@@ -136,7 +136,7 @@ module _ (h : Header) (headed : IsHeader h) (k : Known) (b : Block) (keeps : Dri
   noted_other no_transfer no_completion noted = subst (λ (l : Known). FollowsTrace h l after m) (read_other h k b no_transfer no_completion) noted
 
 -- an event that was noted and counted
-pub event_step : (h : Header) (k : Known) (on : k.stopped ≡ false) (b : Block) → is_impossible h k b ≡ false → (is_transfer_event (kind b) && not (is_in_profile b)) ≡ false → (noted after : TraceRecord) (m : ℕ → ℕ) →
+pub event_step : (h : Header) (k : Known) (on : k.stopped ≡ false) (b : Block) → is_impossible h k b ≡ false → (is_transfer_event (kind b) && not (is_in_profile h k b)) ≡ false → (noted after : TraceRecord) (m : ℕ → ℕ) →
     (broken h k (Read b) ≡ [] → FollowsTrace h (event_read h k (kind b) b) noted m) →
     ((l : Known) → FollowsTrace h l noted m → (cycle b == cycle_of (event_shape h) l.reads) ≡ true → FollowsTrace h (record l { reads = l.reads + 1 }) after m) →
     IsRowStep h k (Read b) after m

@@ -1,6 +1,5 @@
 -- The leases that end where a descriptor is withdrawn, and those that begin where a ring is started or moved, as the log is told of them
-use Rattle.ownership_checker.proofs.Words.{◌≤◌, ◌-◌, ◌≡◌, ◌+◌, ◌<◌, ◌^◌, ◌∷◌, ◌∙◌, ℕ, zero, suc, true, false, List, [], Option, None, Some, slice_get, slice_index, length, arith, refl, ap, sym, subst, is_some, Header, IsHeader, Known, Ring, RingView, DriverKeeps, Row, Bell, Write, command_id, none-some, on_ring, open_leases, positions_given, ring_with, same_Some, shape_of, length_from, descriptor_length, unrestored, command_ring, id_or_none, Restores, ring_found, shape_there, among_at, lenient, clean_tests, is_transfer_ring, IsTransferRing, AreOpen, Lent, passed_on, FindsRanges, RangeIndexes, HoldsAll, is_bad_withdraw, restored, restored_on, ring_moved, ring_restored, stopped_still, NamesTransfer, MovesRing, SomeIff, Shape, FollowsRing, RingRecord, command_found, stopped_with, GivesCommandAt, IsTransferAt, command_drives, found_restored, found_withdrawn, was_given, rules}
-use Rattle.segments.specs.RingView.{Withdraws}
+use Rattle.ownership_checker.proofs.Words.{◌≤◌, ◌-◌, ◌≡◌, ◌+◌, ◌<◌, ◌^◌, ◌∷◌, ◌∙◌, ℕ, zero, suc, true, false, List, [], Option, None, Some, slice_get, slice_index, length, arith, refl, ap, sym, subst, is_some, Header, IsHeader, Known, Ring, RingView, DriverKeeps, Row, Bell, Write, command_id, none-some, on_ring, open_leases, positions_given, ring_with, same_Some, shape_of, length_from, descriptor_length, unrestored, command_ring, id_or_none, Restores, ring_found, shape_there, among_at, lenient, clean_tests, is_transfer_ring, IsTransferRing, AreOpen, Lent, passed_on, FindsRanges, RangeIndexes, HoldsAll, is_bad_withdraw, restored, restored_on, ring_moved, ring_restored, stopped_still, NamesTransfer, MovesRing, SomeIff, Shape, FollowsRing, RingRecord, command_found, stopped_with, GivesCommandAt, IsTransferAt, command_drives, found_restored, found_withdrawn, was_given, rules, Withdraws}
 
 command_id_of : (h : Header) (c : Ring) → command_ring h ≡ Some c → command_id h ≡ c.id
 unfolding command_id

@@ -1,6 +1,6 @@
 -- What a row says that breaks no rule; where no descriptor was withdrawn nothing is free; and what breaks no rule of the trace's version breaks no
 -- lenient one
-use Rattle.ownership_checker.proofs.LowerLaws.{◌≡◌, ◌∷◌, ◌++◌, ◌∙◌, ◌==◌, ℕ, Bool, true, false, if◌then◌else◌, List, [], Some, filter, refl, sym, ap, subst, inl, inr, cases_Bool, Header, Known, Ring, learned, nothing, shape_of, flips_passed, is_not_restored, unrestored, due_positions, Row, FreeRow, broken_of, first_of, broken, Refusal, AfterStop, NotRestored, WriteToOwned, lenient_row, forgotten, AreKept, IsKept, header_now, known_now, is_left, restored, ring_restored, some_flips, restored_same, AreClean, NothingFree, broken_restored, row_broken, list_any, no_flips, free_same, rules, arith, is_ring_row, header_after, known_after, RingRow}
+use Rattle.ownership_checker.proofs.Words.{◌≡◌, ◌∷◌, ◌++◌, ◌∙◌, ◌==◌, ℕ, Bool, true, false, if◌then◌else◌, List, [], Some, filter, refl, sym, ap, subst, inl, inr, cases_Bool, Header, Known, Ring, learned, nothing, shape_of, flips_passed, is_not_restored, unrestored, due_positions, Row, FreeRow, broken_of, first_of, broken, Refusal, AfterStop, NotRestored, WriteToOwned, lenient_row, forgotten, AreKept, IsKept, header_now, known_now, is_left, restored, ring_restored, some_flips, restored_same, AreClean, NothingFree, broken_restored, row_broken, list_any, no_flips, free_same, rules, arith, is_ring_row, header_after, known_after, RingRow}
 
 -- ---- a row
 

@@ -1,8 +1,6 @@
 -- Behind any rows that break no rule the walk through each ring that is there reads what was declared
-use Rattle.ownership_checker.proofs.LowerLaws.{rules, ◌≡◌, ◌∷◌, ◌++◌, ◌∙◌, ℕ, true, false, List, [], All, sym, ap, subst, drop, reverse, take, false≢true, reverse-append, take-append-drop, RingKind, Evt, walk_reads, Row, RingRow, FreeRow, is_driver_kind, All-tail, Header, IsHeader, Known, DriverKeeps, rings_of, endpoints_of, still_of, lenient_row, HasRing, has_ring, still_reads, on_ring, forgotten, IsRow, header_now, known_now, restored, row_comes, AreClean, NopRow, RingsKeep, nothing_keeps, shape_allowed, restored_keeps, now_keeps, reversed_twice}
+use Rattle.ownership_checker.proofs.LowerLaws.{rules, ◌≡◌, ◌∷◌, ◌++◌, ◌∙◌, ℕ, true, false, List, [], All, sym, ap, subst, drop, reverse, take, false≢true, reverse-append, take-append-drop, RingKind, Evt, walk_reads, Row, RingRow, FreeRow, is_driver_kind, All-tail, Header, IsHeader, Known, DriverKeeps, rings_of, endpoints_of, still_of, lenient_row, HasRing, has_ring, still_reads, on_ring, forgotten, IsRow, header_now, known_now, restored, row_comes, AreClean, NopRow, RingsKeep, nothing_keeps, shape_allowed, restored_keeps, now_keeps, reversed_twice, WalksRead, breaks_no_rule, kept_now}
 use Rattle.safety.proofs.Histories.{row_keeps}
-use Rattle.ownership_checker.specs.RingPasses.Accepted.{WalksRead}
-use Rattle.ownership_checker.proofs.RingPasses.Histories.{breaks_no_rule, kept_now}
 
 module _ (h : Header) (is : IsHeader h) where
   -- behind rows that break no rule: also behind a stop

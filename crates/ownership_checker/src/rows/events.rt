@@ -50,7 +50,7 @@ pub fn check_event<M: WordMemory>(
         return Err(StepFault::Refused(Refusal::ImpossibleEvent));
     }
     // an event that the profile leaves out is impossible by its place alone
-    if is_left_out(event) {
+    if is_left_out(header, &kept.devices, event) {
         return Err(StepFault::Refused(Refusal::NotInProfile));
     }
     if !note_event(header, finder, kept, memory, event, place) {
@@ -74,7 +74,7 @@ fn note_event<M: WordMemory>(
     requires found { IsFinder header.now.rings finder.now }
     requires as_many { length kept.now.rings.items ≡ length header.now.rings }
     ensures possible { (k : Known) → FollowsTrace header.now k kept.old (M.words memory.now) → DriverKeeps header.now k → k.started ≡ true → IsPlaced header.now k (Read event) place.now →
-        (is_transfer_event (kind event) && not (is_in_profile event)) ≡ false → result ≡ not (is_impossible_by_kind header.now k (kind event) event) }
+        (is_transfer_event (kind event) && not (is_in_profile header.now k event)) ≡ false → result ≡ not (is_impossible_by_kind header.now k (kind event) event) }
     ensures followed { OnTrue result ((k : Known) → FollowsTrace header.now k kept.old (M.words memory.now) → DriverKeeps header.now k → IsPlaced header.now k (Read event) place.now → broken header.now k (Read event) ≡ [] →
         FollowsTrace header.now (event_read header.now k (kind event) event) kept.new (M.words memory.now)) }
     ensures events { kept.new.events ≡ kept.old.events }

@@ -1,5 +1,5 @@
 -- The notes of rows need of each ring what the rows need
-use Rattle.replayer.proofs.LowerLaws.{rules, ◌≡◌, ◌==◌, ◌&&◌, ◌∷◌, ◌++◌, if◌then◌else◌, ◌∙◌, ℕ, Bool, max, List, [], map, Option, refl, ap, arith, append_assoc, Block, BlockKind, CommandCompletion, code, slot, is_command_completion, is_transfer_event, is_success, Header, Row, Known, RingSpot, event_at, command_at, next_command, number_behind, is_placed_by, is_placed, begins_anew, number_reported, ends_need, need, header_after, known_after, any_notes, post_of, Note, Begun, Made, open_stopped, placed, placed_note, reporting_look, transfer_notes, completing_look, event_notes, row_notes, notes, need_before, need_in, NeedsLaw, has, has_listed, has_placed}
+use Rattle.replayer.proofs.LowerLaws.{code_told, rules, ◌≡◌, ◌==◌, ◌&&◌, ◌∷◌, ◌++◌, if◌then◌else◌, ◌∙◌, ℕ, Bool, max, List, [], map, Option, refl, ap, arith, append_assoc, Block, BlockKind, CommandCompletion, code, slot, is_command_completion, is_transfer_event, is_success, Header, Row, Known, RingSpot, event_at, command_at, next_command, number_behind, is_placed_by, is_placed, begins_anew, number_reported, ends_need, need, header_after, known_after, any_notes, post_of, Note, Begun, Made, open_stopped, placed, placed_note, reporting_look, transfer_notes, completing_look, event_notes, row_notes, notes, need_before, need_in, NeedsLaw, has, has_listed, has_placed}
 
 zero_most : (n : ℕ) → max 0 n ≡ n
 zero_most n = omega arith
@@ -23,7 +23,7 @@ module _ (h : Header) where
   placed_need k row (q ∷ l) rest r = placed_need k row l rest r
 
   transfer_need : (k : Known) (b : Block) (o : Option RingSpot) (post : Note) (rest : List Note) (r : ℕ) → IsLook post →
-      need_in ((transfer_notes h k b o ++ post ∷ []) ++ rest) r ≡ max (if is_success (code b) then number_behind r o else 0) (need_in rest r)
+      need_in ((transfer_notes h k b o ++ post ∷ []) ++ rest) r ≡ max (if is_success (code_told h k b) then number_behind r o else 0) (need_in rest r)
   unfolding transfer_notes need_in number_behind need_before reporting_look
   transfer_need k b o post rest r is_post = search (rules, one_or_none, zero_most)
 
@@ -35,7 +35,7 @@ module _ (h : Header) where
   EventNeed k κ b rest r =
       need_in (event_notes h k κ b ++ rest) r
       ≡ (if is_command_completion κ && code b == 1 && is_placed_by h k r (slot b) (command_at h k (next_command h k)) then 0
-      else max (if is_transfer_event κ && is_success (code b) then number_behind r (event_at h k b) else 0) (need_in rest r))
+      else max (if is_transfer_event κ && is_success (code_told h k b) then number_behind r (event_at h k b) else 0) (need_in rest r))
 
   completion_need : (k : Known) (b : Block) (rest : List Note) (r : ℕ) → EventNeed k CommandCompletion b rest r
   unfolding event_notes need_in completing_look need_before

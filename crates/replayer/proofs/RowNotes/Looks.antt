@@ -1,5 +1,5 @@
 -- The notes of single looks
-use Rattle.replayer.proofs.Words.{arith, ◌≡◌, ℕ, ◌+◌, [], ◌∷◌, ◌++◌, Some, None, if◌then◌else◌, cond-false, ne_eqb, Block, code, is_success, Spot, number, Command, StopEndpoint, Header, command_id, Known, RingSpot, next_command, Succeeded, open_stopped, reporting_look, transfer_notes, CommandPlace}
+use Rattle.replayer.proofs.Words.{code_told, arith, ◌≡◌, ℕ, ◌+◌, [], ◌∷◌, ◌++◌, Some, None, if◌then◌else◌, cond-false, ne_eqb, Block, code, is_success, Spot, number, Command, StopEndpoint, Header, command_id, Known, RingSpot, next_command, Succeeded, open_stopped, reporting_look, transfer_notes, CommandPlace}
 
 abbrev pub place_of : Header → Known → CommandPlace
 place_of h k = record { ring = command_id h; behind = next_command h k + 1 }
@@ -9,7 +9,7 @@ module _ (h : Header) (k : Known) where
     abbrev at : RingSpot
     at = record { ring = r; spot = t }
 
-    pub transfer_is : (if is_success (code b) then Succeeded r (number t + 1) ∷ [] else []) ++ reporting_look h k b at ∷ [] ≡ transfer_notes h k b (Some at)
+    pub transfer_is : (if is_success (code_told h k b) then Succeeded r (number t + 1) ∷ [] else []) ++ reporting_look h k b at ∷ [] ≡ transfer_notes h k b (Some at)
     unfolding transfer_notes
     transfer_is = grind arith
 

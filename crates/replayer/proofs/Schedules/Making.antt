@@ -1,6 +1,5 @@
 -- Schedules that are made step by step
-use Rattle.replayer.proofs.Words.{drop_all, ◌≡◌, ◌∙◌, ℕ, ◌+◌, ◌<◌, ◌≤◌, le-leb, true, false, List, [], ◌∷◌, ◌++◌, drop, get_or, length, Option, Some, None, is_some, Result, Ok, Err, ap, subst, arith, option_and_then, nat_tests, common_steps, Step, Scene, step_made, Seen, NotPossible, shows, Unmade, Dropped, IsMade, Making, behind_step, if_possible, is_full, made_step, made_steps, tried_step}
-use Rattle.controller_model.specs.Following.{IsStep}
+use Rattle.replayer.proofs.Words.{drop_all, ◌≡◌, ◌∙◌, ℕ, ◌+◌, ◌<◌, ◌≤◌, le-leb, true, false, List, [], ◌∷◌, ◌++◌, drop, get_or, length, Option, Some, None, is_some, Result, Ok, Err, ap, subst, arith, option_and_then, nat_tests, common_steps, Step, Scene, step_made, Seen, NotPossible, shows, Unmade, Dropped, IsMade, Making, behind_step, if_possible, is_full, made_step, made_steps, tried_step, IsStep}
 
 -- where something isn't made, nothing is made of it
 pub unmade : {X Y Z W : Type 0} (e : Unmade) (o : Option Y) (f : Y → Option W) (P : X → Y → Type 0) (Q : Z → W → Type 0) → IsMade (Err e) o P → IsMade (Err e) (option_and_then f o) Q

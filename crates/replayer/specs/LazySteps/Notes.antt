@@ -17,7 +17,7 @@ use Rattle.traces.specs.declared.row.Row.TheVariants.{Bell, Read, Ring as RingRo
 use Rattle.traces.specs.Header.{command_id}
 use Rattle.ring_knowledge.specs.Known.{Known}
 use Rattle.ring_knowledge.specs.Learned.{learned}
-use Rattle.ring_knowledge.specs.Rings.{RingSpot, event_at, command_at, next_command}
+use Rattle.ring_knowledge.specs.Rings.{RingSpot, code_told, event_at, command_at, next_command}
 use Rattle.ring_knowledge.specs.Completions.{changed_by}
 use Rattle.traces.specs.LivingRings.{header_after}
 use Rattle.ring_knowledge.specs.Histories.{known_after}
@@ -60,14 +60,14 @@ module _ (h : Header) where
 
   unfoldable pub reporting_look : Known → Block → RingSpot → Note
   reporting_look k b at =
-      if is_stopping (code b) then StoppedAt (command_id h) (next_command h k + 1) at.ring at.spot 0
+      if is_stopping (code_told h k b) then StoppedAt (command_id h) (next_command h k + 1) at.ring at.spot 0
       else Taken at.ring (number at.spot + 1)
 
   -- a Transfer Event, by the spot that it names
   unfoldable pub transfer_notes : Known → Block → Option RingSpot → List Note
   transfer_notes k b None = []
   transfer_notes k b (Some at) =
-      if is_success (code b) then Succeeded at.ring (number at.spot + 1) ∷ reporting_look k b at ∷ []
+      if is_success (code_told h k b) then Succeeded at.ring (number at.spot + 1) ∷ reporting_look k b at ∷ []
       else reporting_look k b at ∷ []
 
   -- the look for a command, which may stop an open ring

@@ -1,12 +1,11 @@
 //! The notes of Transfer Events (xHCI 4.6.9, 4.10.2, 6.4.2.1).
 ghost use Rattle.std.specs.Prelude.{◌≡◌, ◌+◌, ◌<◌, ◌^◌, ◌++◌, ◌∷◌, [], ℕ, Some, true, OnOk, if◌then◌else◌, is_some};
-ghost use Rattle.trb.specs.Block.{code};
-ghost use Rattle.trb.specs.CompletionCode.{is_stopping, is_success};
+ghost use Rattle.trb.specs.CompletionCode.{is_success};
 ghost use Rattle.trb.specs.declared.kind.BlockKind.TheVariants.{TransferEvent};
 ghost use Rattle.segments.specs.Spots.{number};
 ghost use Rattle.traces.specs.Header.{IsHeader, command_ring};
 ghost use Rattle.ring_knowledge.specs.Known.{Known};
-ghost use Rattle.ring_knowledge.specs.Rings.{event_at};
+ghost use Rattle.ring_knowledge.specs.Rings.{code_told, event_at};
 ghost use Rattle.trace_record.specs.RingFinder.Finding.{IsFinder};
 ghost use Rattle.safety.specs.Keeps.{DriverKeeps};
 ghost use Rattle.replayer.specs.LazySteps.Notes.{event_notes, reporting_look, transfer_notes};
@@ -63,43 +62,44 @@ fn note_named(
     };
     let rings = header.rings.as_slice();
     let ring = rings[at.number].id;
-    note_success(event, ring, at.spot, notes)?;
-    let look = reporting_look(header, finder, kept, event, ring, at.spot);
+    let code = kept.devices.code_told(header, event);
+    note_success(code, ring, at.spot, notes)?;
+    let look = reporting_look(header, finder, kept, code, ring, at.spot);
     add_note(look, notes)
 }
 
-/// The success of the block at a spot, where the event reports that.
-fn note_success(event: Block, ring: u8, spot: Spot, notes: &mut Vec<Note>) -> Result<(), AllocError>
+/// The success of the block at a spot, where an event reports that whose code counts so.
+fn note_success(code: u8, ring: u8, spot: Spot, notes: &mut Vec<Note>) -> Result<(), AllocError>
     requires few { number spot < 2 ^ 63 }
-    ensures { OnOk result (notes.new.items ≡ notes.old.items ++ (if is_success (code event) then Succeeded ring (number spot + 1) ∷ [] else [])) }
+    ensures { OnOk result (notes.new.items ≡ notes.old.items ++ (if is_success code then Succeeded ring (number spot + 1) ∷ [] else [])) }
 {
-    if !is_success(event.code()) {
+    if !is_success(code) {
         return Ok(());
     }
     let behind = spot.number() + 1;
     add_note(Note::Succeeded { ring, behind }, notes)
 }
 
-/// How far the ring is looked at for an event, and for one of a stop the command ring.
+/// How far the ring is looked at for an event whose code counts so, and for one of a stop the command ring.
 fn reporting_look(
     header: &Header,
     finder: &Finder,
     kept: &TraceRecord,
-    event: Block,
+    code: u8,
     ring: u8,
     spot: Spot,
 ) -> Note
     requires headed { IsHeader header.now }
     requires found { IsFinder header.now.rings finder.now }
     requires few { number spot < 2 ^ 63 }
-    ensures { (k : Known) (m : ℕ → ℕ) → FollowsTrace header.now k kept.now m → is_some (command_ring header.now) ≡ true →
+    ensures { (k : Known) (m : ℕ → ℕ) (event : Block) → FollowsTrace header.now k kept.now m → code ≡ code_told header.now k event → is_some (command_ring header.now) ≡ true →
         result ≡ reporting_look header.now k event (record { ring = ring; spot = spot }) }
 {
     let taken = Note::Taken {
         ring,
         behind: spot.number() + 1,
     };
-    if !is_stopping(event.code()) {
+    if !is_stopping(code) {
         return taken;
     }
     match next_place(header, finder, kept) {

@@ -1,6 +1,5 @@
 -- Where all events are read, the controller can post an event that is possible
-use Rattle.safety.proofs.LowerLaws.{rules, [], ◌≡◌, ◌++◌, ◌∙◌, List, All, reverse, sym, ap, subst, append-nil, reverse-reverse, Header, Row, IsRow, ContainsAll, GoesSoFar, LazyLaw, AllAreRead, lazy_run, lazy_steps, ◌+◌, ◌∷◌, length, arith, Block, World, Known, Agrees, Runs, all_read, ◌-◌, ◌<◌, ◌≤◌, ◌==◌, ◌&&◌, ◌||◌, ℕ, nat_lt, not, true, false, ne_eqb, lt-ltb, ltb-false, and_from, or_parts, not-false, not_from_false, cycle, kind, is_event, cycle_of, same_in_lap, shape_facts, has_room, Read, IsHeader, event_shape, event_size, can_post, is_past_room, is_impossible_by_kind, is_impossible, event_tests, lenient_tests, lenient, DriverKeeps, EventFacts, event_facts, event_ring_is, size_is, AllFail, tests_fail}
-use Rattle.safety.proofs.Words.{scene_reached}
+use Rattle.safety.proofs.LowerLaws.{rules, [], ◌≡◌, ◌++◌, ◌∙◌, List, All, reverse, sym, ap, subst, append-nil, reverse-reverse, Header, Row, IsRow, ContainsAll, GoesSoFar, LazyLaw, AllAreRead, lazy_run, lazy_steps, ◌+◌, ◌∷◌, length, arith, Block, World, Known, Agrees, Runs, all_read, ◌-◌, ◌<◌, ◌≤◌, ◌==◌, ◌&&◌, ◌||◌, ℕ, nat_lt, not, true, false, ne_eqb, lt-ltb, ltb-false, and_from, or_parts, not-false, not_from_false, cycle, kind, is_event, cycle_of, same_in_lap, shape_facts, has_room, Read, IsHeader, event_shape, event_size, can_post, is_past_room, is_impossible_by_kind, is_impossible, event_tests, lenient_tests, lenient, DriverKeeps, EventFacts, event_facts, event_ring_is, size_is, AllFail, tests_fail, scene_reached}
 
 -- Behind all rows of a trace nothing is left to read: from the law of the lazy run behind each row
 

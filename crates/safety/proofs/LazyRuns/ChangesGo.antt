@@ -1,5 +1,5 @@
 -- The changes of a command's success, one after the other: each is possible, and the rings go as they should, also one that is bound or moved
-use Rattle.safety.proofs.UpperLaws.{[], ◌≡◌, ◌==◌, ◌&&◌, if◌then◌else◌, ◌∷◌, ◌∙◌, ℕ, not, Bool, false, List, Option, Some, None, option_and_then, refl, sym, ap, subst, eq-eqb, rules, and_from, and_parts, or_parts, or_from, false≢true, false_from_ne_true, not_from_false, none-some, Spot, is_open, Command, Stopped, Change, SlotGoesOn, DeviceLeft, Disables, Places, Stops, Resets, Header, command_id, is_ring, World, Known, on_ring, ring_here, ring_elsewhere, StatesMatch, ChangeKeeps, none_keeps, both_keep, IsNoPlacing, AreNoPlacings, cond_is, put_off, none_in_range, world_changed_by, world_changed_by_all, world_disabled, has_one_of, world_in_state, inactive, known_changed_by, known_changed_by_all, known_disabled, held_at_ceiling, known_in_state, is_placed_by_all, ring_placed, ◌≢◌, ◌<◌, ◌≤◌, true, find, arith, inl, inr, ne_eqb, list_any, range_with_len, cases_eq, cond-true, cond-false, not-true, same_Some, is_inside, RingView, IsSpot, number, rank, spot_address, ceiling, cases_option, rank_least, rank_most, EndpointState, is_off, Ring, IsHeader, shape_of, id_of, is_transfer_kind, ring_having, IsIn, IsTransferRing, RingState, state_of, BoundRing, found_in, shape_is, ring_shape, transfer_driver, transfer_not_command, MoveSpot, move_spot, transfer_ring, having_transfer, Ready, bound_spot, floor_number, moved_having, spot_inside, MayBind, MayMove, bind_keeps, move_keeps, binds_placed, moves_placed, placed_state, placed_world, placed_world_is, placed_here, placed_elsewhere, rest_active, rest_still, PlacedTo, is_had_by_another, placed, placed_on, StandsAt, IsActiveIfOpen, HadBefore, AtFloors, RingsGo, one_spot, ring_is, is_ring_is}
+use Rattle.safety.proofs.UpperLaws.{world_typed, known_typed, Types, [], ◌≡◌, ◌==◌, ◌&&◌, if◌then◌else◌, ◌∷◌, ◌∙◌, ℕ, not, Bool, false, List, Option, Some, None, option_and_then, refl, sym, ap, subst, eq-eqb, rules, and_from, and_parts, or_parts, or_from, false≢true, false_from_ne_true, not_from_false, none-some, Spot, is_open, Command, Stopped, Change, SlotGoesOn, DeviceLeft, Disables, Places, Stops, Resets, Header, command_id, is_ring, World, Known, on_ring, ring_here, ring_elsewhere, StatesMatch, ChangeKeeps, none_keeps, both_keep, IsNoPlacing, AreNoPlacings, cond_is, put_off, none_in_range, world_changed_by, world_changed_by_all, world_disabled, has_one_of, world_in_state, inactive, known_changed_by, known_changed_by_all, known_disabled, held_at_ceiling, known_in_state, is_placed_by_all, ring_placed, ◌≢◌, ◌<◌, ◌≤◌, true, find, arith, inl, inr, ne_eqb, list_any, range_with_len, cases_eq, cond-true, cond-false, not-true, same_Some, is_inside, RingView, IsSpot, number, rank, spot_address, ceiling, cases_option, rank_least, rank_most, EndpointState, is_off, Ring, IsHeader, shape_of, id_of, is_transfer_kind, ring_having, IsIn, IsTransferRing, RingState, state_of, BoundRing, found_in, shape_is, ring_shape, transfer_driver, transfer_not_command, MoveSpot, move_spot, transfer_ring, having_transfer, Ready, bound_spot, floor_number, moved_having, spot_inside, MayBind, MayMove, bind_keeps, move_keeps, binds_placed, moves_placed, placed_state, placed_world, placed_world_is, placed_here, placed_elsewhere, rest_active, rest_still, PlacedTo, is_had_by_another, placed, placed_on, StandsAt, IsActiveIfOpen, HadBefore, AtFloors, RingsGo, one_spot, ring_is, is_ring_is}
 use Rattle.safety.proofs.FinishSlots.{change_keeps}
 use Rattle.safety.proofs.NoWait.{ceiling_held}
 use Rattle.safety.proofs.LazyRuns.LooksRun.{stands_same}
@@ -83,6 +83,10 @@ module _ (h : Header) (c : Command) where
     unfolding world_changed_by known_changed_by ring_placed
     device_goes s = goes_to (DeviceLeft s) _ tt refl (search rules) refl
 
+    types_goes : (s : ℕ) (which isochronous : ℕ → Bool) → ChangeGoes k w (Types s which isochronous)
+    unfolding world_changed_by known_changed_by ring_placed world_typed known_typed
+    types_goes s which isochronous = goes_to (Types s which isochronous) _ tt refl (search rules) refl
+
     reset_goes : (s i : ℕ) → ChangeGoes k w (Resets s i)
     unfolding world_changed_by known_changed_by ring_placed world_in_state known_in_state
     reset_goes s i = goes_to (Resets s i) _ tt refl (search rules) refl
@@ -90,9 +94,6 @@ module _ (h : Header) (c : Command) where
     -- ---- endpoints are disabled
 
     module _ (s : ℕ) (which : ℕ → Bool) where
-      had_then : (z j r : ℕ) → (if z == s && which j then None else k.ring_of z j) ≡ Some r → k.ring_of z j ≡ Some r
-      had_then z j r has = search (rules, cond_is, none-some)
-
       -- a ring that an endpoint still has isn't that of one that is disabled
       not_let_go : (z j r : ℕ) → (z == s && which j) ≡ false → k.ring_of z j ≡ Some r → has_one_of w s which r ≡ false
       unfolding has_one_of
@@ -105,7 +106,7 @@ module _ (h : Header) (c : Command) where
 
       disable_goes : ChangeGoes k w (Disables s which)
       unfolding world_changed_by known_changed_by ring_placed world_disabled known_disabled
-      disable_goes = goes_to (Disables s which) _ tt refl (search (rules, had_then, and_from, not_from_false, not_let_go, cond_is, none-some)) refl
+      disable_goes = goes_to (Disables s which) _ tt refl (search (rules, cond_is, none-some, and_from, not_from_false, not_let_go)) refl
 
     -- ---- an endpoint is stopped
 
@@ -113,17 +114,13 @@ module _ (h : Header) (c : Command) where
     unfolding world_in_state known_in_state
     none_stops s i = record { had = λ z j r has. has; floor = λ r. refl; pointer = refl; cycle = refl; events = refl; active = λ z j r has was opened. was opened }
 
-    stops_by : (s i : ℕ) (o : Option ℕ) → LeavesRings k (held_at_ceiling h (known_in_state h k s i Stopped) o) w (inactive (world_in_state w s i Stopped) o)
-    unfolding inactive held_at_ceiling world_in_state known_in_state on_ring is_open
-    stops_by s i o = search (rules, false≢true, is_open, ring_here, put_off, ring_elsewhere, none_stops)
-
     stop_goes : (s i : ℕ) → ChangeGoes k w (Stops s i)
-    unfolding world_changed_by known_changed_by ring_placed
-    stop_goes s i = goes_to (Stops s i) _ tt refl (search (rules, stops_by, m.ring_of)) refl
+    unfolding world_changed_by known_changed_by ring_placed inactive held_at_ceiling world_in_state known_in_state on_ring is_open
+    stop_goes s i = goes_to (Stops s i) _ tt refl (search (rules, false≢true, is_open, ring_here, put_off, ring_elsewhere, none_stops, m.ring_of)) refl
 
     pub change_goes : (change : Change) → IsNoPlacing change → ChangeGoes k w change
     change_goes (SlotGoesOn s) plain = search (rules, slot_goes)
-    change_goes _ plain = search (rules, slot_goes, device_goes, disable_goes, stop_goes, reset_goes)
+    change_goes _ plain = search (rules, slot_goes, device_goes, types_goes, disable_goes, stop_goes, reset_goes)
 
   pub changes_go : (list : List Change) → AreNoPlacings list → (k : Known) (w : World) → StatesMatch h k w → AtFloors h k w → ListGoes k w list
   changes_go [] plain k w m at = no_change_goes k w m at
@@ -256,7 +253,7 @@ module _ (h : Header) (is : IsHeader h) where
 
     pub placed_goes : ChangeGoes h c k w (Places s i p cycle state)
     unfolding l
-    placed_goes = search (rules, l, v, made, keeps, floors, still_active, placed_ring, had_before, view_elsewhere, ne_eqb, other_than)
+    placed_goes = record { world = v; made = made; keeps = keeps; goes = (search (rules, l, v, floors, still_active, placed_ring, had_before, view_elsewhere, ne_eqb, other_than)) }
 
   -- ---- a ring is bound, or moved
 

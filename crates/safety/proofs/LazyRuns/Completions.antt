@@ -1,5 +1,5 @@
 -- The step of a row that reads a Command Completion Event, whatever its command and its code
-use Rattle.safety.proofs.UpperLaws.{[], ◌≡◌, ◌+◌, ◌==◌, ◌∙◌, ℕ, not, true, false, List, Option, Some, is_some, unwrap_or, refl, sym, ap, rules, or_parts, cond-false, cond-true, Block, IsBlock, kind, code, slot, is_command_completion, Command, changes, command_of, named_context, can_succeed, Header, Read, Row, Config, IsHeader, command_id, register_or_zero, World, posted, Known, event_read, learned, lenient, on_ring, command_at, next_command, is_bad_area, has_bad_context, CommandKeeps, Agrees, bad_command_context, ring_elsewhere, StatesMatch, ChangeKeeps, states_match, let_go, completion_kind, seen_after, stop_ended_is, next_unfinished, stored, stored_block, world_changed_by_all, bindings_effect, ended, ended_with, passes_end, finish_succeeded, completed, known_finished, known_succeeded, is_placed_by, ◌≢◌, ◌<◌, ◌∷◌, Bool, map, All, get_or, eq-eqb, list_any, All-head, All-tail, ConfigureEndpoint, Running, Change, SlotGoesOn, Disables, Places, placed_by_context, added_endpoints, is_dropped, context_pointer, context_cycle, is_ring, is_among, has_repeats, ring_bound, binding_in, DriverKeeps, Stands, bad_context_parts, same_context, configure_same, slot_above, may_add, have_none, numbered, apart, ReadyAt, HasNone, ring_at, ready_next, placed_there, none_there, false≢true, each_fails, any_of_map, known_changed_by, subst, inl, inr, cases_Bool, PlacesNone, command_numbered, SetTrDequeue, Stopped, may_move, MayMove, ContextSize, AreNoPlacings, arith, AddressDevice, is_off, address_same, first_binds, second_moves, slot_binds, slot_moves, and_left, and_right, not-true, was_stop_seen, learned_read, next_known, failed_read, put_off, Carries, Past, RingsGo, AtFloors, Follows, Leads, AreTimely, same_meant}
+use Rattle.safety.proofs.UpperLaws.{typed_by_context, [], ◌≡◌, ◌+◌, ◌==◌, ◌∙◌, ℕ, not, true, false, List, Option, Some, is_some, unwrap_or, refl, sym, ap, rules, or_parts, cond-false, cond-true, Block, IsBlock, kind, code, slot, is_command_completion, Command, changes, command_of, named_context, can_succeed, Header, Read, Row, Config, IsHeader, command_id, register_or_zero, World, posted, Known, event_read, learned, lenient, on_ring, command_at, next_command, is_bad_area, has_bad_context, CommandKeeps, Agrees, bad_command_context, ring_elsewhere, StatesMatch, ChangeKeeps, states_match, let_go, completion_kind, seen_after, stop_ended_is, next_unfinished, stored, stored_block, world_changed_by_all, bindings_effect, ended, ended_with, passes_end, finish_succeeded, completed, known_finished, known_succeeded, is_placed_by, ◌≢◌, ◌<◌, ◌∷◌, Bool, map, All, get_or, eq-eqb, list_any, All-head, All-tail, ConfigureEndpoint, Running, Change, SlotGoesOn, Disables, Places, placed_by_context, added_endpoints, is_dropped, context_pointer, context_cycle, is_ring, is_among, has_repeats, ring_bound, binding_in, DriverKeeps, Stands, bad_context_parts, same_context, configure_same, slot_above, may_add, have_none, numbered, apart, ReadyAt, HasNone, ring_at, ready_next, placed_there, none_there, false≢true, each_fails, any_of_map, known_changed_by, subst, inl, inr, cases_Bool, PlacesNone, command_numbered, SetTrDequeue, Stopped, may_move, MayMove, ContextSize, AreNoPlacings, arith, AddressDevice, is_off, address_same, first_binds, second_moves, slot_binds, slot_moves, and_left, and_right, not-true, was_stop_seen, learned_read, next_known, failed_read, put_off, Carries, Past, RingsGo, AtFloors, Follows, Leads, AreTimely, same_meant}
 use Rattle.std.proofs.Common.{option_map}
 use Rattle.safety.specs.LazyRuns.Needs.{is_placed}
 use Rattle.safety.proofs.LazyRuns.ChangesGo.{ListGoes, ChangeGoes, no_change_goes, change_then_goes, change_goes, changes_go, bind_goes, move_goes}
@@ -124,6 +124,12 @@ module _ (h : Header) (is : IsHeader h) (k : Known) (w : World) (d : DriverKeeps
   abbrev l : Known
   l = known_changed_by h configure k (SlotGoesOn s)
 
+  abbrev types : Change
+  types = typed_by_context h.context_size k.memory s a
+
+  abbrev typed : Known
+  typed = known_changed_by h configure l types
+
   abbrev drops : Change
   drops = Disables s (is_dropped k.memory a)
 
@@ -133,17 +139,22 @@ module _ (h : Header) (is : IsHeader h) (k : Known) (w : World) (d : DriverKeeps
   first : ChangeGoes h configure k w (SlotGoesOn s)
   first = change_goes h configure k w m at (SlotGoesOn s) tt
 
-  second : ChangeGoes h configure l first.world drops
-  second = change_goes h configure l first.world first.keeps.states first.goes.at_floors drops tt
+  second : ChangeGoes h configure l first.world types
+  second = change_goes h configure l first.world first.keeps.states first.goes.at_floors types tt
 
-  third : ListGoes h configure (known_changed_by h configure l drops) second.world adds
+  third : ChangeGoes h configure typed second.world drops
+  third = change_goes h configure typed second.world second.keeps.states second.goes.at_floors drops tt
+
+  fourth : ListGoes h configure (known_changed_by h configure typed drops) third.world adds
   unfolding ring_bound binding_in
-  third =
-      each_goes h is k.memory s a configure (slot_above h k d configure s given.good refl) low (added_endpoints k.memory a) (known_changed_by h configure l drops) second.world second.keeps.states
-      second.goes.at_floors (may_add h is k d s a given) (have_none h is k d s a given) (numbered h is k d s a given) (apart h is k d s a given)
+  fourth =
+      each_goes h is k.memory s a configure (slot_above h k d configure s given.good refl) low (added_endpoints k.memory a) (known_changed_by h configure typed drops) third.world third.keeps.states
+      third.goes.at_floors (may_add h is k d s a given) (have_none h is k d s a given) (numbered h is k d s a given) (apart h is k d s a given)
 
-  all : ListGoes h configure k w (SlotGoesOn s ∷ drops ∷ adds)
-  all = change_then_goes h configure k w (SlotGoesOn s) (drops ∷ adds) first (change_then_goes h configure l first.world drops adds second third)
+  all : ListGoes h configure k w (SlotGoesOn s ∷ types ∷ drops ∷ adds)
+  all =
+      change_then_goes h configure k w (SlotGoesOn s) (types ∷ drops ∷ adds) first
+      (change_then_goes h configure l first.world types (drops ∷ adds) second (change_then_goes h configure typed second.world drops adds third fourth))
 
   pub configure_effect : (slot : ℕ) → Stands h k w → EffectGoes h k w slot (ConfigureEndpoint s false a)
   unfolding changes

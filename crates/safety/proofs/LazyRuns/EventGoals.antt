@@ -1,5 +1,5 @@
 -- What an event that is read asks for stays below the floors behind it, or below what is needed later; and it is few looks
-use Rattle.safety.proofs.UpperLaws.{rules, [], ◌≡◌, ◌+◌, ◌<◌, ◌≤◌, ◌==◌, ◌&&◌, ◌||◌, ◌∷◌, ◌∙◌, ℕ, true, false, List, Some, max, nat_lt, arith, refl, sym, ap, subst, inl, inr, eq-eqb, eqb-true, ltb-true, cases_Bool, cond_both, false≢true, and_parts, Block, BlockKind, TransferEvent, CommandCompletion, kind, code, slot, endpoint, is_transfer_event, is_success, is_halting, is_trb_error, is_stopping, Spot, number, after, number-after, floor_number, is_open, Header, Row, Read, IsHeader, shape_of, command_id, Known, RingSpot, next_command, learned, lenient, transferred, IsDriverRing, IsTransferRing, DriverKeeps, command_is_ring, event_facts, found_in, transfer_driver, transfer_not_command, need, number_behind, number_reported, is_report_of_success, is_shape, driver_test, floors_grow, each_passes, header_parts, command_taken, lazy_goals, open_goals, report_goals, stop_goal, stopped_goals, taken_up_to, event_at, bit, bit_set, number_taken, AreFew, no_goal, command_goal, ring_goal, two_goals, TransferFacts, transfer_facts, stop_code}
+use Rattle.safety.proofs.UpperLaws.{None, code_told, rules, [], ◌≡◌, ◌+◌, ◌<◌, ◌≤◌, ◌==◌, ◌&&◌, ◌||◌, ◌∷◌, ◌∙◌, ℕ, true, false, List, Some, max, nat_lt, arith, refl, sym, ap, subst, inl, inr, eq-eqb, eqb-true, ltb-true, cases_Bool, cond_both, false≢true, and_parts, Block, BlockKind, TransferEvent, CommandCompletion, kind, code, slot, endpoint, is_transfer_event, is_success, is_halting, is_trb_error, is_stopping, Spot, number, after, number-after, floor_number, is_open, Header, Row, Read, IsHeader, shape_of, command_id, Known, RingSpot, next_command, learned, lenient, transferred, IsDriverRing, IsTransferRing, DriverKeeps, command_is_ring, event_facts, found_in, transfer_driver, transfer_not_command, need, number_behind, number_reported, is_report_of_success, is_shape, driver_test, floors_grow, each_passes, header_parts, command_taken, lazy_goals, open_goals, report_goals, stop_goal, stopped_goals, taken_up_to, event_at, bit, bit_set, number_taken, AreFew, no_goal, command_goal, ring_goal, two_goals, TransferFacts, transfer_facts, stop_code}
 use Rattle.safety.proofs.LazyRuns.TransferGoals.{read_is, success_floor, error_ring, stop_ring}
 
 -- each goal's number is at most that of its ring
@@ -32,11 +32,11 @@ module _ (h : Header) (k : Known) (b : Block) (clean : lenient h k (Read b) ≡ 
   module _ (transfer : is_transfer_event (kind b) ≡ true) (f : TransferFacts h k b) where
     record IsPassed : Type 0 where
       spot : number f.spot ≤ floor_number (l.ring f.ring)
-      block : is_stopping (code b) ≡ false → number f.spot + 1 ≤ floor_number (l.ring f.ring)
-      success : is_success (code b) ≡ true → number f.spot + 1 ≤ floor_number (l.ring f.ring)
+      block : is_stopping (code_told h k b) ≡ false → number f.spot + 1 ≤ floor_number (l.ring f.ring)
+      success : is_success (code_told h k b) ≡ true → number f.spot + 1 ≤ floor_number (l.ring f.ring)
 
     m : Known
-    m = transferred h k (code b) (slot b) (endpoint b) f.ring f.spot
+    m = transferred h k (code_told h k b) (slot b) (endpoint b) f.ring f.spot
 
     floor_is : floor_number (l.ring f.ring) ≡ floor_number (m.ring f.ring)
     unfolding m
@@ -51,13 +51,13 @@ module _ (h : Header) (k : Known) (b : Block) (clean : lenient h k (Read b) ≡ 
     is_passed : IsPassed
     unfolding m
     is_passed =
-        elim (cases_Bool (is_success (code b))) [
-          | inl success ↦ by_block (behind (success_floor h k b transfer f (code b) (slot b) (endpoint b) f.ring f.spot success))
-          | inr fails ↦ elim (cases_Bool (is_halting (code b) || is_trb_error (code b))) [
-            | inl breaks ↦ by_block (behind (error_ring h k b transfer f (code b) (slot b) (endpoint b) f.ring f.spot fails breaks).floor)
+        elim (cases_Bool (is_success (code_told h k b))) [
+          | inl success ↦ by_block (behind (success_floor h k b transfer f (code_told h k b) (slot b) (endpoint b) f.ring f.spot success))
+          | inr fails ↦ elim (cases_Bool (is_halting (code_told h k b) || is_trb_error (code_told h k b))) [
+            | inl breaks ↦ by_block (behind (error_ring h k b transfer f (code_told h k b) (slot b) (endpoint b) f.ring f.spot fails breaks).floor)
             | inr quiet ↦
                 let c = stop_code h k b f fails quiet in
-                let there = (stop_ring h k b transfer f (code b) (slot b) (endpoint b) f.ring f.spot c.success c.halting c.error c.stopping).floor in
+                let there = (stop_ring h k b transfer f (code_told h k b) (slot b) (endpoint b) f.ring f.spot c.success c.halting c.error c.stopping).floor in
                 record {
                   spot = omega (arith, floor_is, ap (λ t. number t) there);
                   block = λ goes_on. absurd (false≢true (sym goes_on ∙ c.stopping));
@@ -66,18 +66,20 @@ module _ (h : Header) (k : Known) (b : Block) (clean : lenient h k (Read b) ≡ 
           ]
         ]
 
-    reported_here : (r : ℕ) → is_success (code b) ≡ true → number_behind r (Some (record { ring = f.ring; spot = f.spot })) ≤ floor_number (l.ring r)
+    reported_here : (r : ℕ) → is_success (code_told h k b) ≡ true → number_behind r (Some (record { ring = f.ring; spot = f.spot })) ≤ floor_number (l.ring r)
     unfolding number_behind
     reported_here r success = search (rules, arith, cond_both, number, floor_number, l, eqb-true, is_passed)
 
   pub reported_most : (r : ℕ) → number_reported h k r (Read b) ≤ floor_number (l.ring r)
-  unfolding number_reported
+  unfolding number_reported number_behind
   reported_most r =
-      cond_both (is_report_of_success b) (number_behind r (event_at h k b)) 0 (λ n. n ≤ floor_number (l.ring r))
+      cond_both (is_report_of_success h k b) (number_behind r (event_at h k b)) 0 (λ n. n ≤ floor_number (l.ring r))
       (λ report.
-      let parts = and_parts (is_transfer_event (kind b)) (is_success (code b)) report in
-      let f : TransferFacts h k b = transfer_facts h k b clean parts.0 in
-      subst (λ o. number_behind r o ≤ floor_number (l.ring r)) (sym f.at) (reported_here parts.0 f r parts.1)) (λ _. omega arith)
+      let parts = and_parts (is_transfer_event (kind b)) (is_success (code_told h k b)) report in
+      elim (transfer_facts h k b clean parts.0) [
+        | inl f ↦ subst (λ o. number_behind r o ≤ floor_number (l.ring r)) (sym f.at) (reported_here parts.0 f r parts.1)
+        | inr s ↦ subst (λ o. number_behind r o ≤ floor_number (l.ring r)) (sym s.none) (omega arith)
+      ]) (λ _. omega arith)
 
   -- ---- its goals
 
@@ -106,15 +108,17 @@ module _ (h : Header) (k : Known) (b : Block) (clean : lenient h k (Read b) ≡ 
       report_within : AreWithin top (report_goals h k later b (Some at))
       unfolding report_goals
       report_within =
-          cond_both (is_stopping (code b)) (command_taken h k ∷ stop_goal h at (need h l f.ring later) ∷ []) (taken_up_to h f.ring (number f.spot + 1) ∷ []) (AreWithin top)
+          cond_both (is_stopping (code_told h k b)) (command_taken h k ∷ stop_goal h at (need h l f.ring later) ∷ []) (taken_up_to h f.ring (number f.spot + 1) ∷ []) (AreWithin top)
           (λ _. (command_within, (stop_within (need h l f.ring later) (top_need f.ring), tt)))
           (λ goes_on. (taken_within (number f.spot + 1) f.ring (top_floor f.ring (number f.spot + 1) ((is_passed transfer f).block goes_on)), tt))
 
     kind_within : (n : BlockKind) → kind b ≡ n → AreWithin top (lazy_goals h k later n b)
-    unfolding lazy_goals stopped_goals open_goals
+    unfolding lazy_goals report_goals stopped_goals open_goals
     kind_within TransferEvent is_kind =
-        let f : TransferFacts h k b = transfer_facts h k b clean (ap is_transfer_event is_kind) in
-        subst (λ o. AreWithin top (report_goals h k later b o)) (sym f.at) (report_within (ap is_transfer_event is_kind) f)
+        elim (transfer_facts h k b clean (ap is_transfer_event is_kind)) [
+          | inl f ↦ subst (λ o. AreWithin top (report_goals h k later b o)) (sym f.at) (report_within (ap is_transfer_event is_kind) f)
+          | inr s ↦ subst (λ o. AreWithin top (report_goals h k later b o)) (sym s.none) tt
+        ]
     kind_within CommandCompletion is_kind = (command_within, (grind (arith, code, open_goals, is_open, taken_up_to, need, taken_within, top_need)))
     kind_within _ is_kind = tt
 
@@ -161,15 +165,17 @@ module _ (h : Header) (k : Known) (b : Block) (clean : lenient h k (Read b) ≡ 
         report_few : AreFew h pointers (report_goals h k later b (Some (at transfer f)))
         unfolding report_goals
         report_few =
-            cond_both (is_stopping (code b)) (command_taken h k ∷ stop_goal h (at transfer f) (need h l f.ring later) ∷ []) (taken_up_to h f.ring (number f.spot + 1) ∷ []) (AreFew h pointers)
+            cond_both (is_stopping (code_told h k b)) (command_taken h k ∷ stop_goal h (at transfer f) (need h l f.ring later) ∷ []) (taken_up_to h f.ring (number f.spot + 1) ∷ []) (AreFew h pointers)
             (λ _. both_few (stop_goal h (at transfer f) (need h l f.ring later)) (stop_on (need h l f.ring later)))
             (λ _. ring_few (taken_up_to h f.ring (number f.spot + 1)) (taken_on f.ring (number f.spot + 1) on_ring))
 
       kind_few : (n : BlockKind) → kind b ≡ n → AreFew h pointers (lazy_goals h k later n b)
-      unfolding lazy_goals stopped_goals open_goals
+      unfolding lazy_goals report_goals stopped_goals open_goals
       kind_few TransferEvent is_kind =
-          let f : TransferFacts h k b = transfer_facts h k b clean (ap is_transfer_event is_kind) in
-          subst (λ o. AreFew h pointers (report_goals h k later b o)) (sym f.at) (report_few (ap is_transfer_event is_kind) f)
+          elim (transfer_facts h k b clean (ap is_transfer_event is_kind)) [
+            | inl f ↦ subst (λ o. AreFew h pointers (report_goals h k later b o)) (sym f.at) (report_few (ap is_transfer_event is_kind) f)
+            | inr s ↦ subst (λ o. AreFew h pointers (report_goals h k later b o)) (sym s.none) (no_goal h pointers)
+          ]
       kind_few CommandCompletion is_kind = (grind (arith, code, open_goals, is_open, taken_up_to, need, both_few, taken_on, command_few))
       kind_few _ is_kind = no_goal h pointers
 

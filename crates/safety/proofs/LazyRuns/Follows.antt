@@ -1,11 +1,7 @@
 -- What the induction over the rows follows: where rings stand in the world, what is known of them there, and what looks may be made
-use Rattle.safety.proofs.MiddleLaws.{rules, [], ◌≡◌, ◌⊎◌, ◌∷◌, ◌++◌, ℕ, true, false, List, reverse, Some, Block, IsBlock, Spot, Data, is_open, IsSpot, number, spot_address, spot_cycle, Header, Row, Read, Step, NextRow, IsHeader, shape_of, command_id, World, next_take, Known, learned, lenient, DriverKeeps, Runs, live_reached, live_with, steps_before, pointers_after, AreAtFloors, ◌∙◌, option_and_then, sym, ap, subst, IsDriverRow, live_step, Option, cond-false, row_done, counted, steps_made, while_running, ◌≢◌, ◌+◌, ◌<◌, ◌≤◌, rank, MayReach, RingSpot, next_command, state_of, further, looks_to, flat_map, kind, goals, Bool, inl, inr, cases_Bool, cases_eq, false≢true, Shape, IsShape, data_not_link, IsDriverRing, RingMatches, Unreported, UnderWayMatches, Agrees, transfer_driver, ring_shape, command_is_ring, arith, Sub, Write, Reg, Bell, refl, RingRow, FreeRow}
+use Rattle.safety.proofs.MiddleLaws.{rules, [], ◌≡◌, ◌⊎◌, ◌∷◌, ◌++◌, ℕ, true, false, List, reverse, Some, Block, IsBlock, Spot, Data, is_open, IsSpot, number, spot_address, spot_cycle, Header, Row, Read, Step, NextRow, IsHeader, shape_of, command_id, World, next_take, Known, learned, lenient, DriverKeeps, Runs, live_reached, live_with, steps_before, pointers_after, AreAtFloors, ◌∙◌, option_and_then, sym, ap, subst, IsDriverRow, live_step, Option, cond-false, row_done, counted, steps_made, while_running, ◌≢◌, ◌+◌, ◌<◌, ◌≤◌, rank, MayReach, RingSpot, next_command, state_of, further, looks_to, flat_map, kind, goals, Bool, inl, inr, cases_Bool, cases_eq, false≢true, Shape, IsShape, data_not_link, IsDriverRing, RingMatches, Unreported, UnderWayMatches, Agrees, transfer_driver, ring_shape, command_is_ring, arith, Sub, Write, Reg, Bell, refl, RingRow, FreeRow, NopRow, is_ring_row}
 use Rattle.std.proofs.Common.{option_map}
 use Rattle.safety.proofs.LazyRuns.NeedsOfHeld.{AreTimely}
-use Rattle.traces.specs.declared.row.Row.TheVariants.{Ring as RingRow}
-use Rattle.traces.specs.declared.row.Row.TheVariants.{Free as FreeRow}
-use Rattle.traces.specs.declared.row.Row.TheVariants.{Nop as NopRow}
-use Rattle.traces.specs.Rows.{is_ring_row}
 
 -- What an induction over the rows has to carry beside the lazy law: all events are read, the schedule knows where the pointers stand,
 -- also that of the command ring, and a ring that is open is active. Without it neither a look nor a post is known to be possible

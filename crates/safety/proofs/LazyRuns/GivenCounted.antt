@@ -1,15 +1,12 @@
 -- Each position before a ring's floor was given by a write of its own: floors, summed, and events that are read are no more than rows
-use Rattle.safety.proofs.UpperLaws.{[], ◌≡◌, ◌≢◌, ◌+◌, ◌<◌, ◌≤◌, ◌∷◌, ◌∙◌, ℕ, suc, true, List, All, length, Option, arith, refl, sym, ap, rules, cases_eq, cond_both, All-head, All-tail, is_inside, put, put_at, put_off, Opens, RingChange, RingView, new_ring, floor_number, Header, Row, Sub, Write, Reg, Bell, Read, RingRow, FreeRow, IsHeader, shape_of, command_id, Register, Known, on_ring, nothing, endpoint_rung, rung, learned, AreKept, IsRow, header_now, known_now, forgotten, restored, restored_on, ring_restored, with_ring, without_ring, register_leaves, view_after, kind, Block, DriverKeeps, IsDriverRing, ring_shape, Declares, changed, ring_with, is_driver_ring, driver_ring, endpoints_of, rings_of, still_of, not_in_both, transfer_driver, written_view, event_same, still_reads, RingsKeep, RingWithdraws, given_among, all_given, same_given, one_more, no_more, of_driver, on_driver, off_driver, none_of_driver, driver_le, total, total_grows, total_le, total_none, total_one, false, false≢true}
-use Rattle.traces.specs.declared.row.Row.TheVariants.{Nop as NopRow}
+use Rattle.safety.proofs.UpperLaws.{[], ◌≡◌, ◌≢◌, ◌+◌, ◌<◌, ◌≤◌, ◌∷◌, ◌∙◌, ℕ, suc, true, List, All, length, Option, arith, refl, sym, ap, rules, cases_eq, cond_both, All-head, All-tail, is_inside, put, put_at, put_off, Opens, RingChange, RingView, new_ring, floor_number, Header, Row, Sub, Write, Reg, Bell, Read, RingRow, FreeRow, IsHeader, shape_of, command_id, Register, Known, on_ring, nothing, endpoint_rung, rung, learned, AreKept, IsRow, header_now, known_now, forgotten, restored, restored_on, ring_restored, with_ring, without_ring, register_leaves, view_after, kind, Block, DriverKeeps, IsDriverRing, ring_shape, Declares, changed, ring_with, is_driver_ring, driver_ring, endpoints_of, rings_of, still_of, not_in_both, transfer_driver, written_view, event_same, still_reads, RingsKeep, RingWithdraws, given_among, all_given, same_given, no_more, of_driver, on_driver, off_driver, none_of_driver, driver_le, total, total_grows, total_le, total_none, total_one, false, false≢true, NopRow, kept_coming, kept_going, kept_withdrawing, is_ring_row}
+use Rattle.safety.proofs.LazyRuns.Progress.{one_more, none_given}
 use Rattle.safety.proofs.DriverRows.{nothing_keeps}
 use Rattle.safety.proofs.Histories.{row_keeps}
 use Rattle.safety.proofs.RingChanges.Restored.{row_comes, row_keeps as kept_row}
 use Rattle.safety.proofs.RingChanges.LiveHeadline.{Keeps, kept_on, now_keeps}
-use Rattle.safety.proofs.LazyRuns.Progress.{none_given}
 use Rattle.safety.proofs.LazyRuns.RingRows.{OthersStay, comes_stay, goes_stay}
 use Rattle.safety.proofs.RingChanges.GoneRings as rings_gone
-use Rattle.safety.proofs.RingChanges.KeptRings.{kept_coming, kept_going, kept_withdrawing}
-use Rattle.traces.specs.Rows.{is_ring_row}
 
 -- how many rows read an event
 unfoldable pub events : List Row → ℕ

@@ -1,19 +1,14 @@
 -- The lazy law by induction over the rows, from the step of a row that reads an event
-use Rattle.safety.proofs.UpperLaws.{[], ◌≡◌, ◌≢◌, ◌⊎◌, ◌∷◌, ◌∙◌, ℕ, true, false, List, None, Option, Some, sym, ap, subst, inl, inr, rules, cases_Bool, false≢true, Spot, Data, Header, Row, IsHeader, command_id, IsRow, World, next_take, counted, Known, learned, MayCome, DriverKeeps, IsDriverRow, Agrees, Runs, transfer_not_command, more_law, pointers_after, AreAtFloors, ◌++◌, All, reverse, option_and_then, refl, All-cons, All-head, All-nil, All-tail, Read, RingRow, FreeRow, NextRow, opening, with_ring, without_ring, LiveScene, live_reached, live_step, live_with, IsStep, reverse-append, AreKept, IsKept, header_after, header_now, known_now, restored, restored_on, ring_restored, IsTimely, lazy_run, pointers_at, pointers_for, steps_for, LazyLaw, AllAreRead, none-some, is_open, nothing, opens, agrees_now, pointers_same, driver_reached, StandsAt, IsActiveIfOpen, Follows, Carries, Leads, Past, RowLearns, row_learns, row_active, row_starts, all_are_read, EventLaw, AreTimely, PointerStays, RowLeaves, row_leaves, done, row_is_done, steps_before}
+use Rattle.safety.proofs.UpperLaws.{[], ◌≡◌, ◌≢◌, ◌⊎◌, ◌∷◌, ◌∙◌, ℕ, true, false, List, None, Option, Some, sym, ap, subst, inl, inr, rules, cases_Bool, false≢true, Spot, Data, Header, Row, IsHeader, command_id, IsRow, World, next_take, counted, Known, learned, MayCome, DriverKeeps, IsDriverRow, Agrees, Runs, transfer_not_command, more_law, pointers_after, AreAtFloors, ◌++◌, All, reverse, option_and_then, refl, All-cons, All-head, All-nil, All-tail, Read, RingRow, FreeRow, NextRow, opening, with_ring, without_ring, LiveScene, live_reached, live_step, live_with, IsStep, reverse-append, AreKept, IsKept, header_after, header_now, known_now, restored, restored_on, ring_restored, IsTimely, lazy_run, pointers_at, pointers_for, steps_for, LazyLaw, AllAreRead, none-some, is_open, nothing, opens, agrees_now, pointers_same, driver_reached, StandsAt, IsActiveIfOpen, Follows, Carries, Leads, Past, RowLearns, row_learns, row_active, row_starts, all_are_read, EventLaw, AreTimely, PointerStays, RowLeaves, row_leaves, done, row_is_done, steps_before, GoesSoFar, Scene, scene_reached, reverse-reverse, NopRow, kept_coming, kept_going, kept_withdrawing, is_ring_row, driver_no_ring}
 use Rattle.safety.proofs.DriverHistories.{kept_driver}
 use Rattle.safety.proofs.RowRuns.{row_runs}
 use Rattle.safety.proofs.Squares.{square_law}
 use Rattle.safety.proofs.StillRings.{still_rings}
-use Rattle.safety.proofs.Words.{GoesSoFar, Scene, scene_reached, reverse-reverse}
-use Rattle.traces.specs.declared.row.Row.TheVariants.{Nop as NopRow}
 use Rattle.safety.proofs.RingChanges.LiveHeadline.{Keeps, now_keeps}
 use Rattle.safety.proofs.RingChanges.Headline.{Alike, AreAlike, reached_alike}
 use Rattle.safety.proofs.LazyRuns.LazySteps.{run_is}
 use Rattle.safety.proofs.LazyRuns.RingRows.{comes_follows, comes_stay, goes_follows, goes_stay, restored_follows, withdrawn_follows}
 use Rattle.safety.proofs.RingChanges.Restored.{row_comes, row_keeps}
-use Rattle.safety.proofs.RingChanges.KeptRings.{kept_coming, kept_going, kept_withdrawing}
-use Rattle.traces.specs.Rows.{is_ring_row}
-use Rattle.safety.proofs.LazyRuns.Follows.{driver_no_ring}
 pub use Rattle.safety.proofs.RingChanges.LiveHeadline.{kept_on, later_kept, one_more}
 
 -- The induction's step for a row of the driver

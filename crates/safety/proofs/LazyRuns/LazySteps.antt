@@ -1,12 +1,7 @@
 -- The lazy schedule of a clean trace names rings and blocks that there are
-use Rattle.safety.proofs.UpperLaws.{rules, ◌≡◌, ℕ, ◌+◌, ◌<◌, List, [], ◌∷◌, Option, Some, arith, ◌==◌, reverse, nat_lt, All, and_parts, cond_both, eqb-true, ltb-true, none-some, same_Some, length-reverse, All-cons, All-head, All-nil, All-tail, Block, BlockKind, CommandCompletion, TransferEvent, IsBlock, Spot, number, Header, Row, Read, Step, Look, IsHeader, command_id, shape_of, IsRow, IsStep, Known, RingSpot, event_at, lenient, DriverKeeps, IsDriverRing, event_facts, header_parts, transfer_driver, command_is_ring, AreKept, IsKept, header_now, known_now, command_taken, goals, lazy_run, lazy_steps, looks_to, open_goals, pointers_at, post_of, report_goals, spots_before, steps_before, steps_for, stop_goal, stopped_goals, taken_up_to, flat_map}
-use Rattle.safety.proofs.Words.{option_map, All-append, spot_on}
+use Rattle.safety.proofs.UpperLaws.{rules, ◌≡◌, ℕ, ◌+◌, ◌<◌, List, [], ◌∷◌, Option, Some, arith, ◌==◌, reverse, nat_lt, All, and_parts, cond_both, eqb-true, ltb-true, none-some, same_Some, length-reverse, All-cons, All-head, All-nil, All-tail, Block, BlockKind, CommandCompletion, TransferEvent, IsBlock, Spot, number, Header, Row, Read, Step, Look, IsHeader, command_id, shape_of, IsRow, IsStep, Known, RingSpot, event_at, lenient, DriverKeeps, IsDriverRing, event_facts, header_parts, transfer_driver, command_is_ring, AreKept, IsKept, header_now, known_now, command_taken, goals, lazy_run, lazy_steps, looks_to, open_goals, pointers_at, post_of, report_goals, spots_before, steps_before, steps_for, stop_goal, stopped_goals, taken_up_to, flat_map, option_map, All-append, spot_on, found_allowed, found_passes, get_or-reverse, All-map, AreSteps}
 use Rattle.safety.proofs.RingChanges.LiveHeadline.{Keeps, now_keeps, kept_on}
 use Rattle.safety.proofs.RingChanges.Restored.{row_keeps}
-use Rattle.safety.proofs.RingsOfHeader.{found_allowed, found_passes}
-use Rattle.std.proofs.lemmas.List.{get_or-reverse}
-use Rattle.std.proofs.lemmas.List.Elements.{All-map}
-use Rattle.traces.specs.Rows.{AreSteps}
 
 all_reverse : {X : Type 0} (P : X → Type 0) (xs : List X) → All P xs → All P (reverse xs)
 all_reverse P xs are = grind (arith, length-reverse, get_or-reverse)
@@ -45,14 +40,10 @@ module _ (h : Header) (headed : IsHeader h) where
     bound_low : (s i r : ℕ) → k.ring_of s i ≡ Some r → r < 256
     bound_low s i r bound = low r (transfer_driver h r (d.states.transfer s i r bound))
 
-    open_low : (o : Option ℕ) → ((r : ℕ) → o ≡ Some r → r < 256) → All IsLow (open_goals h k later b o)
-    unfolding open_goals taken_up_to
-    open_low o are = grind (arith, All-nil, cond_both)
-
     goals_low : (of : BlockKind) → All IsLow (goals h k later of b)
-    unfolding goals event_at spot_on report_goals taken_up_to stopped_goals
-    goals_low TransferEvent = search (rules, All-nil, cond_both, All-cons, command_goal_low, stop_low, none-some, Option, option_map, same_Some, bound_low)
-    goals_low CommandCompletion = search (rules, All-cons, command_goal_low, cond_both, open_low, bound_low, All-nil)
+    unfolding goals event_at spot_on report_goals taken_up_to stopped_goals open_goals
+    goals_low TransferEvent = grind (arith, All-nil, cond_both, All-cons, command_goal_low, stop_low, none-some, Option, option_map, same_Some, bound_low)
+    goals_low CommandCompletion = grind (arith, All-cons, command_goal_low, cond_both, All-nil, bound_low)
     goals_low _ = All-nil IsLow
 
   row_steps_are : (k : Known) (p : ℕ → Spot) (row : Row) (later : List Row) → DriverKeeps h k → IsRow row → lenient h k row ≡ [] → AreSteps (steps_before h k p row later)

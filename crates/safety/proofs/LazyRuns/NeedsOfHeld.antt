@@ -1,5 +1,5 @@
 -- The need of a ring that is held is 0, where no event is late: until its doorbell no success of its blocks is read
-use Rattle.safety.proofs.MiddleLaws.{rules, [], ◌≡◌, ◌≢◌, ◌∷◌, ◌∙◌, ℕ, max, Bool, false, List, Option, refl, ap, subst, ne_eqb, eq-eqb, cond_both, cond-false, false≢true, not_from_false, Block, BlockKind, TransferEvent, CommandCompletion, kind, code, pointer, slot, endpoint, is_success, is_halting, is_trb_error, is_stopping, Spot, number, after, RingView, RingChange, changed, new_ring, Shape, put, put_at, put_off, cases_eq, Opens, Holds, Reaches, is_open, ceiling, named, stopped_number, target, Command, is_off, Change, changes, Header, Row, Read, IsDriverRow, shape_of, command_id, is_ring, ring_having, Known, on_ring, spot_on, command_at, next_command, endpoint_rung, rung, event_read, learned, declaration_leaves, write_leaves, register_leaves, view_after, is_report_of_success, is_held_ring, is_late, number_behind, begins_anew, number_reported, ends_need, need, header_after, known_after, forgotten, restored_on, ring_restored, broken_off, transfers_passed, stopped_at, transfer_read, transferred, transferred_at, bound_to, known_changed_by, known_changed_by_all, completed, known_disabled, known_finished, held_at_ceiling, known_in_state, moved, moved_to, pointed, set_to, stop_ended, known_succeeded, arith, event_at}
+use Rattle.safety.proofs.MiddleLaws.{known_typed, rules, [], ◌≡◌, ◌≢◌, ◌∷◌, ◌∙◌, ℕ, max, false, List, refl, ap, subst, ne_eqb, eq-eqb, cond_both, cond-false, false≢true, not_from_false, Block, BlockKind, TransferEvent, CommandCompletion, kind, code, pointer, slot, endpoint, is_success, is_halting, is_trb_error, is_stopping, Spot, number, after, RingView, RingChange, changed, new_ring, Shape, put, put_at, put_off, cases_eq, Opens, Holds, Reaches, is_open, ceiling, named, stopped_number, target, Command, is_off, Change, changes, Header, Row, Read, shape_of, command_id, is_ring, ring_having, Known, on_ring, spot_on, command_at, next_command, endpoint_rung, rung, event_read, learned, declaration_leaves, write_leaves, register_leaves, view_after, is_report_of_success, is_held_ring, is_late, number_behind, begins_anew, number_reported, ends_need, need, header_after, known_after, forgotten, restored_on, ring_restored, broken_off, transfers_passed, stopped_at, transfer_read, transferred, transferred_at, bound_to, known_changed_by, known_changed_by_all, completed, known_disabled, known_finished, held_at_ceiling, known_in_state, moved, moved_to, pointed, set_to, stop_ended, known_succeeded, arith, event_at}
 
 abbrev pub IsHeld : Known → ℕ → Type 0
 IsHeld k r = is_open (k.ring r) ≡ false
@@ -24,13 +24,9 @@ module _ (h : Header) where
 
   -- ---- an event holds rings, and opens none
 
-  moved_held : (k : Known) (o : Option ℕ) (p : ℕ) (cycle : Bool) (r : ℕ) → StaysHeld k (moved h k o p cycle) r
-  unfolding moved moved_to set_to
-  moved_held k o p cycle r held = grind (arith, holds_held, on_ring, number, reaches_held, target, shape_of, k.ring)
-
   change_held : (c : Command) (k : Known) (change : Change) (r : ℕ) → StaysHeld k (known_changed_by h c k change) r
-  unfolding known_changed_by known_disabled known_in_state held_at_ceiling pointed bound_to
-  change_held c k o r held = grind (arith, cond_both, is_off, ring_having, moved_held, holds_held, ceiling, shape_of, known_in_state, k.ring_of)
+  unfolding known_changed_by known_disabled known_typed known_in_state held_at_ceiling pointed bound_to moved moved_to set_to
+  change_held c k o r held = grind (arith, cond_both, is_off, ring_having, holds_held, on_ring, number, reaches_held, target, shape_of, ceiling, known_in_state, k.ring_of)
 
   changes_held : (c : Command) (k : Known) (all : List Change) (r : ℕ) → StaysHeld k (known_changed_by_all h c k all) r
   unfolding known_changed_by_all
@@ -58,7 +54,7 @@ module _ (h : Header) where
 
   -- ---- no success of its blocks is read
 
-  none_reported : (k : Known) (r : ℕ) (row : Row) → IsHeld k r → is_late k row ≡ false → number_reported h k r row ≡ 0
+  none_reported : (k : Known) (r : ℕ) (row : Row) → IsHeld k r → is_late h k row ≡ false → number_reported h k r row ≡ 0
   unfolding number_reported is_late event_at spot_on is_held_ring number_behind
   none_reported k r o held timely =
       grind (arith, is_report_of_success, number_behind, event_at, cond-false, number, named, shape_of, ne_eqb, false≢true, not_from_false, is_open, false, pointer, slot, endpoint, is_held_ring)
@@ -66,7 +62,7 @@ module _ (h : Header) where
 -- none of the rows to come is late, and the command ring stays the same one
 abbrev pub AreTimely : Header → Known → List Row → Type 0
 AreTimely h k [] = Unit {0}
-AreTimely h k (row ∷ later) = ((command_id (header_after h row) ≡ command_id h) × (is_late k row ≡ false)) × AreTimely (header_after h row) (known_after h k row) later
+AreTimely h k (row ∷ later) = ((command_id (header_after h row) ≡ command_id h) × (is_late h k row ≡ false)) × AreTimely (header_after h row) (known_after h k row) later
 
 pub timely_then : (h : Header) (k : Known) (b : Block) (later : List Row) → AreTimely h k ((Read b) ∷ later) → AreTimely h (learned h k (Read b)) later
 unfolding ring_restored restored_on
@@ -79,16 +75,12 @@ module _ (h : Header) where
       view_after h (λ v. is_open v ≡ false) k q change r
       (λ here. held_as_before (k.ring q) (changed (shape_of h q) (k.ring q) change) (same (k.ring q) (shape_of h q)) (subst (λ n. is_open (k.ring n) ≡ false) here held)) (λ other. held)
 
-  anew_same : (k : Known) (o : Option ℕ) (r : ℕ) (row : Row) → IsDriverRow row → begins_anew h k r row ≡ false → begins_anew h (restored_on h k o) r row ≡ false
-  unfolding begins_anew restored_on on_ring
-  anew_same k o r row driver_row quiet = grind arith
-
   -- ring r is held behind a row of any kind, if it was before: but for its doorbell
   any_held : (k : Known) (row : Row) (r : ℕ) → r ≢ command_id h → ends_need h k r row ≡ false → StaysHeld k (known_after h k row) r
-  unfolding ends_need forgotten is_open ring_restored restored_on
-  any_held k o r other quiet held = grind (arith, row_held, ring_restored, restored_on, anew_same, cases_eq, is_open, put, new_ring, put_at, put_off, quiet_held)
+  unfolding ends_need forgotten is_open ring_restored restored_on begins_anew on_ring
+  any_held k o r other quiet held = grind (arith, row_held, ring_restored, restored_on, cases_eq, is_open, put, new_ring, put_at, put_off, quiet_held)
 
-  none_needed : (k : Known) (r : ℕ) (row : Row) → IsHeld k r → is_late k row ≡ false → number_reported h k r row ≡ 0
+  none_needed : (k : Known) (r : ℕ) (row : Row) → IsHeld k r → is_late h k row ≡ false → number_reported h k r row ≡ 0
   unfolding number_reported
   none_needed k r o held timely = grind (arith, none_reported)
 

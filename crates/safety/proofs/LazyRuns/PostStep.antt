@@ -1,5 +1,5 @@
 -- The step of a row that reads an event: the lazy run posts it directly before, whichever step it is that posts it
-use Rattle.safety.proofs.UpperLaws.{[], ◌≡◌, ◌+◌, ◌∷◌, ◌++◌, ◌∙◌, true, false, List, reverse, Some, arith, refl, sym, ap, subst, inl, reverse-append, Block, IsBlock, block_at, kind, same_words, address_of, Header, Read, Step, NextRow, Row, IsHeader, event_shape, World, read_made, learned, Runs, words_itself, post_keeps, read_runs, Option, stored, stored_block, driver_event_read, row_done, can_post, posts_posted, counted, steps_made, while_running, pointers_after, post_of, steps_before, ◌≢◌, ◌&&◌, ℕ, inr, cond-false, false≢true, code, slot, is_transfer_event, is_command_completion, Spot, is_open, Report, command_id, Known, command_at, next_command, lenient, event_facts, report_runs, report_is, transfer_kind, reported, made, brought, goals, is_placed_by, ◌||◌, Bool, or_cases, BlockKind, is_other_event, None, rules, and_from, cond-true, Other, learned_read, says_nothing, other_runs, with_reads, other_posted, lazy_goals, step_reached, agrees_now, next_reached, Follows, Carries, Leads, Past, looks_for, StandsAt, IsActiveIfOpen, Traced, AreTimely, EventLaw, is_event_read, may_post}
+use Rattle.safety.proofs.UpperLaws.{event_read, reported_can, [], ◌≡◌, ◌+◌, ◌∷◌, ◌++◌, ◌∙◌, true, false, List, reverse, Some, arith, refl, sym, ap, subst, inl, reverse-append, Block, IsBlock, block_at, kind, same_words, address_of, Header, Read, Step, NextRow, Row, IsHeader, event_shape, World, read_made, learned, Runs, words_itself, post_keeps, read_runs, Option, stored, stored_block, driver_event_read, row_done, can_post, posts_posted, counted, steps_made, while_running, pointers_after, post_of, steps_before, ◌≢◌, ◌&&◌, ℕ, inr, cond-false, false≢true, code, slot, is_transfer_event, is_command_completion, Spot, is_open, Report, command_id, Known, command_at, next_command, lenient, event_facts, report_runs, transfer_kind, reported, made, brought, goals, is_placed_by, ◌||◌, Bool, or_cases, BlockKind, is_other_event, None, rules, and_from, cond-true, Other, learned_read, says_nothing, other_runs, with_reads, other_posted, lazy_goals, step_reached, agrees_now, next_reached, Follows, Carries, Leads, Past, looks_for, StandsAt, IsActiveIfOpen, Traced, AreTimely, EventLaw, is_event_read, may_post}
 use Rattle.world_state.specs.World.{event_at}
 use Rattle.safety.proofs.DriverHistories.{run_keeps}
 use Rattle.safety.specs.LazyRuns.Needs.{is_placed}
@@ -101,7 +101,7 @@ module _ (h : Header) where
     running = running_now h is past later b block w trace.runs trace.all_read
 
     posted : IsPosted h past w u b
-    posted = assumption (report_is h w u b at, leaves, report_runs h is past.known w u b block running trace.runs (run_keeps h is past.known w past.keeps trace.runs) at)
+    posted = assumption (reported_can h w u b at, leaves, report_runs h is past.known w u b block running trace.runs (run_keeps h is past.known w past.keeps trace.runs) at)
 
     stands : (q : ℕ) (s : Spot) → StandsAt h w q s → StandsAt h v q s
     unfolding counted
@@ -138,9 +138,16 @@ module _ (h : Header) where
           event_step h is past later b block w trace.runs trace.all_read u posted (Report b) (reverse (looks_for h past later b) ++ past.made) (reported h w b) (λ e. cc) refl at
           (posts_last h b past later (Report b) (ap (λ t. post_of h t b) (transfer_kind (kind b) transfer))) follows run
 
--- An event of the controller itself: the lazy run posts it directly before it is read, and needs no look for it
+-- An event that tells of no block: the lazy run posts it directly before it is read, and needs no look for it
 module _ (h : Header) where
-  -- what the schedule does for such an event
+  -- what the schedule does for such an event, which is posted by step s
+  pub record IsSilent (k : Known) (later : List Row) (b : Block) (s : Step) : Type 0 where
+    pub goals : lazy_goals h k later (kind b) b ≡ []
+    pub post : post_of h (kind b) b ≡ s
+    pub no_completion : is_command_completion (kind b) ≡ false
+    pub read : event_read h k (kind b) b ≡ k
+
+  -- an event of the controller itself
   record NeedsNothing (k : Known) (later : List Row) (b : Block) (t : BlockKind) : Type 0 where
     goals : lazy_goals h k later t b ≡ []
     post : post_of h t b ≡ Other b
@@ -150,33 +157,35 @@ module _ (h : Header) where
   unfolding lazy_goals post_of
   needs_nothing k later b o other = grind (arith, goals, false≢true)
 
-  lazy_event : (b : Block) (past : Past h) (later : List Row) → is_other_event (kind b) ≡ true →
-      NextRow ∷ reverse (steps_before h past.known past.pointers (Read b) later) ++ past.made ≡ NextRow ∷ Other b ∷ past.made
-  unfolding steps_before
-  lazy_event b past later other = search (rules, reverse, needs_nothing)
+  other_silent : (k : Known) (later : List Row) (b : Block) → is_other_event (kind b) ≡ true → IsSilent k later b (Other b)
+  other_silent k later b other =
+      let n = needs_nothing k later b (kind b) other in
+      record { goals = n.goals; post = n.post; no_completion = n.no_completion; read = (says_nothing h k b (kind b) other).read }
 
-  pointers_same : (b : Block) (past : Past h) (later : List Row) (r : ℕ) → is_other_event (kind b) ≡ true →
+  lazy_event : (b : Block) (past : Past h) (later : List Row) (s : Step) → IsSilent past.known later b s →
+      NextRow ∷ reverse (steps_before h past.known past.pointers (Read b) later) ++ past.made ≡ NextRow ∷ s ∷ past.made
+  unfolding steps_before
+  lazy_event b past later s silent = search (rules, reverse)
+
+  pointers_same : (b : Block) (past : Past h) (later : List Row) (r : ℕ) (s : Step) → IsSilent past.known later b s →
       pointers_after h past.known past.pointers (Read b) later r ≡ past.pointers r
   unfolding pointers_after brought is_placed
-  pointers_same b past later r other = search (rules, needs_nothing, cond-false)
+  pointers_same b past later r s silent = search (rules, cond-false)
 
   post_made : (w : World) (b : Block) → can_post h w b ≡ true → is_other_event (kind b) ≡ true → other_posted h w b ≡ Some (posts_posted h w b)
   unfolding other_posted
   post_made w b can other = cond-true (can_post h w b && is_other_event (kind b)) (Some (posts_posted h w b)) None (and_from (can_post h w b) (is_other_event (kind b)) can other)
 
-  module _ (is : IsHeader h) (past : Past h) (later : List Row) (b : Block) (w : World) (block : IsBlock b) (clean : lenient h past.known (Read b) ≡ []) (other : is_other_event (kind b) ≡ true)
-      (f : Follows h past.known past.pointers w) where
+  module _ (is : IsHeader h) (past : Past h) (later : List Row) (b : Block) (w : World) (block : IsBlock b) (clean : lenient h past.known (Read b) ≡ [])
+      (f : Follows h past.known past.pointers w) (step : Step) (silent : IsSilent past.known later b step) (goes_on : Runs h past.known (counted h (posts_posted h w b))) where
     abbrev read_known : Known
     read_known = learned h past.known (Read b)
 
     can : can_post h w b ≡ true
     can = may_post h is past.known w b past.keeps (agrees_now h past.known w f.runs f.all_read) clean
 
-    runs_now : w.stopped ≡ false
-    runs_now = running_now h is past later b block w f.runs f.all_read
-
     same : read_known ≡ with_reads past.known (past.known.reads + 1)
-    same = learned_read h past.known b ∙ ap (λ m. with_reads m (past.known.reads + 1)) (says_nothing h past.known b (kind b) other).read
+    same = learned_read h past.known b ∙ ap (λ m. with_reads m (past.known.reads + 1)) silent.read
 
     -- the world behind the row
     abbrev behind : World
@@ -184,13 +193,7 @@ module _ (h : Header) where
 
     post : IsPosted h past w (posts_posted h w b) b
     unfolding posts_posted stored_block stored
-    post = record {
-      can = can;
-      memory = refl;
-      posted = refl;
-      reads = refl;
-      runs = other_runs h is past.known w (posts_posted h w b) b block runs_now f.runs (run_keeps h is past.known w past.keeps f.runs) (post_made w b can other);
-    }
+    post = search (rules, can)
 
     had_before : (s i r : ℕ) → read_known.ring_of s i ≡ Some r → past.known.ring_of s i ≡ Some r
     had_before s i r at = ap (λ (m : Known). m.ring_of s i) (sym same) ∙ at
@@ -205,20 +208,29 @@ module _ (h : Header) where
       runs = runs_behind h is past later b block w f.runs f.all_read (posts_posted h w b) post;
       all_read = all_read_behind h is past later b block w f.runs f.all_read (posts_posted h w b) post;
       floors = λ s i r at. subst (λ t. StandsAt h behind r t) (ap (λ (m : Known). (m.ring r).floor) (sym same)) (stands_on r (past.known.ring r).floor (f.floors s i r (had_before s i r at)));
-      traced = λ s i r at. pointers_same b past later r other ∙ f.traced s i r (had_before s i r at) ∙ ap (λ (m : Known). (m.ring r).floor) (sym same);
+      traced = λ s i r at. pointers_same b past later r step silent ∙ f.traced s i r (had_before s i r at) ∙ ap (λ (m : Known). (m.ring r).floor) (sym same);
       active = λ s i r at opened. f.active s i r (had_before s i r at) (ap (λ (m : Known). is_open (m.ring r)) (sym same) ∙ opened);
-      before = λ off. pointers_same b past later (command_id h) other ∙ f.before (ap (λ (m : Known). m.started) (sym same) ∙ off);
+      before = λ off. pointers_same b past later (command_id h) step silent ∙ f.before (ap (λ (m : Known). m.started) (sym same) ∙ off);
       command = λ on.
-          subst (λ t. StandsAt h behind (command_id h) t) (sym (pointers_same b past later (command_id h) other))
+          subst (λ t. StandsAt h behind (command_id h) t) (sym (pointers_same b past later (command_id h) step silent))
           (stands_on (command_id h) (past.pointers (command_id h)) (f.command (ap (λ (m : Known). m.started) (sym same) ∙ on)));
       command_active = λ opened. f.command_active (ap (λ (m : Known). is_open (m.ring (command_id h))) (sym same) ∙ opened);
     }
 
-    pub other_step : Leads h past past.made ((Read b) ∷ later) w → Carries h past (Read b) later
-    unfolding made
-    other_step =
-        event_step h is past later b block w f.runs f.all_read (posts_posted h w b) post (Other b) past.made (other_posted h w b) (λ e. cc) refl (post_made w b can other)
-        (lazy_event b past later other) follows_on
+    pub silent_step : (o : Option World) → (step ≡ NextRow → ⊥) → steps_made h h w step ≡ while_running h w o → o ≡ Some (posts_posted h w b) →
+        Leads h past past.made ((Read b) ∷ later) w → Carries h past (Read b) later
+    silent_step o other made at =
+        event_step h is past later b block w f.runs f.all_read (posts_posted h w b) post step past.made o other made at (lazy_event b past later step silent) follows_on
+
+  other_step : IsHeader h → (past : Past h) (later : List Row) (b : Block) (w : World) → IsBlock b → lenient h past.known (Read b) ≡ [] → is_other_event (kind b) ≡ true →
+      Follows h past.known past.pointers w → Leads h past past.made ((Read b) ∷ later) w → Carries h past (Read b) later
+  unfolding made
+  other_step is past later b w block clean other f =
+      let can : can_post h w b ≡ true = may_post h is past.known w b past.keeps (agrees_now h past.known w f.runs f.all_read) clean in
+      let at = post_made w b can other in
+      let runs = other_runs h is past.known w (posts_posted h w b) b block (running_now h is past later b block w f.runs f.all_read) f.runs
+      (run_keeps h is past.known w past.keeps f.runs) at in
+      silent_step is past later b w block clean f (Other b) (other_silent past.known later b other) runs (other_posted h w b) (λ e. cc) refl at
 
 module _ (h : Header) where
   -- the step of a row that reads an event of some kinds

@@ -140,12 +140,7 @@ module _ (h : Header) where
         let one : Known = on_ring h k (command_id h) Opens in
         let two : Known = endpoint_rung h k s t (k.ring_of s t) in
         elim (cases_Bool (s == 0)) [
-          | inl command ↦
-              let same : (if s == 0 then first else second) ≡ first = cond-true (s == 0) first second command in
-              let good : not (t == 0) ≡ false = sym (cond-true (s == 0) (not (t == 0)) (is_bad_bell h k s t) command) ∙ f.good in
-              let open_there : is_open (one.ring q) ≡ true = ap (λ (l : Known). is_open (l.ring q)) (sym (cond-true (s == 0) one two command)) ∙ opened in
-              ap (λ (u : World). u.is_active q) same
-              ∙ command_bell k w t q (not-false (t == 0) good) (started ∙ f.started) (λ on. sym (ap (λ (u : World). u.is_active q) same) ∙ still on) was open_there
+          | inl command ↦ (grind (arith, cond-true, is_bad_bell, is_open, command_bell, not-false))
           | inr endpoint ↦
               let same : (if s == 0 then first else second) ≡ second = cond-false (s == 0) first second endpoint in
               let good : is_bad_bell h k s t ≡ false = sym (cond-false (s == 0) (not (t == 0)) (is_bad_bell h k s t) endpoint) ∙ f.good in

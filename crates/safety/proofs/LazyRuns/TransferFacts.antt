@@ -1,5 +1,5 @@
 -- What a Transfer Event says that breaks no rule, by its code: the spot that it names, and what the controller did there
-use Rattle.safety.proofs.MiddleLaws.{[], ◌≡◌, ◌<◌, ◌&&◌, ◌||◌, ◌∙◌, ℕ, not, Bool, true, false, Option, Some, None, sym, ap, ltb-true, rules, and_cases, and_parts, or_parts, or_cases, or_from, not-false, not-true, false≢true, none-some, same_Some, Block, is_set, word, kind, code, pointer, slot, endpoint, is_transfer_event, is_success, is_halting, is_trb_error, is_transfer_code, Spot, Data, ceiling, named, is_data_below, is_open, is_stop_spot, is_running, Header, Read, shape_of, Known, RingSpot, spot_on, is_in_profile, is_working, is_stopping_now, can_report, can_report_at, is_impossible_by_kind, is_impossible_transfer, lenient, event_facts, transfer_kind, chain, spot_is, arith, event_at}
+use Rattle.safety.proofs.MiddleLaws.{named_no_service, no_service, spot_told, is_code_of_profile, has_isoch, is_of_service, ◌⊎◌, is_off, is_stopping, code_told, [], ◌≡◌, ◌<◌, ◌&&◌, ◌||◌, ◌∙◌, ℕ, not, Bool, true, false, Option, Some, None, sym, ap, ltb-true, rules, and_cases, and_parts, or_parts, or_cases, not-false, not-true, false≢true, none-some, same_Some, Block, is_set, word, kind, code, pointer, slot, endpoint, is_transfer_event, is_success, is_halting, is_trb_error, Spot, Data, ceiling, named, is_data_below, is_open, is_stop_spot, is_running, Header, Read, shape_of, Known, RingSpot, spot_on, is_in_profile, is_working, is_stopping_now, can_report, can_report_at, is_impossible_by_kind, is_impossible_transfer, lenient, event_facts, transfer_kind, chain, spot_is, arith, event_at}
 use Rattle.std.proofs.Common.{option_map}
 use Rattle.safety.proofs.StopRead.{StopCode}
 
@@ -12,26 +12,44 @@ module _ (h : Header) where
     pub named_is : named (shape_of h ring) (k.ring ring) (pointer b) ≡ Some spot
     pub at : event_at h k b ≡ Some (record { ring = ring; spot = spot })
     pub no_data : is_set (word b 3) 2 ≡ false
-    pub code_is : is_transfer_code (code b) ≡ true
-    pub may : can_report h k (code b) (slot b) (endpoint b) ring spot ≡ true
+    pub no_service : is_of_service (code b) ≡ false
+    pub may : can_report h k (code_told h k b) (slot b) (endpoint b) ring spot ≡ true
 
-  named_by : (k : Known) (b : Block) (o : Option RingSpot) → event_at h k b ≡ o → can_report_at h k b o ≡ true → is_set (word b 3) 2 ≡ false → is_transfer_code (code b) ≡ true → TransferFacts k b
-  unfolding can_report_at event_at spot_on
-  named_by k b None found can no_data code_is = search rules
-  named_by k b (Some at) found can no_data code_is = search (rules, none-some, option_map, same_Some, spot_is)
+  -- or it tells of the service of its endpoint
+  pub record ServiceFacts (k : Known) (b : Block) : Type 0 where
+    pub none : event_at h k b ≡ None
+    pub no_data : is_set (word b 3) 2 ≡ false
+    pub has : has_isoch h.version ≡ true
+    pub service : is_of_service (code b) ≡ true
+    pub on : is_off (k.endpoint_state (slot b) (endpoint b)) ≡ false
+
+  named_by : (k : Known) (b : Block) (at : RingSpot) → event_at h k b ≡ Some at → can_report_at h k b (Some at) ≡ true → is_set (word b 3) 2 ≡ false → is_of_service (code b) ≡ false →
+      TransferFacts k b
+  unfolding can_report_at spot_on
+  named_by k b at found can no_data no_service = search (rules, none-some, option_map, same_Some, spot_is, spot_told)
 
   by_kind : (k : Known) (b : Block) → is_transfer_event (kind b) ≡ true → is_impossible_by_kind h k (kind b) b ≡ is_impossible_transfer h k b
   unfolding is_impossible_by_kind
   by_kind k b transfer = ap (λ t. is_impossible_by_kind h k t b) (transfer_kind (kind b) transfer)
 
-  facts_from : (k : Known) (b : Block) → is_impossible_transfer h k b ≡ false → is_in_profile b ≡ true → TransferFacts k b
-  unfolding is_impossible_transfer is_in_profile
-  facts_from k b possible inside = search (rules, and_parts, and_cases, false≢true, or_parts, named_by, not-false, not-true)
+  -- a code of service is one of the profile where the version has isochronous transfers alone
+  service_has : (k : Known) (b : Block) → is_code_of_profile h k b ≡ true → is_of_service (code b) ≡ true → has_isoch h.version ≡ true
+  unfolding is_code_of_profile
+  service_has k b inside service = search (rules, or_cases, no_service, and_parts, false≢true)
 
-  pub transfer_facts : (k : Known) (b : Block) → lenient h k (Read b) ≡ [] → is_transfer_event (kind b) ≡ true → TransferFacts k b
+  facts_at : (k : Known) (b : Block) (o : Option RingSpot) → event_at h k b ≡ o → can_report_at h k b o ≡ true → is_set (word b 3) 2 ≡ false → is_code_of_profile h k b ≡ true →
+      is_off (k.endpoint_state (slot b) (endpoint b)) ≡ false → (TransferFacts k b) ⊎ (ServiceFacts k b)
+  unfolding can_report_at
+  facts_at k b o found can no_data inside on = search (rules, service_has, named_by, named_no_service)
+
+  facts_from : (k : Known) (b : Block) → is_impossible_transfer h k b ≡ false → is_in_profile h k b ≡ true → (TransferFacts k b) ⊎ (ServiceFacts k b)
+  unfolding is_impossible_transfer is_in_profile
+  facts_from k b possible inside = search (rules, and_parts, and_cases, or_parts, false≢true, facts_at, not-false, not-true)
+
+  pub transfer_facts : (k : Known) (b : Block) → lenient h k (Read b) ≡ [] → is_transfer_event (kind b) ≡ true → (TransferFacts k b) ⊎ (ServiceFacts k b)
   transfer_facts k b clean transfer =
       let f = event_facts h k b clean in
-      facts_from k b (sym (by_kind k b transfer) ∙ f.possible) (not-false (is_in_profile b) (ap (λ c. c && not (is_in_profile b)) (sym transfer) ∙ f.inside))
+      facts_from k b (sym (by_kind k b transfer) ∙ f.possible) (not-false (is_in_profile h k b) (ap (λ c. c && not (is_in_profile h k b)) (sym transfer) ∙ f.inside))
 
   -- ---- by its code
 
@@ -62,18 +80,18 @@ module _ (h : Header) where
     works = is_working k (slot b) (endpoint b) f.ring
 
     stops : Bool
-    stops = works && is_stopping_now h k (slot b) (endpoint b) && is_stop_spot (shape_of h f.ring) (k.ring f.ring) f.spot
+    stops = is_stopping (code_told h k b) && (works && is_stopping_now h k (slot b) (endpoint b) && is_stop_spot (shape_of h f.ring) (k.ring f.ring) f.spot)
 
-    cases : (is_success (code b) ≡ true → below ≡ true) × (is_success (code b) ≡ false → (is_halting (code b) || is_trb_error (code b)) ≡ true → (below && works) ≡ true)
-        × (is_success (code b) ≡ false → (is_halting (code b) || is_trb_error (code b)) ≡ false → stops ≡ true)
+    cases : (is_success (code_told h k b) ≡ true → below ≡ true) × (is_success (code_told h k b) ≡ false → (is_halting (code_told h k b) || is_trb_error (code_told h k b)) ≡ true → (below && works) ≡ true)
+        × (is_success (code_told h k b) ≡ false → (is_halting (code_told h k b) || is_trb_error (code_told h k b)) ≡ false → stops ≡ true)
     unfolding below works stops can_report
-    cases = chain (is_success (code b)) (is_halting (code b) || is_trb_error (code b)) below (below && works) stops f.may
+    cases = chain (is_success (code_told h k b)) (is_halting (code_told h k b) || is_trb_error (code_told h k b)) below (below && works) stops f.may
 
-    pub success_names : is_success (code b) ≡ true → NamesBlock k f.ring f.spot
+    pub success_names : is_success (code_told h k b) ≡ true → NamesBlock k f.ring f.spot
     unfolding below
     success_names success = data_below k f.ring f.spot (cases.0 success)
 
-    pub error_names : is_success (code b) ≡ false → (is_halting (code b) || is_trb_error (code b)) ≡ true → NamesBlock k f.ring f.spot × IsAtWork k b f.ring
+    pub error_names : is_success (code_told h k b) ≡ false → (is_halting (code_told h k b) || is_trb_error (code_told h k b)) ≡ true → NamesBlock k f.ring f.spot × IsAtWork k b f.ring
     unfolding below works
     error_names fails breaks = let parts = and_parts below works (cases.1 fails breaks) in (data_below k f.ring f.spot parts.0, at_work k b f.ring parts.1)
 
@@ -83,11 +101,11 @@ module _ (h : Header) where
       pub now : is_stopping_now h k (slot b) (endpoint b) ≡ true
       pub there : is_stop_spot (shape_of h f.ring) (k.ring f.ring) f.spot ≡ true
 
-    pub stop_names : is_success (code b) ≡ false → (is_halting (code b) || is_trb_error (code b)) ≡ false → StopsThere
+    pub stop_names : is_success (code_told h k b) ≡ false → (is_halting (code_told h k b) || is_trb_error (code_told h k b)) ≡ false → StopsThere
     unfolding stops works
-    stop_names fails quiet =
-        search (rules, and_parts, works, is_stopping_now, slot, endpoint, is_stop_spot, shape_of, k.ring, cases, at_work, f.ring)
+    stop_names fails quiet = search (rules, and_parts, at_work, cases)
 
     -- a code of the profile that is none of the others is that of a stop
-    pub stop_code : is_success (code b) ≡ false → (is_halting (code b) || is_trb_error (code b)) ≡ false → StopCode (code b)
-    stop_code fails quiet = search (rules, or_parts, or_cases, false≢true, or_from)
+    pub stop_code : is_success (code_told h k b) ≡ false → (is_halting (code_told h k b) || is_trb_error (code_told h k b)) ≡ false → StopCode (code_told h k b)
+    unfolding stops
+    stop_code fails quiet = grind (arith, or_parts, and_parts, cases)

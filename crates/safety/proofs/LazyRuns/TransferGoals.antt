@@ -1,5 +1,5 @@
 -- What a Transfer Event asks for and teaches, and that the controller can report it
-use Rattle.safety.proofs.UpperLaws.{[], ◌≡◌, ◌≢◌, ◌+◌, ◌≤◌, ◌==◌, ◌||◌, ◌∷◌, ◌∙◌, ℕ, suc, nat_lt, true, false, List, Some, arith, refl, sym, ap, subst, inl, inr, lt-ltb, le-ltb, eqb-true, rules, cases_lt, cond-true, cond-false, or_cases, false≢true, Block, kind, code, slot, endpoint, is_transfer_event, is_success, is_halting, is_trb_error, is_stopping, Spot, Shape, number, rank, after, Reaches, Holds, is_open, same_rank, Header, Row, Read, shape_of, Known, RingSpot, on_ring, event_read, learned, passed, broken_off, stopped_at, transferred, transferred_at, transfer_read, ring_here, learned_read, put_at, put_off, transfer_kind, TransferLeaves, transferred_leaves, with_reads, behind_taken, further, taken_up_to, report_goals, goals, brought, ◌-◌, ◌<◌, ◌&&◌, zero, Bool, length, map, Option, None, position, get_or, eq-eqb, range_with_len, cases_Bool, and_from, not_from_false, length-map-range_with_len, get_or-map-range_with_len, put, put_pair, IsBlock, pointer, address_of, spot_address, declared, floor_number, named, RingKeeps, named_ahead, position-None, IsNamed, named_spot-Some, EndpointState, Halted, Error, is_running, IsHeader, command_id, World, unreported, lenient, IsDriverRing, DriverKeeps, state_of, BoundRing, Agrees, transfer_driver, transfer_not_command, number_after, PostKeeps, post_keeps, open_takes, stored, stored_block, can_post, is_last, posts_posted, report_code, report_error, report_success, reported, reported_on, with_reported, TransferFacts, NamesBlock, StandsAt, may_post}
+use Rattle.safety.proofs.UpperLaws.{told_same, code_posted, reported_on, and_right, cond-false, code_told, [], ◌≡◌, ◌≢◌, ◌+◌, ◌≤◌, ◌==◌, ◌||◌, ◌∷◌, ◌∙◌, ℕ, suc, nat_lt, true, false, List, Some, arith, refl, sym, ap, subst, inl, inr, lt-ltb, le-ltb, eqb-true, rules, cases_lt, cond-true, or_cases, false≢true, Block, kind, slot, endpoint, is_transfer_event, is_success, is_halting, is_trb_error, is_stopping, Spot, Shape, number, rank, after, Reaches, Holds, is_open, same_rank, Header, Row, Read, shape_of, Known, RingSpot, on_ring, event_read, learned, passed, broken_off, stopped_at, transferred, transferred_at, transfer_read, ring_here, learned_read, put_at, put_off, transfer_kind, TransferLeaves, transferred_leaves, with_reads, behind_taken, further, taken_up_to, report_goals, goals, brought, ◌-◌, ◌<◌, ◌&&◌, zero, Bool, length, map, Option, None, position, get_or, eq-eqb, range_with_len, cases_Bool, and_from, not_from_false, length-map-range_with_len, get_or-map-range_with_len, put, put_pair, IsBlock, pointer, address_of, spot_address, declared, floor_number, named, RingKeeps, named_ahead, position-None, IsNamed, named_spot-Some, EndpointState, Halted, Error, is_running, IsHeader, command_id, World, unreported, lenient, IsDriverRing, DriverKeeps, state_of, BoundRing, Agrees, transfer_driver, transfer_not_command, number_after, PostKeeps, post_keeps, open_takes, stored, stored_block, can_post, is_last, posts_posted, report_code, report_error, report_success, reported, with_reported, TransferFacts, NamesBlock, StandsAt, may_post}
 use Rattle.std.proofs.Common.{option_map}
 use Rattle.safety.proofs.LazyRuns.PostStep.{EventLearns, ReportLeaves}
 
@@ -44,16 +44,14 @@ module _ (h : Header) where
     unfolding goals
     goals_are later = ap (λ t. goals h k later t b) (transfer_kind (kind b) transfer) ∙ ap (λ o. report_goals h k later b o) f.at
 
-    pub block_goal : (later : List Row) (n : NamesBlock h k f.ring f.spot) → is_stopping (code b) ≡ false →
+    pub block_goal : (later : List Row) (n : NamesBlock h k f.ring f.spot) → is_stopping (code_told h k b) ≡ false →
         goals h k later (kind b) b ≡ record { ring = f.ring; spot = after (shape_of h f.ring) n.position } ∷ []
     unfolding report_goals
-    block_goal later n goes_on =
-        goals_are later ∙ cond-false (is_stopping (code b)) _ (taken_up_to h f.ring (number f.spot + 1) ∷ []) goes_on
-        ∙ ap (λ t. taken_up_to h f.ring (number t + 1) ∷ []) n.is ∙ ap (λ (at : RingSpot). at ∷ []) (taken_behind f.ring n.position)
+    block_goal later n goes_on = grind (arith, goals_are, cond-false, is_stopping, code_told, taken_up_to, number, taken_behind)
 
     -- ---- what is known behind it
 
-    pub read_is : learned h k (Read b) ≡ with_reads (transferred h k (code b) (slot b) (endpoint b) f.ring f.spot) (k.reads + 1)
+    pub read_is : learned h k (Read b) ≡ with_reads (transferred h k (code_told h k b) (slot b) (endpoint b) f.ring f.spot) (k.reads + 1)
     unfolding event_read transfer_read transferred_at
     read_is =
         learned_read h k b ∙ ap (λ m. with_reads m (k.reads + 1))
@@ -64,11 +62,9 @@ module _ (h : Header) where
     learns_at t l same started leaves floor =
         subst (λ m. EventLearns h k m f.ring t) (sym same) (record { ring_of = leaves.ring_of; started = started; floor = floor; others = leaves.others })
 
-    pub learns : (t : Spot) → ((transferred h k (code b) (slot b) (endpoint b) f.ring f.spot).ring f.ring).floor ≡ t → EventLearns h k (learned h k (Read b)) f.ring t
+    pub learns : (t : Spot) → ((transferred h k (code_told h k b) (slot b) (endpoint b) f.ring f.spot).ring f.ring).floor ≡ t → EventLearns h k (learned h k (Read b)) f.ring t
     unfolding transferred passed broken_off stopped_at on_ring
-    learns t floor =
-        learns_at t (transferred h k (code b) (slot b) (endpoint b) f.ring f.spot) read_is (search rules)
-        (transferred_leaves h k (slot b) (endpoint b) f.ring (code b) f.spot f.may) floor
+    learns t floor = search (rules, learns_at, transferred, code_told, slot, endpoint, read_is, transferred_leaves)
 
     -- by the code: where the floor is then, and whether the ring is held
     module _ (c s i r : ℕ) (t : Spot) where
@@ -162,9 +158,12 @@ module _ (h : Header) where
     unfolding shape posts_posted stored_block stored
     number_of s here = sym bound.matches.next ∙ here.next
 
-    pub report_at : (v : World) → report_code h u (code b) (slot b) (endpoint b) f.ring (pointer b) ≡ Some v → reported h w b ≡ Some v
+    told : code_posted h w b ≡ code_told h k b
+    told = told_same h k w b (g.matches.isochronous (slot b) (endpoint b))
+
+    pub report_at : (v : World) → report_code h u (code_told h k b) (slot b) (endpoint b) f.ring (pointer b) ≡ Some v → reported h w b ≡ Some v
     unfolding reported reported_on
-    report_at v by_code = search (rules, u, cond-true, and_from, can, not_from_false, bound)
+    report_at v by_code = grind (arith, cond-true, and_from, can, not_from_false, and_right, f.no_service, told, f.bound, g.matches.ring_of)
 
     module _ (n : NamesBlock h k f.ring f.spot) (here : StandsAt h w f.ring (after (shape_of h f.ring) n.position)) where
       number_now : number bound.spot ≡ n.position + 1
@@ -193,7 +192,7 @@ module _ (h : Header) where
           first_found (λ a. a == pointer b) (open_takes (state_of u f.ring)) i (omega (arith, long)) (eq-eqb _ (pointer b) (element ∙ address_is))
 
       -- a success: the ring stays as active as it was
-      pub success_reports : is_success (code b) ≡ true → (x : Reports w b f.ring) × (x.world.is_active f.ring ≡ w.is_active f.ring)
+      pub success_reports : is_success (code_told h k b) ≡ true → (x : Reports w b f.ring) × (x.world.is_active f.ring ≡ w.is_active f.ring)
       unfolding report_code report_success with_reported unreported posts_posted stored_block stored
       success_reports success =
           let m : ℕ = take_found.0 in
@@ -202,7 +201,7 @@ module _ (h : Header) where
           ap (λ o. option_map (λ m. with_reported h (posts_posted h w b) f.ring ((posts_posted h w b).reported f.ring + m + 1)) o) take_found.1 in
           let x : Reports w b f.ring = record {
             world = v;
-            at = report_at v (cond-true (is_success (code b)) _ _ success ∙ found);
+            at = report_at v (cond-true (is_success (code_told h k b)) _ _ success ∙ found);
             leaves = record { memory = refl; posted = refl; reads = refl; pointers = refl; cycles = refl; events = refl; active = λ q other. refl };
           } in
           (x, refl)
@@ -226,17 +225,17 @@ module _ (h : Header) where
             cond-true (is_running (w.endpoint_state (slot b) (endpoint b)) && w.is_active f.ring && is_last h (pointer b) (open_takes (state_of u f.ring))) _ None
             (and_from _ _ (and_from _ _ (ap is_running (g.matches.endpoints (slot b) (endpoint b)) ∙ runs) on) last)
 
-        error_leaves : (state : EndpointState) → report_code h u (code b) (slot b) (endpoint b) f.ring (pointer b) ≡ Some (ended state) → Reports w b f.ring
+        error_leaves : (state : EndpointState) → report_code h u (code_told h k b) (slot b) (endpoint b) f.ring (pointer b) ≡ Some (ended state) → Reports w b f.ring
         unfolding ended with_reported posts_posted stored_block stored
         error_leaves state by_code = search (rules, ended, report_at, put_off)
 
         -- an error: the endpoint stops at its block
-        pub error_reports : is_success (code b) ≡ false → (is_halting (code b) || is_trb_error (code b)) ≡ true → Reports w b f.ring
+        pub error_reports : is_success (code_told h k b) ≡ false → (is_halting (code_told h k b) || is_trb_error (code_told h k b)) ≡ true → Reports w b f.ring
         unfolding report_code
         error_reports fails breaks =
-            elim (cases_Bool (is_halting (code b))) [
-              | inl halting ↦ error_leaves Halted (cond-false (is_success (code b)) _ _ fails ∙ cond-true (is_halting (code b)) _ _ halting ∙ error_at Halted)
+            elim (cases_Bool (is_halting (code_told h k b))) [
+              | inl halting ↦ error_leaves Halted (cond-false (is_success (code_told h k b)) _ _ fails ∙ cond-true (is_halting (code_told h k b)) _ _ halting ∙ error_at Halted)
               | inr quiet ↦
-                  let error : is_trb_error (code b) ≡ true = sym (ap (λ c. c || is_trb_error (code b)) quiet) ∙ breaks in
-                  error_leaves Error (cond-false (is_success (code b)) _ _ fails ∙ cond-false (is_halting (code b)) _ _ quiet ∙ cond-true (is_trb_error (code b)) _ _ error ∙ error_at Error)
+                  let error : is_trb_error (code_told h k b) ≡ true = sym (ap (λ c. c || is_trb_error (code_told h k b)) quiet) ∙ breaks in
+                  error_leaves Error (cond-false (is_success (code_told h k b)) _ _ fails ∙ cond-false (is_halting (code_told h k b)) _ _ quiet ∙ cond-true (is_trb_error (code_told h k b)) _ _ error ∙ error_at Error)
             ]

@@ -1,7 +1,8 @@
 -- A Transfer Event, whatever its code: the lazy run brings its ring to where the event says, reports it, and reads it; and with that the lazy law
-use Rattle.safety.proofs.UpperLaws.{Header, LazyLaw, AllAreRead, [], ◌||◌, inl, inr, cases_Bool, code, is_success, is_halting, is_trb_error, is_transfer_event, ◌≡◌, ◌≢◌, ◌≤◌, ◌&&◌, ◌∷◌, ◌∙◌, ℕ, true, false, List, Option, Some, arith, sym, ap, subst, false≢true, not-false, and_from, Block, IsBlock, kind, slot, endpoint, is_stopping, Spot, Data, is_open, floor_number, MayReach, rank, number, after, ceiling_within, after_reached, next_later, Read, Row, IsHeader, shape_of, command_id, World, Known, learned, lenient, RingSpot, transferred, IsDriverRing, DriverKeeps, Agrees, transfer_driver, ring_shape, is_held_ring, is_late, brought, ◌+◌, ◌-◌, ◌<◌, ◌==◌, not, length, None, refl, ltb-true, eq-eqb, rules, and_parts, cond-true, cond-false, not_from_true, pointer, ceiling, cycle_of_bit, command_of, is_stop_of, is_running, UnderWay, unreported, command_at, next_command, is_stopping_now, may_be_taken, UnderWayMatches, CommandMatches, event_facts, put_off, at_floor, command_is_ring, command_at_is, command_of-with_cycle, StopCode, stored, stored_block, is_last, is_stop_under_way, posts_posted, report_code, report_stop, stopped_with, with_reported, ne_eqb, cases_lt, put, number-after, stop_spot_reached, rank_least, rank_most, transfer_not_command, put_at, next_is, goals, further, report_goals, command_taken, taken_up_to, stop_goal, need, ◌++◌, reverse, flat_map, looks_to, EventLaw, StandsAt, IsActiveIfOpen, Follows, Carries, Leads, Past, Traced, traced_behind, TransferFacts, NamesBlock, success_names, error_names, commands_open, CommandsOpen, AreTimely, IsHeld, need_of_held, timely_then, StopsThere, stop_names, stop_code, agrees_now, transfer_facts}
+use Rattle.safety.proofs.UpperLaws.{can_post, may_post, is_off, post_of, made, event_read, transfer_read, transferred_at, transfer_kind, Report, code_told, code, is_of_service, has_isoch, reported, reported_on, report_runs, ServiceFacts, Header, LazyLaw, AllAreRead, EventLaw, [], ◌||◌, inl, inr, cases_Bool, is_success, is_halting, is_trb_error, is_transfer_event, ◌≡◌, ◌≢◌, ◌≤◌, ◌&&◌, ◌∷◌, ◌∙◌, ℕ, true, false, List, Option, Some, arith, sym, ap, subst, false≢true, not-false, and_from, Block, IsBlock, kind, slot, endpoint, is_stopping, Spot, Data, is_open, floor_number, MayReach, rank, number, after, ceiling_within, after_reached, next_later, Read, Row, IsHeader, shape_of, command_id, World, Known, learned, lenient, RingSpot, transferred, IsDriverRing, DriverKeeps, Agrees, transfer_driver, ring_shape, is_held_ring, is_late, brought, ◌+◌, ◌-◌, ◌<◌, ◌==◌, not, length, None, refl, ltb-true, eq-eqb, rules, and_parts, cond-true, cond-false, not_from_true, pointer, ceiling, cycle_of_bit, command_of, is_stop_of, is_running, UnderWay, unreported, command_at, next_command, is_stopping_now, may_be_taken, UnderWayMatches, CommandMatches, event_facts, put_off, at_floor, command_is_ring, command_at_is, command_of-with_cycle, StopCode, stored, stored_block, is_last, is_stop_under_way, posts_posted, report_code, report_stop, stopped_with, with_reported, ne_eqb, cases_lt, put, number-after, stop_spot_reached, rank_least, rank_most, transfer_not_command, put_at, next_is, goals, further, report_goals, command_taken, taken_up_to, stop_goal, need, ◌++◌, reverse, flat_map, looks_to, StandsAt, IsActiveIfOpen, Follows, Carries, Leads, Past, Traced, traced_behind, TransferFacts, NamesBlock, success_names, error_names, commands_open, CommandsOpen, AreTimely, IsHeld, need_of_held, timely_then, StopsThere, stop_names, stop_code, agrees_now, transfer_facts}
+use Rattle.safety.proofs.DriverHistories.{run_keeps}
+use Rattle.safety.proofs.LazyRuns.PostStep.{IsSilent, running_now, silent_step, event_law, EventLawOf, EventLearns, pointers_transfer, report_step}
 use Rattle.safety.proofs.LazyRuns.Completions.{completion_law}
-use Rattle.safety.proofs.LazyRuns.PostStep.{event_law, EventLawOf, EventLearns, pointers_transfer, report_step}
 use Rattle.safety.proofs.LazyRuns.Induction.{lazy_from_events, all_read_from_events}
 use Rattle.safety.proofs.LazyRuns.LooksRun.{AllFit, further_then, further_not, Fits, AreApart, AllBrought, goals_reached}
 use Rattle.safety.proofs.LazyRuns.TransferGoals.{Reports, names, ahead, success_reports, error_reports, success_goes_on, error_goes_on, block_goal, brought_here, brought_off, read_is, learns, success_floor, error_ring, report_at, IsHeldAt, further_is, taken_behind, goals_are, stop_ring, no_command as off_command}
@@ -37,7 +38,7 @@ module _ (h : Header) where
     under : is_stop_under_way h (slot b) (endpoint b) w.under_way ≡ true
     under = under_by w.under_way (g.matches.command is_started) refl
 
-    module _ (stop : StopCode (code b)) (runs : is_running (k.endpoint_state (slot b) (endpoint b)) ≡ true) (on : w.is_active f.ring ≡ true) (here : pointer b ≡ w.pointer_of f.ring) where
+    module _ (stop : StopCode (code_told h k b)) (runs : is_running (k.endpoint_state (slot b) (endpoint b)) ≡ true) (on : w.is_active f.ring ≡ true) (here : pointer b ≡ w.pointer_of f.ring) where
       abbrev u : World
       u = posts_posted h w b
 
@@ -76,8 +77,8 @@ module _ (h : Header) where
   unfolding is_held_ring
   open_ring k o r at timely = not-false (is_open (k.ring r)) (ap (λ x. is_held_ring k x) (sym at) ∙ timely)
 
-  success_open : (k : Known) (b : Block) (r : ℕ) → k.ring_of (slot b) (endpoint b) ≡ Some r → is_transfer_event (kind b) ≡ true → is_success (code b) ≡ true →
-      is_late k (Read b) ≡ false → is_open (k.ring r) ≡ true
+  success_open : (k : Known) (b : Block) (r : ℕ) → k.ring_of (slot b) (endpoint b) ≡ Some r → is_transfer_event (kind b) ≡ true → is_success (code_told h k b) ≡ true →
+      is_late h k (Read b) ≡ false → is_open (k.ring r) ≡ true
   unfolding is_late
   success_open k b r bound transfer success timely = search (rules, open_ring, slot, endpoint, is_held_ring, and_from, is_transfer_event, kind, is_success, code)
 
@@ -91,10 +92,7 @@ module _ (h : Header) where
   stops_there at n none = cond-false (n == number at.spot + 1) (taken_up_to h at.ring n) at (ne_eqb n (number at.spot + 1) (λ same. omega (arith, same, none)))
 
   module _ (is : IsHeader h) (past : Past h) (later : List Row) (b : Block) (block : IsBlock b) (clean : lenient h past.known (Read b) ≡ []) (transfer : is_transfer_event (kind b) ≡ true) (w : World)
-      (f : Follows h past.known past.pointers w) where
-    e : TransferFacts h past.known b
-    e = transfer_facts h past.known b clean transfer
-
+      (f : Follows h past.known past.pointers w) (e : TransferFacts h past.known b) where
     trace : Traced h past.known past.pointers w
     trace = traced_behind h past.known past.pointers w f
 
@@ -130,7 +128,7 @@ module _ (h : Header) where
 
     -- ---- a success or an error: the ring is brought behind the block that the event names
 
-    module _ (n : NamesBlock h past.known e.ring e.spot) (goes_on : is_stopping (code b) ≡ false) (opened : is_open (past.known.ring e.ring) ≡ true) where
+    module _ (n : NamesBlock h past.known e.ring e.spot) (goes_on : is_stopping (code_told h past.known b) ≡ false) (opened : is_open (past.known.ring e.ring) ≡ true) where
       goal : RingSpot
       goal = record { ring = e.ring; spot = after (shape_of h e.ring) n.position }
 
@@ -162,7 +160,7 @@ module _ (h : Header) where
         tt,
       )
 
-      module _ (floor : ((transferred h past.known (code b) (slot b) (endpoint b) e.ring e.spot).ring e.ring).floor ≡ after (shape_of h e.ring) (number e.spot))
+      module _ (floor : ((transferred h past.known (code_told h past.known b) (slot b) (endpoint b) e.ring e.spot).ring e.ring).floor ≡ after (shape_of h e.ring) (number e.spot))
           (reports : (u : World) → Agrees h past.known [] u → u.is_active e.ring ≡ true → StandsAt h u e.ring (after (shape_of h e.ring) n.position) →
           (x : Reports h u b e.ring) × IsActiveIfOpen (learned h past.known (Read b)) x.world e.ring)
           (run : Leads h past past.made ((Read b) ∷ later) w) where
@@ -183,33 +181,33 @@ module _ (h : Header) where
             (λ s i q at other. brought_off h at_first e.ring q (after (shape_of h e.ring) n.position) other) reports_there run
 
     module _ (run : Leads h past past.made ((Read b) ∷ later) w) where
-      pub success_carries : is_success (code b) ≡ true → is_late past.known (Read b) ≡ false → Carries h past (Read b) later
+      pub success_carries : is_success (code_told h past.known b) ≡ true → is_late h past.known (Read b) ≡ false → Carries h past (Read b) later
       success_carries success timely =
           let n : NamesBlock h past.known e.ring e.spot = success_names h past.known b e success in
           let opened = success_open past.known b e.ring e.bound transfer success timely in
-          block_carries n (success_goes_on (code b) success) opened (success_floor h past.known b transfer e (code b) (slot b) (endpoint b) e.ring e.spot success)
+          block_carries n (success_goes_on (code_told h past.known b) success) opened (success_floor h past.known b transfer e (code_told h past.known b) (slot b) (endpoint b) e.ring e.spot success)
           (λ u agree active here.
           let r = success_reports h is past.known u b block past.keeps agree clean transfer e n here success in (r.0, λ _. r.1 ∙ active))
           run
 
-      pub error_carries : is_success (code b) ≡ false → (is_halting (code b) || is_trb_error (code b)) ≡ true → Carries h past (Read b) later
+      pub error_carries : is_success (code_told h past.known b) ≡ false → (is_halting (code_told h past.known b) || is_trb_error (code_told h past.known b)) ≡ true → Carries h past (Read b) later
       error_carries fails breaks =
           let named = error_names h past.known b e fails breaks in
           let n : NamesBlock h past.known e.ring e.spot = named.0 in
-          let there = error_ring h past.known b transfer e (code b) (slot b) (endpoint b) e.ring e.spot fails breaks in
+          let there = error_ring h past.known b transfer e (code_told h past.known b) (slot b) (endpoint b) e.ring e.spot fails breaks in
           let held : is_open ((learned h past.known (Read b)).ring e.ring) ≡ false = ap (λ (l : Known). is_open (l.ring e.ring)) (read_is h past.known b transfer e) ∙ there.held in
-          block_carries n (error_goes_on (code b) breaks) named.1.opened there.floor
+          block_carries n (error_goes_on (code_told h past.known b) breaks) named.1.opened there.floor
           (λ u agree active here.
           (error_reports h is past.known u b block past.keeps agree clean transfer e n here named.1.runs active fails breaks, λ opened. absurd (false≢true (sym held ∙ opened))))
           run
 
     -- ---- a stop: its Stop Endpoint is taken, and the ring is brought to the spot that it names
 
-    module _ (fails : is_success (code b) ≡ false) (quiet : (is_halting (code b) || is_trb_error (code b)) ≡ false) (timely : AreTimely h past.known ((Read b) ∷ later)) where
+    module _ (fails : is_success (code_told h past.known b) ≡ false) (quiet : (is_halting (code_told h past.known b) || is_trb_error (code_told h past.known b)) ≡ false) (timely : AreTimely h past.known ((Read b) ∷ later)) where
       stops : StopsThere h past.known b e
       stops = stop_names h past.known b e fails quiet
 
-      coded : StopCode (code b)
+      coded : StopCode (code_told h past.known b)
       coded = stop_code h past.known b e fails quiet
 
       next : StopIsNext h past.known (slot b) (endpoint b)
@@ -221,8 +219,8 @@ module _ (h : Header) where
       started : past.known.started ≡ true
       started = (event_facts h past.known b clean).started
 
-      there : IsHeldAt h past.known b transfer e (code b) (slot b) (endpoint b) e.ring e.spot (transferred h past.known (code b) (slot b) (endpoint b) e.ring e.spot) e.spot
-      there = stop_ring h past.known b transfer e (code b) (slot b) (endpoint b) e.ring e.spot coded.success coded.halting coded.error coded.stopping
+      there : IsHeldAt h past.known b transfer e (code_told h past.known b) (slot b) (endpoint b) e.ring e.spot (transferred h past.known (code_told h past.known b) (slot b) (endpoint b) e.ring e.spot) e.spot
+      there = stop_ring h past.known b transfer e (code_told h past.known b) (slot b) (endpoint b) e.ring e.spot coded.success coded.halting coded.error coded.stopping
 
       held : IsHeld (learned h past.known (Read b)) e.ring
       held = ap (λ (l : Known). is_open (l.ring e.ring)) (read_is h past.known b transfer e) ∙ there.held
@@ -242,7 +240,7 @@ module _ (h : Header) where
       unfolding report_goals command place
       both_goals =
           goals_are h past.known b transfer e later
-          ∙ cond-true (is_stopping (code b)) (command_taken h past.known ∷ stop_goal h place (need h (learned h past.known (Read b)) e.ring later) ∷ []) (taken_up_to h e.ring (number e.spot + 1) ∷ []) coded.stopping
+          ∙ cond-true (is_stopping (code_told h past.known b)) (command_taken h past.known ∷ stop_goal h place (need h (learned h past.known (Read b)) e.ring later) ∷ []) (taken_up_to h e.ring (number e.spot + 1) ∷ []) coded.stopping
           ∙ ap (λ (g : RingSpot). g ∷ stop_goal h place (need h (learned h past.known (Read b)) e.ring later) ∷ []) (taken_spot past.known)
           ∙ ap (λ (g : RingSpot). command ∷ g ∷ []) (stops_there place (need h (learned h past.known (Read b)) e.ring later) needs_none)
 
@@ -321,14 +319,48 @@ module _ (h : Header) where
       stop_carries run =
           row_carries (command ∷ place ∷ []) both_goals apart (command_fits, (place_fits, tt)) e.spot stop_learns ring_brought others reports run
 
+-- an event that tells of the service of its endpoint is reported without any look
+module _ (h : Header) (is : IsHeader h) (past : Past h) (later : List Row) (b : Block) (block : IsBlock b) (clean : lenient h past.known (Read b) ≡ []) (transfer : is_transfer_event (kind b) ≡ true) (w : World)
+    (f : Follows h past.known past.pointers w) (s : ServiceFacts h past.known b) where
+  agree : Agrees h past.known [] w
+  agree = agrees_now h past.known w f.runs f.all_read
+
+  can : can_post h w b ≡ true
+  can = may_post h is past.known w b past.keeps agree clean
+
+  ring_by : (o : Option ℕ) → past.known.ring_of (slot b) (endpoint b) ≡ o → (r : ℕ) × (o ≡ Some r)
+  ring_by None none = absurd (false≢true (sym s.on ∙ ap is_off (past.keeps.states.off (slot b) (endpoint b) none)))
+  ring_by (Some r) has = (r, refl)
+
+  had : (r : ℕ) × (w.ring_of (slot b) (endpoint b) ≡ Some r)
+  had = let found = ring_by (past.known.ring_of (slot b) (endpoint b)) refl in (found.0, agree.matches.ring_of (slot b) (endpoint b) ∙ found.1)
+
+  reported_so : reported h w b ≡ Some (posts_posted h w b)
+  unfolding reported reported_on
+  reported_so = grind (arith, can, had)
+
+  silent : IsSilent h past.known later b (Report b)
+  unfolding goals report_goals post_of event_read transfer_read transferred_at
+  silent = grind (arith, transfer_kind)
+
+  service_carries : Leads h past past.made ((Read b) ∷ later) w → Carries h past (Read b) later
+  unfolding made
+  service_carries =
+      let runs = report_runs h is past.known w (posts_posted h w b) b block (running_now h is past later b block w f.runs f.all_read) f.runs
+      (run_keeps h is past.known w past.keeps f.runs) reported_so in
+      silent_step h is past later b w block clean f (Report b) silent runs (reported h w b) (λ e. cc) refl reported_so
+
 pub transfer_law : (h : Header) → EventLawOf h is_transfer_event
 transfer_law h past later b w transfer is block clean timely run f =
-    elim (cases_Bool (is_success (code b))) [
-      | inl success ↦ success_carries h is past later b block clean transfer w f run success timely.0.1
-      | inr fails ↦ elim (cases_Bool (is_halting (code b) || is_trb_error (code b))) [
-        | inl breaks ↦ error_carries h is past later b block clean transfer w f run fails breaks
-        | inr quiet ↦ stop_carries h is past later b block clean transfer w f fails quiet timely run
+    elim (transfer_facts h past.known b clean transfer) [
+      | inl e ↦ elim (cases_Bool (is_success (code_told h past.known b))) [
+        | inl success ↦ success_carries h is past later b block clean transfer w f e run success timely.0.1
+        | inr fails ↦ elim (cases_Bool (is_halting (code_told h past.known b) || is_trb_error (code_told h past.known b))) [
+          | inl breaks ↦ error_carries h is past later b block clean transfer w f e run fails breaks
+          | inr quiet ↦ stop_carries h is past later b block clean transfer w f e fails quiet timely run
+        ]
       ]
+      | inr s ↦ service_carries h is past later b block clean transfer w f s run
     ]
 
 events : (h : Header) → EventLaw h

@@ -1,30 +1,15 @@
 -- A run of the model and the run that the rings that live see go alike, step by step, beside rows that break no rule
-use Rattle.safety.proofs.UpperLaws.{All-head, AreKept, is_bad_free, is_bad_withdraw, has_stopped, reverse, ring_restored, restored_on, Register, state_of, arith, [], ◌≡◌, ◌≢◌, ◌∷◌, ◌&&◌, ◌==◌, ◌∙◌, ℕ, not, Bool, true, false, List, Option, Some, None, refl, sym, ap, subst, inl, inr, cases_Bool, cases_eq, cond-true, false≢true, none-some, same_Some, put, Block, Header, Ring, Row, Sub, Write, Reg, Bell, Read, Step, NextRow, RingRow, FreeRow, World, IsHeader, IsStep, ring_with, ring_having, shape_of, command_id, counted, emptied, without_ring, without_descriptor, row_done, Known, DriverKeeps, Runs, all_read, LiveScene, live_next, live_step, live_with, IsRow, IsKept, header_now, known_now}
-use Rattle.std.proofs.Common.{option_map, if◌then◌else◌}
-use Rattle.safety.proofs.Words.{and_parts, cond_both, not-false, or_parts}
-use Rattle.safety.specs.Matches.{Rests}
-use Rattle.world_state.specs.World as of_world
-use Rattle.segments.specs.Descriptors.{length_from, no_ops, split_at}
-use Rattle.traces.specs.declared.row.Row.TheVariants.{Nop as NopRow}
-use Rattle.world_state.specs.DriverRows as driver
-use Rattle.world_state.specs.RingRows.{listed, may_come}
-use Rattle.world_state.specs.Scenes.{Scene, row_next, step_made, with_coming, with_left, with_world}
-use Rattle.world_state.specs.Steps as steps
-use Rattle.safety.proofs.Declaring.{may_declare}
+use Rattle.safety.proofs.UpperLaws.{All-head, AreKept, is_bad_free, is_bad_withdraw, has_stopped, reverse, ring_restored, restored_on, state_of, arith, [], ◌≡◌, ◌≢◌, ◌∷◌, ◌&&◌, ◌==◌, ◌∙◌, ℕ, not, Bool, true, false, List, Option, Some, None, refl, sym, ap, subst, inl, inr, cases_Bool, cases_eq, cond-true, false≢true, none-some, same_Some, put, Block, Header, Ring, Row, Sub, Write, Reg, Bell, Read, Step, NextRow, RingRow, FreeRow, World, IsHeader, IsStep, ring_with, ring_having, shape_of, command_id, counted, emptied, without_ring, without_descriptor, row_done, Known, DriverKeeps, Runs, all_read, LiveScene, live_next, live_step, live_with, IsRow, IsKept, header_now, known_now, if◌then◌else◌, and_parts, cond_both, not-false, or_parts, Rests, length_from, no_ops, split_at, NopRow, listed, may_come, Scene, row_next, step_made, with_coming, with_left, with_world, may_declare, put_at, put_off, having_transfer, driver_is, transfer_ring, command_is_ring, Left, aside, laid, laid_here, laid_put, made_so, row_so, kept_coming, kept_going, kept_withdrawing, Lists, TakesAreRight, came_aside, come_again, comes_lists, goes_lists, left_behind, listed_there, may_come_there, shape_same, was_live, went_aside}
+use Rattle.std.proofs.Common.{option_map}
 use Rattle.safety.proofs.DriverHistories.{run_keeps}
 use Rattle.safety.proofs.StepRuns.{step_goes}
-use Rattle.safety.proofs.LookKinds.{put_at, put_off}
-use Rattle.safety.proofs.RingIds.{having_transfer}
-use Rattle.safety.proofs.RingsOfHeader.{driver_is}
-use Rattle.safety.proofs.DriverRings.{transfer_ring}
-use Rattle.safety.proofs.SafeContext.{command_is_ring}
-use Rattle.safety.proofs.RingChanges.GoneAside.{Left, aside, laid, laid_here, laid_put, made_so, row_so}
-use Rattle.safety.proofs.RingChanges.GoneRings as going
-use Rattle.safety.proofs.RingChanges.KeptRings.{kept_coming, kept_going, kept_withdrawing}
 use Rattle.safety.proofs.RingChanges.LiveHeadline.{CameTo, Keeps, here, kept_on, later_kept, one_more}
-use Rattle.safety.proofs.RingChanges.LivingRings.{Lists, TakesAreRight, came_aside, come_again, comes_lists, goes_lists, left_behind, listed_there, may_come_there, shape_same, was_live, went_aside}
-use Rattle.safety.proofs.RingChanges.RingRuns as runs
 use Rattle.safety.proofs.RingChanges.Withdrawn.{stopped_with}
+use Rattle.world_state.specs.World as of_world
+use Rattle.world_state.specs.DriverRows as driver
+use Rattle.world_state.specs.Steps as steps
+use Rattle.safety.proofs.RingChanges.GoneRings as going
+use Rattle.safety.proofs.RingChanges.RingRuns as runs
 
 -- no ring that went is looked at
 abbrev pub IsIdle : Left → World → Type 0
@@ -139,15 +124,11 @@ module _ (g : Header) (headed : IsHeader g) (k : Known) (keeps : DriverKeeps g k
       (λ _. cond_both (t == 0 && w.started) (driver.activated g w (command_id g)) w (IsIdle l) (λ both. activated_idle (command_id g) (command_lives ((and_parts (t == 0) w.started both).1))) (λ _. rest))
       (λ _. endpoint_idle s t (w.ring_of s t) refl)
 
-  register_active : (v : World) (r : Register) (x : ℕ) → (driver.register_row g v r x).is_active ≡ v.is_active
-  unfolding driver.register_row driver.valued driver.run_or_stop driver.started_with driver.with_dequeue
-  register_active v r x = grind arith
-
   row_idle : (row : Row) (v : World) → row_done g w row ≡ Some v → IsIdle l v
-  unfolding driver.row_done driver.declared driver.event_read of_world.stored
+  unfolding driver.row_done driver.declared driver.event_read of_world.stored driver.register_row driver.valued driver.run_or_stop driver.started_with driver.with_dequeue
   row_idle (Sub r blocks) v at = subst (IsIdle l) (same_Some _ v at) rest
   row_idle (Write a x) v at = subst (IsIdle l) (same_Some _ v at) rest
-  row_idle (Reg r x) v at = subst (IsIdle l) (same_Some _ v at) (unfolding_idle l w (driver.register_row g w r x) (sym (register_active w r x)) rest)
+  row_idle (Reg r x) v at = subst (IsIdle l) (same_Some _ v at) (unfolding_idle l w (driver.register_row g w r x) (sym (grind arith)) rest)
   row_idle (Bell s t) v at = subst (IsIdle l) (same_Some _ v at) (bell_idle s t)
   row_idle (Read e) v at = subst (IsIdle l) (given _ _ v at) rest
   row_idle _ v at = subst (IsIdle l) (same_Some _ v at) rest
@@ -235,7 +216,7 @@ module _ (h : Header) (is : IsHeader h) (past : List Row) where
               let after = step_goes g p.headed k p.keeps w v s is_step at other run in
               unfolding_idle l (counted g v) v (counted_active g v) (rest g p.headed k p.keeps (counted g v) after l d lists) in
               alike_step l d g lists rows w (steps.made g g w s) (steps.made d g (aside l w) s)
-              (made_so l g d lists.command lists.events (names g p.headed k p.keeps w run l d lists) lists.size w s other (had g p.headed k p.keeps w run l d lists) (active g p.headed k p.keeps w run l d lists)) idle
+              (made_so l g d lists.command lists.events lists.version (names g p.headed k p.keeps w run l d lists) lists.size w s other (had g p.headed k p.keeps w run l d lists) (active g p.headed k p.keeps w run l d lists)) idle
           | inr over ↦
               alike_step l d g lists rows w (steps.made g g w s) (steps.made d g (aside l w) s)
               (ap (option_map (aside l)) (stopped_none g g w s other over.also) ∙ sym (stopped_none d g (aside l w) s other over.also))
@@ -279,7 +260,7 @@ module _ (h : Header) (is : IsHeader h) (past : List Row) where
         }
     made_row row rest_of fits kept p run =
         alike_row l d g lists rest_of (row ∷ rest_of) w (row_done g w row) (row_done d (aside l w) row)
-        (row_so l g d lists.command lists.events w row (declares g p.headed k p.keeps w run l d lists row kept)) (λ v at. row_idle g p.headed k p.keeps w run l d lists row v at)
+        (row_so l g d lists.command lists.events lists.version w row (declares g p.headed k p.keeps w run l d lists row kept)) (λ v at. row_idle g p.headed k p.keeps w run l d lists row v at)
 
     next_row : (rows : List Row) → CameTo h is past (live_with g rows w) → AreAlike (live_next (live_with g rows w) rows) (row_next (whole l d (live_with g rows w)) rows)
     next_row [] c = tt

@@ -1,5 +1,5 @@
 -- An event says the same where other rings are there, so long as those that endpoints have and commands bind are as they were
-use Rattle.safety.proofs.Words.{[], ◌≡◌, if◌then◌else◌, ◌∷◌, ◌∙◌, ℕ, Bool, true, false, List, Option, Some, None, refl, ap, rules, put, put_pair, cond_both, none-some, same_Some, option_map, Block, slot, endpoint, pointer, is_success, is_halting, is_trb_error, is_stopping, Spot, number, after, RingView, RingChange, Reaches, Holds, changed, ceiling, named, target, Command, Stopped, is_off, Change, Places, Stops, Header, Ring, shape_of, command_id, event_shape, event_size, ring_having, Known, RingSpot, on_ring, spot_on, event_at, passed, broken_off, stopped_at, transferred, transferred_at, transfer_read, set_to, bound_to, moved_to, moved, pointed, disabled, in_state, held_at_ceiling, changed_by, changed_by_all, arith}
+use Rattle.safety.proofs.Words.{◌&&◌, code, code_told, has_isoch, counted_code, is_of_service, typed, [], ◌≡◌, if◌then◌else◌, ◌∷◌, ◌∙◌, ℕ, Bool, true, false, List, Option, Some, None, refl, ap, rules, put, put_pair, cond_both, none-some, same_Some, option_map, Block, slot, endpoint, pointer, is_success, is_halting, is_trb_error, is_stopping, Spot, number, after, RingView, RingChange, Reaches, Holds, changed, ceiling, named, target, Command, Stopped, is_off, Change, Places, Stops, Header, Ring, shape_of, command_id, event_shape, event_size, ring_having, Known, RingSpot, on_ring, spot_on, event_at, passed, broken_off, stopped_at, transferred, transferred_at, transfer_read, set_to, bound_to, moved_to, moved, pointed, disabled, in_state, held_at_ceiling, changed_by, changed_by_all, arith}
 use Rattle.safety.proofs.Endpoints.{moved_rings, held_rings}
 
 module _ (h : Header) (rings : List Ring) (over : (ℕ → RingView) → ℕ → RingView) (Kept : ℕ → Type 0) where
@@ -19,6 +19,7 @@ module _ (h : Header) (rings : List Ring) (over : (ℕ → RingView) → ℕ →
     pub command : command_id g ≡ command_id h
     pub command_kept : Kept (command_id h)
     pub events : event_shape g ≡ event_shape h
+    pub version : g.version ≡ h.version
     pub size : event_size g ≡ event_size h
 
   -- endpoints have kept rings
@@ -51,10 +52,6 @@ module _ (h : Header) (rings : List Ring) (over : (ℕ → RingView) → ℕ →
 
     -- ---- a Transfer Event
 
-    passed_alike : (k : Known) (r : ℕ) (t : Spot) → Kept r → passed g (other k) r t ≡ other (passed h k r t)
-    unfolding passed
-    passed_alike k r t kept = search (rules, on_ring, g, other, after, number, on_alike, shape_of)
-
     spot_alike : (k : Known) (a : ℕ) (q : Option ℕ) → IsKept q → spot_on g (other k) a q ≡ spot_on h k a q
     unfolding spot_on
     spot_alike k a None kept = refl
@@ -62,16 +59,23 @@ module _ (h : Header) (rings : List Ring) (over : (ℕ → RingView) → ℕ →
 
     pub event_at_alike : (k : Known) (b : Block) → HasKept k → event_at g (other k) b ≡ event_at h k b
     unfolding event_at
-    event_at_alike k b kept = spot_alike k (pointer b) (k.ring_of (slot b) (endpoint b)) (kept (slot b) (endpoint b))
+    event_at_alike k b kept = ap (λ o. if is_of_service (code b) then None else o) (spot_alike k (pointer b) (k.ring_of (slot b) (endpoint b)) (kept (slot b) (endpoint b)))
 
     pub event_kept : (k : Known) (b : Block) (at : RingSpot) → HasKept k → event_at h k b ≡ Some at → Kept at.ring
     unfolding event_at spot_on
     event_kept k b at kept is = grind (arith, none-some, same_Some)
 
+    pub told_over : (k : Known) (b : Block) → code_told g (other k) b ≡ code_told h k b
+    unfolding code_told
+    told_over k b = ap (λ v. counted_code (has_isoch v && k.isochronous (slot b) (endpoint b)) (code b)) o.version
+
+    code_alike : (k : Known) (c s i r : ℕ) (t : Spot) → Kept r → transferred g (other k) c s i r t ≡ other (transferred h k c s i r t)
+    unfolding transferred broken_off stopped_at passed
+    code_alike k c s i r t kept = grind (arith, either, is_success, on_ring, g, other, after, number, on_alike, shape_of, is_halting, put_pair, is_trb_error, is_stopping)
+
     at_alike : (k : Known) (b : Block) (q : Option RingSpot) → ((at : RingSpot) → q ≡ Some at → Kept at.ring) → transferred_at g (other k) b q ≡ other (transferred_at h k b q)
-    unfolding transferred_at transferred broken_off stopped_at
-    at_alike k b None kept = refl
-    at_alike k b (Some at) kept = search (rules, either, is_success, passed_alike, is_halting, g, other, on_alike, put_pair, is_trb_error, is_stopping)
+    unfolding transferred_at
+    at_alike k b q kept = grind (arith, told_over, code_alike)
 
     pub transfer_alike : (k : Known) (b : Block) → HasKept k → transfer_read g (other k) b ≡ other (transfer_read h k b)
     unfolding transfer_read
@@ -107,7 +111,7 @@ module _ (h : Header) (rings : List Ring) (over : (ℕ → RingView) → ℕ →
     held_alike k (Some r) kept = search (rules, on_ring, ceiling, o.shape, o.view, k.ring, on_alike, shape_of)
 
     change_alike : (c : Command) (k : Known) (change : Change) → HasKept k → ChangeAlike k change → changed_by g c (other k) change ≡ other (changed_by h c k change)
-    unfolding changed_by disabled in_state
+    unfolding changed_by disabled typed in_state
     change_alike c k (Places s i p cycle state) kept may =
         let m = pointed_alike k s i p cycle kept may in
         λ j. record (m j) { endpoint_state = put_pair (m j).endpoint_state s i state; must_move = put_pair k.must_move s i false }
@@ -116,14 +120,10 @@ module _ (h : Header) (rings : List Ring) (over : (ℕ → RingView) → ℕ →
 
     -- ---- endpoints have kept rings still
 
-    pointed_has : (k : Known) (s i p : ℕ) (cycle : Bool) → HasKept k → (is_off (k.endpoint_state s i) ≡ true → HavesAlike p) → HasKept (pointed h k s i p cycle)
-    unfolding pointed bound_to
-    pointed_has k s i p cycle kept haves = search (rules, cond_both, is_off, bound_to, ring_having, moved, moved_rings)
-
     pub changes_alike : (c : Command) (changes : List Change) (k : Known) → HasKept k → ChangesAlike c k changes →
         (changed_by_all g c (other k) changes ≡ other (changed_by_all h c k changes)) × HasKept (changed_by_all h c k changes)
-    unfolding changed_by_all changed_by disabled in_state
+    unfolding changed_by_all changed_by disabled typed in_state pointed bound_to
     changes_alike c [] k kept may = (refl, kept)
     changes_alike c (change ∷ rest) k kept may =
-        let later = changes_alike c rest (changed_by h c k change) (grind (arith, none-some, pointed_has, held_rings, in_state)) may.1 in
+        let later = changes_alike c rest (changed_by h c k change) (grind (arith, none-some, cond_both, is_off, bound_to, ring_having, moved, moved_rings, held_rings, in_state)) may.1 in
         (ap (λ x. changed_by_all g c x rest) (change_alike c k change kept may.0) ∙ later.0, later.1)

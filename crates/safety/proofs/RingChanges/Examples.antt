@@ -1,6 +1,5 @@
 -- Worked examples of rings that come and go, and of descriptors that are withdrawn
-use Rattle.safety.proofs.Words.{[], ◌≡◌, ℕ, true, false, List, ◌∷◌, refl, Some, nat_lt, Xfer, Bytes32, Header, Ring, Write, Bell, forgotten, is_bad_free, is_bad_ring, is_bad_segment, is_had, shows_first_lap, with_ring, without_ring, restored_on, ring_moved, ring_restored, has_stopped, is_bad_withdraw, is_left, rests_with, Row, header_now, known_now, known_after, put, put_pair, Block, Data, RingView, EndpointState, Running, Stopped, Known, nothing, Three, rules_on_literals, RingRow, FreeRow}
-use Rattle.traces.specs.declared.row.Row.TheVariants.{Nop as NopRow}
+use Rattle.safety.proofs.Words.{[], ◌≡◌, ℕ, true, false, List, ◌∷◌, refl, Some, nat_lt, Xfer, Bytes32, Header, Ring, Write, Bell, forgotten, is_bad_free, is_bad_ring, is_bad_segment, is_had, shows_first_lap, with_ring, without_ring, restored_on, ring_moved, ring_restored, has_stopped, is_bad_withdraw, is_left, rests_with, Row, header_now, known_now, known_after, put, put_pair, Block, Data, RingView, EndpointState, Running, Stopped, Known, nothing, Three, rules_on_literals, RingRow, FreeRow, NopRow}
 
 -- Worked examples of rings that come and go
 

@@ -30,6 +30,7 @@ module _ (h : Header) (is : IsHeader h) (k : Known) (d : DriverKeeps h k) (id : 
     command_shape = refl;
     command_view = cleared_apart id k.ring (command_id h) no_command;
     events = refl;
+    version = refl;
     size = refl;
     keeps = λ s ring. subst (λ v. RingKeeps (shape_of h s) k.memory v) (sym (cleared_apart id k.ring s (other s ring.ring ring.found))) (d.rings s ring);
     clean = d.clean;

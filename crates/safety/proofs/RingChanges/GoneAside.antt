@@ -1,39 +1,8 @@
 -- A step leaves aside what is left of the rings that went: it does beside them what it does without them
-use Rattle.std.proofs.Common.{arith, ◌≡◌, ◌≢◌, ◌+◌, ◌-◌, ◌%◌, ◌^◌, ◌==◌, ◌&&◌, ◌∙◌, ◌∷◌, ◌++◌, if◌then◌else◌, ℕ, Bool, true, false, not, List, [], Option, Some, None, is_some, length, drop, ap, refl, sym, inl, inr, eq-eqb, ne_eqb, nat_lt}
-use Rattle.std.proofs.lemmas.Bool.{cases_Bool, cases_eq, cond-true, cond-false}
-use Rattle.std.proofs.Math.Path.{fun_ext}
-use Rattle.std.specs.Prelude.{option_map, option_and_then, position}
-use Rattle.std.specs.List.{list_any, range_with_len}
-use Rattle.guest_memory.specs.Memory.{put, put_pair}
-use Rattle.trb.specs.declared.block.Block.{Block}
-use Rattle.trb.specs.Bits.{is_set}
-use Rattle.trb.specs.Block.{block_at, code, cycle, endpoint, kind, pointer, same_words, slot, word}
-use Rattle.trb.specs.CompletionCode.{is_halting, is_stopping, is_success, is_trb_error}
-use Rattle.trb.specs.Kind.{is_command_completion, is_link, is_other_event, is_transfer_event}
-use Rattle.segments.specs.ShapeValue.{Shape}
-use Rattle.segments.specs.Places.{address_of, cycle_of, is_in, place_count}
-use Rattle.segments.specs.Descriptors.{declared_at}
-use Rattle.contexts.specs.Contexts.{device_context, device_context_bytes}
-use Rattle.contexts.specs.declared.size.ContextSize.{ContextSize}
-use Rattle.commands.specs.declared.command.Command.{Command}
-use Rattle.commands.specs.declared.state.EndpointState.{EndpointState}
-use Rattle.commands.specs.declared.state.EndpointState.TheVariants.{Error, Halted, Stopped}
-use Rattle.commands.specs.Command.{command_of}
-use Rattle.commands.specs.States.{is_running}
-use Rattle.commands.specs.Changes.{Change, Places, Stops, changes}
-use Rattle.event_ring.specs.EventRing.{has_room, is_event_place, position_from}
-use Rattle.traces.specs.declared.header.Header.{Header}
-use Rattle.traces.specs.declared.row.Row.{Row}
-use Rattle.traces.specs.declared.row.Row.TheVariants.{Sub, Write, Reg, Bell, Read}
-use Rattle.traces.specs.declared.register.Register.TheVariants.{Crcr, Dcbaap}
-use Rattle.traces.specs.declared.step.Step.{Step}
-use Rattle.traces.specs.declared.step.Step.TheVariants.{NextRow, Look, Report, Finish, Other, Scribble}
-use Rattle.traces.specs.Header.{command_id, event_shape, event_size, ring_having, shape_of}
-use Rattle.traces.specs.Register.{base_address, register_or_zero, ring_cycle_state}
+use Rattle.safety.proofs.Words.{has_isoch, arith, ◌≡◌, ◌≢◌, ◌+◌, ◌-◌, ◌%◌, ◌^◌, ◌==◌, ◌&&◌, ◌∙◌, ◌∷◌, ◌++◌, if◌then◌else◌, ℕ, Bool, true, false, not, List, [], Option, Some, None, is_some, length, drop, ap, refl, sym, inl, inr, eq-eqb, ne_eqb, nat_lt, cases_Bool, cases_eq, cond-true, cond-false, fun_ext, option_and_then, position, list_any, range_with_len, put, put_pair, Block, is_set, block_at, code, cycle, endpoint, kind, same_words, slot, word, counted_code, is_halting, is_stopping, is_success, is_trb_error, is_command_completion, is_link, is_other_event, is_transfer_event, Shape, address_of, cycle_of, is_in, place_count, declared_at, device_context, device_context_bytes, ContextSize, Command, EndpointState, Error, Halted, Stopped, command_of, is_running, Change, Places, Stops, changes, has_room, is_event_place, position_from, Header, Row, Sub, Write, Reg, Bell, Read, Crcr, Dcbaap, Step, NextRow, Look, Report, Finish, Other, Scribble, command_id, event_shape, event_size, ring_having, shape_of, base_address, register_or_zero, ring_cycle_state, RingEvent, Placed, Took, UnderWay, World, next_take}
+use Rattle.std.specs.Prelude.{option_map}
 use Rattle.world_state.specs.World as world
-use Rattle.world_state.specs.World.{RingEvent, Placed, Took, UnderWay, World}
 use Rattle.world_state.specs.Takes as takes
-use Rattle.world_state.specs.Takes.{next_take}
 use Rattle.world_state.specs.DriverRows as driver
 use Rattle.world_state.specs.Looks as looks
 use Rattle.world_state.specs.Posts as posts
@@ -100,7 +69,7 @@ module _ (l : Left) where
 
   -- ---- beside rings of which the same is so of the command and the event ring
 
-  module _ (h d : Header) (command : command_id d ≡ command_id h) (events : event_shape d ≡ event_shape h) where
+  module _ (h d : Header) (command : command_id d ≡ command_id h) (events : event_shape d ≡ event_shape h) (version : d.version ≡ h.version) where
     scribbles_so : (w : World) (o : Option Command) (t : ℕ) → looks.may_scribble d o (aside l w) t ≡ looks.may_scribble h o w t
     unfolding looks.may_scribble
     scribbles_so w o t = grind arith
@@ -226,22 +195,19 @@ module _ (l : Left) where
     can_post_so w b =
         ap (λ (shape : Shape). nat_lt 0 (place_count shape) && w.started && has_room (place_count shape) w.posted w.dequeue && cycle b == cycle_of shape w.posted) (sym events)
 
-    reported_on_so : (w : World) (b : Block) (o : Option ℕ) → ((r : ℕ) → o ≡ Some r → l.gone r ≡ false) → option_map (aside l) (posts.reported_on h w b o) ≡ posts.reported_on d (aside l w) b o
-    unfolding posts.reported_on
-    reported_on_so w b None had = refl
-    reported_on_so w b (Some r) had =
-        code_so r (had r refl) (posts.posted h w b) (code b) (slot b) (endpoint b) (pointer b)
-        ∙ ap (λ u. posts.report_code d u (code b) (slot b) (endpoint b) r (pointer b)) (posted_so w b)
+    code_posted_so : (w : World) (b : Block) → posts.code_posted h w b ≡ posts.code_posted d (aside l w) b
+    unfolding posts.code_posted
+    code_posted_so w b = ap (λ v. counted_code (has_isoch v && w.isochronous (slot b) (endpoint b)) (code b)) (sym version)
 
     -- of no ring that went an endpoint has it
     abbrev pub HasNone : World → Type 0
     HasNone w = (s i r : ℕ) → w.ring_of s i ≡ Some r → l.gone r ≡ false
 
     reported_so : (w : World) (b : Block) → HasNone w → option_map (aside l) (posts.reported h w b) ≡ posts.reported d (aside l w) b
-    unfolding posts.reported
+    unfolding posts.reported posts.reported_on
     reported_so w b had =
         chosen _ _ _ None _ None (ap (λ t. t && is_transfer_event (kind b) && not (is_set (word b 3) 2)) (can_post_so w b))
-        (reported_on_so w b (w.ring_of (slot b) (endpoint b)) (λ r at. had (slot b) (endpoint b) r at)) refl
+        (grind (arith, posted_so, code_so, code_posted_so)) refl
 
     other_so : (w : World) (b : Block) → option_map (aside l) (posts.other_posted h w b) ≡ posts.other_posted d (aside l w) b
     unfolding posts.other_posted
@@ -277,7 +243,7 @@ module _ (l : Left) where
 
     module _ (names : (p r : ℕ) → ring_having h p ≡ Some r → l.gone r ≡ false) where
       change_so : (w : World) (c : Command) (change : Change) → option_map (aside l) (bindings.changed_by h c w change) ≡ bindings.changed_by h c (aside l w) change
-      unfolding bindings.changed_by bindings.in_state bindings.disabled bindings.has_one_of
+      unfolding bindings.changed_by bindings.in_state bindings.disabled bindings.typed bindings.has_one_of
       change_so w c (Places s i p cycle state) = placed_on_so w s i p cycle state (ring_having h p) (names p)
       change_so w c (Stops s i) = some _ _ (inactive_so (record w { endpoint_state = put_pair w.endpoint_state s i Stopped }) (w.ring_of s i))
       change_so w c _ = refl
@@ -365,10 +331,6 @@ module _ (l : Left) where
     unfolding driver.started_with
     started_so w = ap (λ n. aside l (record w { started = true; pointer_of = put w.pointer_of n (base_address (register_or_zero w.register Crcr)); cycle_state = put w.cycle_state n (ring_cycle_state (register_or_zero w.register Crcr)) })) (sym command)
 
-    run_so : (w : World) (v : ℕ) → aside l (driver.run_or_stop h w v) ≡ driver.run_or_stop d (aside l w) v
-    unfolding driver.run_or_stop
-    run_so w v = grind (arith, either, started_so)
-
     dequeue_so : (w : World) (a : ℕ) → aside l (driver.with_dequeue h w a) ≡ driver.with_dequeue d (aside l w) a
     unfolding driver.with_dequeue
     dequeue_so w a =
@@ -385,10 +347,10 @@ module _ (l : Left) where
     read_so w e = chosen _ _ _ None _ None (ap (λ (shape : Shape). nat_lt w.reads w.posted && same_words (block_at w.memory (address_of shape w.reads)) e) (sym events)) refl refl
 
     pub row_so : (w : World) (row : Row) → ((r : ℕ) (blocks : List Block) → row ≡ Sub r blocks → l.gone r ≡ false) → option_map (aside l) (driver.row_done h w row) ≡ driver.row_done d (aside l w) row
-    unfolding driver.row_done driver.register_row driver.valued world.stored
+    unfolding driver.row_done driver.register_row driver.valued world.stored driver.run_or_stop
     row_so w (Sub r blocks) lives = some _ _ (declared_so w r blocks (lives r blocks refl))
     row_so w (Write a x) lives = refl
-    row_so w (Reg r v) lives = grind (arith, run_so, dequeue_so)
+    row_so w (Reg r v) lives = grind (arith, either, started_so, dequeue_so)
     row_so w (Bell s t) lives = some _ _ (bell_so w s t)
     row_so w (Read e) lives = read_so w e
     row_so w _ lives = refl

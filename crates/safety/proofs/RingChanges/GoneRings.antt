@@ -145,6 +145,7 @@ module _ (h : Header) (is : IsHeader h) (k : Known) (d : DriverKeeps h k) (id : 
     command_shape = ap (λ n. shape_of g n) command_same ∙ shape_same (command_id h) no_command;
     command_view = ap views command_same ∙ view_same (command_id h) no_command;
     events = events_same;
+    version = refl;
     size = size_same;
     keeps = λ s ring.
         let other = not_there s ring.ring ring.found in

@@ -1,21 +1,9 @@
 -- The headline: behind each step of each run beside rows that break no rule the world is safe, also for rings that went.
 -- The run is that which the rings that live see, with what is left of the others put back
-use Rattle.safety.proofs.UpperLaws.{[], ◌≡◌, ◌∷◌, ◌&&◌, ◌∙◌, ℕ, Bool, true, false, List, Option, Some, None, refl, sym, ap, subst, inl, inr, cond-true, false≢true, false_from_ne_true, none-some, same_Some, All, All-head, All-tail, reverse, IsIn, Header, Ring, Step, Row, World, IsHeader, IsStep, IsSafe, shape_of, harm_of, harms, waits, has_changed_context, is_changed_since, is_context_changed, option_and_then, AreKept, IsRow, Headline, LiveScene, live_reached, live_step, and_left}
-use Rattle.std.proofs.Common.{◌-◌, ◌==◌, find, nat_le, nat_lt, option_map}
-use Rattle.safety.proofs.Words.{list_any, some_of}
-use Rattle.safety.proofs.Headers.{found_in}
-use Rattle.safety.proofs.Safe.{safe_from}
-use Rattle.safety.proofs.RingChanges.GoneAside.{Left, aside, laid_here}
-use Rattle.safety.proofs.RingChanges.LivingRings.{Lists, all_live, fails_there, none_gone, shape_same}
+use Rattle.safety.proofs.UpperLaws.{[], ◌≡◌, ◌∷◌, ◌&&◌, ◌∙◌, ℕ, Bool, true, false, List, Option, Some, None, refl, sym, ap, subst, inl, inr, cond-true, false≢true, false_from_ne_true, none-some, same_Some, All, All-head, All-tail, reverse, IsIn, Header, Ring, Step, Row, World, IsHeader, IsStep, IsSafe, shape_of, harm_of, harms, waits, has_changed_context, is_changed_since, is_context_changed, option_and_then, AreKept, IsRow, Headline, LiveScene, live_reached, live_step, and_left, ◌-◌, ◌==◌, find, nat_le, nat_lt, list_any, some_of, found_in, safe_from, Left, aside, laid_here, Lists, all_live, fails_there, none_gone, shape_same, place_count, Shape, event_size, Scene, scene_reached, step_made, Harm, TakenOutOfOrder, TakenOtherWords, WaitsInsideDescriptor, LooksOutside, PostsOverUnread, InputContextChanged, RingEvent, has_other_words, is_inside_descriptor, is_out_of_order}
+use Rattle.std.proofs.Common.{option_map}
 use Rattle.safety.proofs.RingChanges.LiveHeadline.{came, safe_there}
-use Rattle.segments.specs.Places.{place_count}
-use Rattle.segments.specs.ShapeValue.{Shape}
-use Rattle.traces.specs.Header.{event_size, some_ring}
-use Rattle.world_state.specs.Scenes.{Scene, scene_reached, step_made}
-use Rattle.world_state.specs.declared.harm.Harm.{Harm}
-use Rattle.world_state.specs.declared.harm.Harm.TheVariants.{TakenOutOfOrder, TakenOtherWords, WaitsInsideDescriptor, LooksOutside, PostsOverUnread, InputContextChanged}
-use Rattle.world_state.specs.World.{RingEvent}
-use Rattle.world_state.specs.Harms.{has_other_words, is_inside_descriptor, is_out_of_order}
+use Rattle.traces.specs.Header.{some_ring}
 pub use Rattle.safety.proofs.RingChanges.Alike.{Alike, AreAlike, IsIdle, step_alike, whole}
 
 -- ---- harm that the rings that live don't show no ring shows

@@ -1,16 +1,7 @@
 -- A run as the rings that live see it: of a ring that goes nothing is left. Where rows break no rule nothing comes of such a ring any more, so
 -- it is the run of the model, but for what was declared and happened on rings that went (`Alike` in `Alike.antt`)
-use Rattle.std.specs.Prelude.{List, [], ◌∷◌, Option, Some, None, option_and_then, option_map}
-use Rattle.traces.specs.declared.header.Header.{Header}
-use Rattle.traces.specs.declared.step.Step.{Step}
-use Rattle.traces.specs.declared.step.Step.TheVariants.{NextRow}
-use Rattle.traces.specs.declared.row.Row.{Row}
-use Rattle.traces.specs.declared.row.Row.TheVariants.{Ring as RingRow, Free as FreeRow, Nop as NopRow}
-use Rattle.world_state.specs.World.{World, opening}
-use Rattle.world_state.specs.DriverRows.{row_done}
-use Rattle.world_state.specs.RingRows.{emptied, without_descriptor}
-use Rattle.traces.specs.LivingRings.{header_after}
-use Rattle.world_state.specs.Steps.{counted, made}
+use Rattle.safety.proofs.Words.{List, [], ◌∷◌, Option, Some, None, option_and_then, Header, Step, NextRow, Row, RingRow, FreeRow, NopRow, World, opening, row_done, emptied, without_descriptor, header_after, counted, made}
+use Rattle.std.specs.Prelude.{option_map}
 
 -- the rings that live, the rows still to come, and the world
 pub record LiveScene : Type 0 where

@@ -1,21 +1,8 @@
 -- The rings that were declared, and those of them that live: what a ring that comes or goes makes of both
-use Rattle.safety.proofs.UpperLaws.{arith, [], ◌≡◌, ◌≢◌, ◌⊎◌, ◌∷◌, ◌++◌, ◌||◌, ◌==◌, ◌∙◌, ℕ, not, Bool, true, false, List, Some, None, find, filter, refl, sym, ap, subst, inl, inr, eq-eqb, eqb-true, ne_eqb, cases_Bool, cases_eq, cond-true, cond-false, false≢true, none-some, same_Some, put, IsIn, Header, Ring, World, IsHeader, ring_with, shape_of, command_id, event_shape, emptied, with_ring, without_ring, is_bad_free, Known, DriverKeeps}
-use Rattle.std.proofs.Common.{◌&&◌, if◌then◌else◌}
-use Rattle.std.proofs.Math.Path.{fun_ext}
-use Rattle.safety.proofs.Words.{and_parts, clash, from_filter, is_command_kind, is_event_kind, is_transfer_kind, list_any, list_any-append, may_stand_together, not-true, not_from_false, or_from, or_parts, shape_or, Evt, Xfer}
-use Rattle.safety.proofs.LookKinds.{put_at, put_off}
+use Rattle.safety.proofs.MiddleLaws.{arith, [], ◌≡◌, ◌≢◌, ◌⊎◌, ◌∷◌, ◌++◌, ◌||◌, ◌==◌, ◌∙◌, ℕ, not, Bool, true, false, List, Some, None, find, filter, refl, sym, ap, subst, inl, inr, eq-eqb, eqb-true, ne_eqb, cases_Bool, cases_eq, cond-true, cond-false, false≢true, none-some, same_Some, put, IsIn, Header, Ring, World, IsHeader, ring_with, shape_of, command_id, event_shape, emptied, with_ring, without_ring, is_bad_free, Known, DriverKeeps, ◌&&◌, if◌then◌else◌, fun_ext, and_parts, clash, from_filter, is_command_kind, is_event_kind, is_transfer_kind, list_any, list_any-append, may_stand_together, not-true, not_from_false, or_from, or_parts, shape_or, Evt, Xfer, put_at, put_off, header_parts, other_ids, Left, aside, laid, none_found, command_ring, event_ring, id_or_none, is_in_way, listed, may_come, RingEvent, has_other_words, is_out_of_order}
 use Rattle.safety.proofs.LeasesBehind.{from_both}
-use Rattle.safety.proofs.Headers.{header_parts}
-use Rattle.safety.proofs.RingIds.{other_ids}
-use Rattle.safety.proofs.RingChanges.GoneAside.{Left, aside, laid}
-use Rattle.safety.proofs.RingChanges.GoneRings as going
-use Rattle.safety.proofs.RingChanges.ListedRings.{none_found}
 use Rattle.safety.proofs.RingChanges.NewRings.{found_before, found_new}
-use Rattle.trb.specs.declared.ring_kind.RingKind.{RingKind}
-use Rattle.traces.specs.Header.{command_ring, event_ring, id_or_none}
-use Rattle.world_state.specs.RingRows.{is_in_way, listed, may_come}
-use Rattle.world_state.specs.World.{RingEvent}
-use Rattle.world_state.specs.Harms.{has_other_words, is_out_of_order}
+use Rattle.safety.proofs.RingChanges.GoneRings as going
 
 -- the takes of a ring show no harm
 abbrev pub TakesAreRight : Header → ℕ → List RingEvent → Type 0
@@ -26,6 +13,7 @@ pub record Lists (l : Left) (live declared : Header) : Type 0 where
   pub size : declared.context_size ≡ live.context_size
   pub command : command_id declared ≡ command_id live
   pub events : event_shape declared ≡ event_shape live
+  pub version : declared.version ≡ live.version
   pub found : (r : ℕ) (q : Ring) → ring_with live r ≡ Some q → (ring_with declared r ≡ Some q) × (l.gone r ≡ false)
   pub each : (q : Ring) → IsIn q declared.rings → (ring_with live q.id ≡ Some q) ⊎ ((l.gone q.id ≡ true) × (q.shape.kind ≡ Xfer))
   pub rests : (r : ℕ) → l.gone r ≡ true → TakesAreRight declared r (l.events r)
@@ -58,6 +46,7 @@ all_live h is = record {
   size = refl;
   command = refl;
   events = refl;
+  version = refl;
   found = λ r q at. (at, refl);
   each = λ q at. inl (found_by_id h.rings q (header_parts h is).1 at);
   rests = λ r went. absurd (false≢true went);
@@ -133,15 +122,13 @@ module _ (l : Left) (live declared : Header) (lists : Lists l live declared) whe
     still_gone : (r : ℕ) → l.gone r ≡ true → put l.gone id true r ≡ true
     still_gone r went = elim (cases_eq r id) [ inl here ↦ ap (put l.gone id true) here ∙ put_at l.gone id true | inr other ↦ put_off l.gone id true r other ∙ went ]
 
-    xfer : (kind : RingKind) → is_transfer_kind kind ≡ true → kind ≡ Xfer
-    xfer o is = grind (arith, false≢true)
-
     pub goes_lists : Lists (left_behind l id w) (without_ring live id) declared
     unfolding without_ring
     goes_lists = record {
       size = lists.size;
       command = lists.command ∙ sym (going.command_same live is k d id good);
       events = lists.events ∙ sym (going.events_same live is k d id good);
+      version = lists.version;
       found = λ r q at.
           let other = going.not_there live is k d id good r q at in
           let before = lists.found r q (sym (going.ring_same live is k d id good r other) ∙ at) in
@@ -150,7 +137,7 @@ module _ (l : Left) (live declared : Header) (lists : Lists l live declared) whe
         | inl lives ↦ elim (cases_eq q.id id) [
           | inl here ↦
               let same : was.0 ≡ q = same_Some was.0 q (sym was.1 ∙ ap (ring_with live) (sym here) ∙ lives) in
-              inr (ap (put l.gone id true) here ∙ put_at l.gone id true, xfer q.shape.kind (ap (λ (p : Ring). is_transfer_kind p.shape.kind) (sym same) ∙ was.2))
+              inr (ap (put l.gone id true) here ∙ put_at l.gone id true, (grind (arith, false≢true)))
           | inr other ↦ inl (going.ring_same live is k d id good q.id other ∙ lives)
         ]
         | inr went ↦ inr (still_gone q.id went.0, went.1)
@@ -243,6 +230,10 @@ module _ (l : Left) (live declared : Header) (lists : Lists l live declared) whe
           | inr last ↦ elim last [ inl new ↦ inl new | inr later ↦ absurd later ]
         ]
 
+    version_so : (listed declared ring).version ≡ (with_ring live ring).version
+    unfolding listed with_ring without_ring
+    version_so = lists.version
+
     size_so : (listed declared ring).context_size ≡ (with_ring live ring).context_size
     unfolding listed with_ring without_ring
     size_so = lists.size
@@ -252,14 +243,8 @@ module _ (l : Left) (live declared : Header) (lists : Lists l live declared) whe
       size = size_so;
       command = command_so ∙ lists.command ∙ sym command_live;
       events = events_so ∙ lists.events ∙ sym events_live;
-      found = λ r q at. elim (cases_eq r ring.id) [
-        | inl here ↦
-            let same : ring ≡ q = same_Some ring q (sym here_live ∙ ap (ring_with (with_ring live ring)) (sym here) ∙ at) in
-            (ap (ring_with (listed declared ring)) here ∙ here_declared ∙ ap (λ p. Some p) same, ap (put l.gone ring.id false) here ∙ put_at l.gone ring.id false)
-        | inr other ↦
-            let before = lists.found r q (sym (elsewhere_live r other) ∙ at) in
-            (elsewhere r other ∙ before.0, put_off l.gone ring.id false r other ∙ before.1)
-      ];
+      version = version_so;
+      found = λ r q at. (grind (arith, cases_eq, same_Some, here_live, ring_with, with_ring, listed, here_declared, put_at, elsewhere_live, elsewhere, put_off));
       each = λ q at. elim (one_of q at) [
         | inl new ↦ inl (subst (λ (p : Ring). ring_with (with_ring live ring) p.id ≡ Some p) (sym new) here_live)
         | inr old ↦ elim (lists.each q old.0) [

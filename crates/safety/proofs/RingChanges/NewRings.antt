@@ -137,6 +137,7 @@ module _ (h : Header) (is : IsHeader h) (k : Known) (d : DriverKeeps h k) (r : R
     command_shape = ap (λ n. shape_of g n) command_same ∙ shape_same (command_id h) no_command;
     command_view = ap k.ring command_same;
     events = events_same;
+    version = refl;
     size = size_same;
     keeps = λ s ring. elim (cases_eq s r.id) [
       | inl here ↦ subst (λ n. RingKeeps (shape_of g n) k.memory (k.ring n)) (sym here)

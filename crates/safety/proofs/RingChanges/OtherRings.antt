@@ -1,5 +1,5 @@
 -- What a driver keeps is kept where other rings are there, so long as those that endpoints and commands speak of are as they were
-use Rattle.safety.proofs.LowerLaws.{Erstba, arith, put, cases_eq, [], ◌≡◌, ◌≢◌, ◌≤◌, ◌+◌, ◌%◌, ◌^◌, ◌<◌, ◌||◌, ◌⊎◌, ◌∷◌, ◌∙◌, ℕ, Bool, true, false, List, map, All, Option, Some, None, nat_lt, option_and_then, slice_get, refl, sym, ap, subst, inl, inr, rules, IsRestored, new_ring, device_named, is_soiled, overlap, list_any-append, drops, context_pointer, context_cycle, base_address, table_bytes, list_any, flat_map, false≢true, or_parts, or_from, cases_option, All-head, All-tail, All-cons, All-nil, RingView, is_inside, ceiling, floor_number, is_move, RingKeeps, Command, AddressDevice, ConfigureEndpoint, SetTrDequeue, command_of, is_stop_of, named_slot, named_endpoint, named_context, device_context_bytes, input_context_bytes, Header, Ring, shape_of, command_id, event_shape, event_size, touches_ring, is_ring, Known, entry_of, command_at, next_command, may_be_taken, is_stopping_now, device_ranges, range_of_device, slots, covers, lease_start, lease_bytes, is_bad_area, Binding, binds, binding_in, ring_bound, binds_ring, has_repeats, is_placed, is_bad_dequeue, is_bad_move, IsDriverRing, IsTransferRing, IsUnfinished, was_stop_seen, CommandRingNamed, StatesKeep, DeviceKeeps, Stays, StaysIf, MovesIf, CommandKeeps, DriverKeeps, adds_streams, has_bad_content, has_bad_context, is_bad_added, is_bad_command, names_disabled_endpoint, names_disabled_slot, streams_in, takes_bad_device, type_in, next_take, Block, block_at, address_of, Spot, Shape, World, RingEvent, UnderWay, RingState, state_of, RingMatches, BoundRing, FreeRing, EndpointRing, UnderWayMatches, IsUnchanged, Matches, Agrees, has_other_words, is_out_of_order, put_at, put_off}
+use Rattle.safety.proofs.LowerLaws.{Erstba, arith, put, cases_eq, [], ◌≡◌, ◌≢◌, ◌≤◌, ◌+◌, ◌%◌, ◌^◌, ◌<◌, ◌||◌, ◌⊎◌, ◌∷◌, ◌∙◌, ℕ, Bool, true, false, List, map, All, Option, Some, None, nat_lt, option_and_then, slice_get, refl, sym, ap, subst, inl, inr, rules, IsRestored, new_ring, device_named, is_soiled, overlap, list_any-append, drops, context_pointer, context_cycle, base_address, table_bytes, list_any, flat_map, false≢true, or_parts, or_from, cases_option, All-head, All-tail, All-cons, All-nil, RingView, is_inside, ceiling, floor_number, is_move, RingKeeps, Command, AddressDevice, ConfigureEndpoint, SetTrDequeue, command_of, is_stop_of, named_slot, named_endpoint, named_context, device_context_bytes, input_context_bytes, Header, Ring, shape_of, command_id, event_shape, event_size, touches_ring, is_ring, Known, entry_of, command_at, next_command, may_be_taken, is_stopping_now, device_ranges, range_of_device, slots, covers, lease_start, lease_bytes, is_bad_area, Binding, binds, binding_in, ring_bound, binds_ring, has_repeats, is_placed, is_bad_dequeue, is_bad_move, IsDriverRing, IsTransferRing, IsUnfinished, was_stop_seen, CommandRingNamed, DeviceKeeps, Stays, StaysIf, MovesIf, CommandKeeps, DriverKeeps, adds_streams, has_bad_content, has_bad_context, is_bad_added, is_bad_command, names_disabled_endpoint, names_disabled_slot, streams_in, takes_bad_device, type_in, next_take, Block, block_at, address_of, Spot, Shape, World, RingEvent, UnderWay, RingState, state_of, RingMatches, BoundRing, FreeRing, EndpointRing, UnderWayMatches, IsUnchanged, Matches, Agrees, has_other_words, is_out_of_order, put_at, put_off}
 use Rattle.world_state.specs.World.{event_at}
 
 -- where a list is mapped alike, what passes of it is the same
@@ -44,6 +44,7 @@ module _ (h : Header) (rings : List Ring) (k : Known) (views : ℕ → RingView)
     pub command_shape : shape_of g (command_id g) ≡ shape_of h (command_id h)
     pub command_view : views (command_id g) ≡ k.ring (command_id h)
     pub events : event_shape g ≡ event_shape h
+    pub version : g.version ≡ h.version
     pub size : event_size g ≡ event_size h
     -- of each ring that is there the rules are kept
     pub keeps : (r : ℕ) → IsDriverRing g r → RingKeeps (shape_of g r) k.memory (views r)
@@ -57,10 +58,6 @@ module _ (h : Header) (rings : List Ring) (k : Known) (views : ℕ → RingView)
 
   module _ (d : DriverKeeps h k) (o : OtherRings) where
     -- ---- the command ring and endpoints
-
-    states_keep : StatesKeep g l
-    unfolding is_stopping_now may_be_taken next_command command_at
-    states_keep = search (rules, d.states, o.had, nat_lt, floor_number, ceiling, is_stop_of, option_and_then, command_of, slice_get)
 
     named : (v : ℕ) → CommandRingNamed h v → CommandRingNamed g v
     named v old = search (rules, g)
@@ -112,12 +109,8 @@ module _ (h : Header) (rings : List Ring) (k : Known) (views : ℕ → RingView)
     content_good (ConfigureEndpoint s false n) device good = good
     content_good _ device good = refl
 
-    endpoint_same : (n : Option (ℕ × ℕ)) → names_disabled_endpoint l n ≡ names_disabled_endpoint k n
-    unfolding names_disabled_endpoint
-    endpoint_same o = grind arith
-
     good_still : (p : ℕ) (c : Command) → IsUnfinished h k p c → CommandKeeps h k p c → is_bad_command g l c ≡ false
-    unfolding is_bad_command names_disabled_slot
+    unfolding is_bad_command names_disabled_slot names_disabled_endpoint
     good_still p c u keeps =
         let content = or_parts _ (has_bad_content h k c) keeps.good in
         let context = or_parts _ (has_bad_context h k (named_context c)) content.0 in
@@ -125,7 +118,7 @@ module _ (h : Header) (rings : List Ring) (k : Known) (views : ℕ → RingView)
         or_from _ (has_bad_content g l c)
         (or_from _ (has_bad_context g l (named_context c))
         (or_from (names_disabled_slot l (named_slot c)) (names_disabled_endpoint l (named_endpoint c))
-        ((grind arith) ∙ names.0) (endpoint_same (named_endpoint c) ∙ names.1))
+        ((grind arith) ∙ names.0) ((grind arith) ∙ names.1))
         (context_good (named_context c) (λ a at. o.contexts p a c u at) context.1))
         (content_good c keeps.device content.1)
 
@@ -206,12 +199,13 @@ module _ (h : Header) (rings : List Ring) (k : Known) (views : ℕ → RingView)
         }
 
     pub other_rings_keep : DriverKeeps g l
+    unfolding is_stopping_now may_be_taken next_command command_at
     other_rings_keep = record {
       rings = o.keeps;
       commands_stay = subst IsRestored (sym o.command_view) d.commands_stay;
       clean = o.clean;
       command_ring = search (rules, g, l, slice_get);
-      states = states_keep;
+      states = (search (rules, d.states, o.had, nat_lt, floor_number, ceiling, is_stop_of, option_and_then, command_of, slice_get));
       numbered = d.numbered;
       unstarted = λ before. search (rules, g, l);
       crcr = λ v at. named v (d.crcr v at);
@@ -271,6 +265,7 @@ module _ (h : Header) (rings : List Ring) (k : Known) (views : ℕ → RingView)
         slots = m.slots;
         endpoints = m.endpoints;
         ring_of = m.ring_of;
+        isochronous = m.isochronous;
         rings = λ r other. let apart : r ≢ command_id h = λ same. other (same ∙ sym o.command) in ring_still r apart (m.rings r apart);
         before = λ off. let b = m.before off in record {
           inactive = ap w.is_active o.command ∙ b.inactive;

@@ -211,15 +211,7 @@ module _ (h : Header) (r : ℕ) (change : RingChange) (quiet : IsQuiet change) (
 pub restored_agrees : (h : Header) (r : ℕ) → r ≢ command_id h → (k : Known) (unread : List Block) (w : World) → Agrees h k unread w → Agrees h (on_ring h k r Restores) unread w
 unfolding on_ring
 restored_agrees h r other k unread w g = record {
-  stands = record {
-    started = g.stands.started;
-    stopped = g.stands.stopped;
-    registers = g.stands.registers;
-    queues = λ q. g.stands.queues q ∙ view_after h (λ x. (k.ring q).queue ≡ x.queue) k r Restores q (λ at. ap (λ n. (k.ring n).queue) at) (λ away. refl);
-    lengths = λ q. g.stands.lengths q ∙ view_after h (λ x. (k.ring q).lengths ≡ x.lengths) k r Restores q (λ at. ap (λ n. (k.ring n).lengths) at) (λ away. refl);
-    dequeue = g.stands.dequeue;
-    quiet = g.stands.quiet;
-  };
+  stands = (search (rules, view_after));
   events = g.events;
   matches = quiet_matches h r Restores tt other k unread w w (same_controller w) g (λ at f as_it_was. as_it_was);
   read = g.read;

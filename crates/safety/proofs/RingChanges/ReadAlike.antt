@@ -1,5 +1,5 @@
 -- What is read is possible, and learned, as it was where other rings are there
-use Rattle.safety.proofs.MiddleLaws.{[], ◌≡◌, ◌+◌, ◌==◌, ◌&&◌, ◌||◌, if◌then◌else◌, ◌∷◌, ◌∙◌, ℕ, not, Bool, true, false, List, map, All, Option, Some, None, nat_lt, option_and_then, slice_get, refl, sym, ap, subst, rules, or_parts, false≢true, cond-true, All-head, All-tail, Block, BlockKind, TransferEvent, CommandCompletion, kind, code, slot, endpoint, pointer, is_success, is_halting, is_trb_error, is_command_completion, Spot, after, floor_number, address_of, RingView, Reaches, ceiling, is_data_below, is_open, is_stop_spot, Command, NoOp, DisableSlot, AddressDevice, ConfigureEndpoint, EvaluateContext, SetTrDequeue, ResetDevice, command_of, is_stop_of, is_off, is_running, may_answer_slot, can_succeed, register_or_zero, placed_by_context, changes, added_endpoints, Header, Read, IsHeader, Ring, shape_of, command_id, Known, RingSpot, on_ring, event_at, command_at, next_command, succeeded, stop_ended, finished, completed, event_read, learned, Binding, binding_in, binds, can_finish, may_be_taken, is_stopping_now, is_working, can_report, can_report_at, is_in_profile, is_impossible_transfer, is_impossible_completion, is_impossible_by_kind, is_past_room, is_impossible, event_tests, lenient_tests, lenient, changed_by, is_bad_command, names_disabled_endpoint, IsUnfinished, DriverKeeps, arith, EventFacts, event_facts, transfer_slots, stop_seen_same, ChangesAlike, HasKept, HavesAlike, changes_alike, event_at_alike, event_kept, on_alike, other, transfer_alike, KeepsRings}
+use Rattle.safety.proofs.MiddleLaws.{told_over, is_code_of_profile, code_told, is_stopping, [], ◌≡◌, ◌+◌, ◌==◌, ◌&&◌, ◌||◌, if◌then◌else◌, ◌∷◌, ◌∙◌, ℕ, not, Bool, true, false, List, map, All, Option, Some, None, nat_lt, option_and_then, slice_get, refl, sym, ap, subst, rules, or_parts, false≢true, cond-true, All-head, All-tail, Block, BlockKind, TransferEvent, CommandCompletion, kind, code, slot, endpoint, pointer, is_success, is_halting, is_trb_error, is_command_completion, Spot, after, floor_number, address_of, RingView, Reaches, ceiling, is_data_below, is_open, is_stop_spot, Command, NoOp, DisableSlot, AddressDevice, ConfigureEndpoint, EvaluateContext, SetTrDequeue, ResetDevice, command_of, is_stop_of, is_off, is_running, may_answer_slot, can_succeed, register_or_zero, placed_by_context, changes, added_endpoints, Header, Read, IsHeader, Ring, shape_of, command_id, Known, RingSpot, on_ring, event_at, command_at, next_command, succeeded, stop_ended, finished, completed, event_read, learned, Binding, binding_in, binds, can_finish, may_be_taken, is_stopping_now, is_working, can_report, can_report_at, is_in_profile, is_impossible_transfer, is_impossible_completion, is_impossible_by_kind, is_past_room, is_impossible, event_tests, lenient_tests, lenient, changed_by, is_bad_command, names_disabled_endpoint, IsUnfinished, DriverKeeps, arith, EventFacts, event_facts, transfer_slots, stop_seen_same, ChangesAlike, HasKept, HavesAlike, changes_alike, event_at_alike, event_kept, on_alike, other, transfer_alike, KeepsRings}
 use Rattle.safety.proofs.KeptRings.{completion_facts, next_unfinished}
 
 module _ (h : Header) (rings : List Ring) (over : (ℕ → RingView) → ℕ → RingView) (Kept : ℕ → Type 0) (o : KeepsRings h rings over Kept) where
@@ -50,17 +50,23 @@ module _ (h : Header) (rings : List Ring) (over : (ℕ → RingView) → ℕ →
   report_alike k c s i r t kept = λ j.
       if is_success c then is_data_below (ceiling (o.shape r kept j) (o.view k.ring r kept j)) t
       else if is_halting c || is_trb_error c then is_data_below (ceiling (o.shape r kept j) (o.view k.ring r kept j)) t && (is_running (k.endpoint_state s i) && is_open (o.view k.ring r kept j))
-      else (is_running (k.endpoint_state s i) && is_open (o.view k.ring r kept j)) && stopping_alike k s i j && is_stop_spot (o.shape r kept j) (o.view k.ring r kept j) t
+      else is_stopping c && ((is_running (k.endpoint_state s i) && is_open (o.view k.ring r kept j)) && stopping_alike k s i j && is_stop_spot (o.shape r kept j) (o.view k.ring r kept j) t)
 
   report_at_alike : (k : Known) (b : Block) (q : Option RingSpot) → ((at : RingSpot) → q ≡ Some at → Kept at.ring) → can_report_at g (l k) b q ≡ can_report_at h k b q
   unfolding can_report_at
-  report_at_alike k b o kept = grind (arith, report_alike, code, slot, endpoint)
+  report_at_alike k b None kept = refl
+  report_at_alike k b (Some at) kept =
+      ap (λ c. can_report g (l k) c (slot b) (endpoint b) at.ring at.spot) (told_over h rings over Kept o k b) ∙ report_alike k (code_told h k b) (slot b) (endpoint b) at.ring at.spot (kept at refl)
+
+  profile_over : (k : Known) (b : Block) → is_in_profile g (l k) b ≡ is_in_profile h k b
+  unfolding is_in_profile is_code_of_profile
+  profile_over k b = rw o.version
 
   transfer_possible : (k : Known) (b : Block) → Has k → is_impossible_transfer g (l k) b ≡ is_impossible_transfer h k b
   unfolding is_impossible_transfer
   transfer_possible k b kept =
       let same = ap (can_report_at g (l k) b) (event_at_alike h rings over Kept o k b kept) ∙ report_at_alike k b (event_at h k b) (λ at is. event_kept h rings over Kept o k b at kept is) in
-      λ j. is_in_profile b && (is_off (k.endpoint_state (slot b) (endpoint b)) || not (same j))
+      λ j. profile_over k b j && (is_off (k.endpoint_state (slot b) (endpoint b)) || not (same j))
 
   completion_possible : (k : Known) (b : Block) → is_impossible_completion g (l k) b ≡ is_impossible_completion h k b
   unfolding is_impossible_completion can_finish
@@ -68,7 +74,7 @@ module _ (h : Header) (rings : List Ring) (over : (ℕ → RingView) → ℕ →
 
   pub read_possible : (k : Known) (b : Block) → Has k → lenient g (l k) (Read b) ≡ lenient h k (Read b)
   unfolding lenient lenient_tests event_tests is_impossible is_past_room is_impossible_by_kind
-  read_possible k b kept = search (rules, g, l, nat_lt, transfer_possible, completion_possible)
+  read_possible k b kept = search (rules, g, l, nat_lt, profile_over, transfer_possible, completion_possible)
 
   -- ---- what is learned
 
@@ -98,7 +104,7 @@ module _ (h : Header) (rings : List Ring) (over : (ℕ → RingView) → ℕ →
         tt,
       ),
     )
-    success_alike n p (ConfigureEndpoint s false m) u = (tt, (tt, places_alike (ConfigureEndpoint s false m) s m (added_endpoints k.memory m) _ (bound p (ConfigureEndpoint s false m) u)))
+    success_alike n p (ConfigureEndpoint s false m) u = (tt, (tt, (tt, places_alike (ConfigureEndpoint s false m) s m (added_endpoints k.memory m) _ (bound p (ConfigureEndpoint s false m) u))))
     success_alike n p (ConfigureEndpoint s true m) u = (tt, (tt, tt))
     success_alike n p (EvaluateContext s m) u = tt
     success_alike n p (SetTrDequeue s i a bit) u =

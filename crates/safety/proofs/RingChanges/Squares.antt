@@ -110,6 +110,7 @@ module _ (h : Header) (is : IsHeader h) (k : Known) (d : DriverKeeps h k) (id : 
     command = gone.command_same h is k d id good;
     command_kept = gone.no_command h is k d id good;
     events = gone.events_same h is k d id good;
+    version = refl;
     size = gone.size_same h is k d id good;
   }
 

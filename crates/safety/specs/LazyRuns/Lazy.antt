@@ -22,7 +22,7 @@ use Rattle.traces.specs.declared.step.Step.TheVariants.{NextRow, Look, Report, F
 use Rattle.traces.specs.Header.{shape_of, command_id}
 use Rattle.ring_knowledge.specs.Known.{Known}
 use Rattle.ring_knowledge.specs.Learned.{learned}
-use Rattle.ring_knowledge.specs.Rings.{RingSpot, event_at, command_at, next_command}
+use Rattle.ring_knowledge.specs.Rings.{RingSpot, code_told, event_at, command_at, next_command}
 use Rattle.ring_knowledge.specs.Histories.{header_now, known_now, restored}
 use Rattle.safety.specs.LazyRuns.Needs.{need, is_placed}
 
@@ -56,7 +56,7 @@ module _ (h : Header) where
   unfoldable pub report_goals : Known → List Row → Block → Option RingSpot → List RingSpot
   report_goals k later b None = []
   report_goals k later b (Some at) =
-      if is_stopping (code b) then command_taken k ∷ stop_goal at (need h (learned h k (Read b)) at.ring later) ∷ []
+      if is_stopping (code_told h k b) then command_taken k ∷ stop_goal at (need h (learned h k (Read b)) at.ring later) ∷ []
       else taken_up_to at.ring (number at.spot + 1) ∷ []
 
   -- an open ring that is stopped now: what is reported later has to be taken

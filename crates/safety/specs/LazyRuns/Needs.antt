@@ -49,7 +49,7 @@ module _ (h : Header) where
 
   -- the number behind the block whose success the row reports, where it is one of ring r
   unfoldable pub number_reported : Known → ℕ → Row → ℕ
-  number_reported k r (Read b) = if is_report_of_success b then number_behind r (event_at h k b) else 0
+  number_reported k r (Read b) = if is_report_of_success h k b then number_behind r (event_at h k b) else 0
   number_reported k r _ = 0
 
   -- ring r begins anew, or goes

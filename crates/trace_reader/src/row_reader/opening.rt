@@ -16,8 +16,8 @@ use std::alloc::Global;
 
 impl RowReader {
     /// Reads the lines before the first row: what they say, or the first bad line, and the text that is left are those of the definition. A
-    /// trace of version 3 may have more lines than another, unless the caller keeps all its rows. A failure of the device is told, and nothing
-    /// else is told as one.
+    /// trace from version 3 on may have more lines than another, unless the caller keeps all its rows. A failure of the device is told, and
+    /// nothing else is told as one.
     pub fn open<S: Source>(
         alloc: Global,
         keeps: bool,

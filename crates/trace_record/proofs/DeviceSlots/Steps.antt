@@ -55,6 +55,12 @@ module _ (k : Known) (old new : DeviceRecord) (f : FollowsDevices k old) where
       FollowsDevices (record k { stop_seen = put_pair k.stop_seen s i seen }) new
   follows_stop_seen s i x seen w is = search (rules, states_same, devices_same, endpoint_kept, endpoint_put, bound_same)
 
+  -- its type
+  pub follows_type : (s i : ℕ) (x : Endpoint) (isochronous : Bool) → IsWithEndpoint old new s i x →
+      x ≡ record (endpoint_at old.endpoints.items s i) { isochronous = isochronous } →
+      FollowsDevices (record k { isochronous = put_pair k.isochronous s i isochronous }) new
+  follows_type s i x isochronous w is = search (rules, states_same, devices_same, endpoint_kept, endpoint_put, bound_same)
+
   -- nothing of it
   pub follows_still : (s i : ℕ) (x : Endpoint) → IsWithEndpoint old new s i x → x ≡ endpoint_at old.endpoints.items s i → FollowsDevices k new
   follows_still s i x w is = search (rules, states_same, devices_same, endpoint_kept, bound_same)

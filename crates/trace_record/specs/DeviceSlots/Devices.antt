@@ -14,7 +14,7 @@ abbrev pub fresh_slot : Slot
 fresh_slot = record { state = Disabled; device = None }
 
 abbrev pub fresh_endpoint : Endpoint
-fresh_endpoint = record { state = Off; ring = None; must_move = false; stop_seen = false }
+fresh_endpoint = record { state = Off; ring = None; must_move = false; stop_seen = false; isochronous = false }
 
 -- what is kept of a slot
 abbrev pub slot_at : List Slot → ℕ → Slot
@@ -33,6 +33,7 @@ pub record FollowsDevices (k : Known) (d : DeviceRecord) : Type 0 where
   pub ring_of : (s i : ℕ) → k.ring_of s i ≡ (endpoint_at d.endpoints.items s i).ring
   pub must_move : (s i : ℕ) → k.must_move s i ≡ (endpoint_at d.endpoints.items s i).must_move
   pub stop_seen : (s i : ℕ) → k.stop_seen s i ≡ (endpoint_at d.endpoints.items s i).stop_seen
+  pub isochronous : (s i : ℕ) → k.isochronous s i ≡ (endpoint_at d.endpoints.items s i).isochronous
   pub was_bound : (r : ℕ) → k.was_bound r ≡ slice_index_or d.bound.items r false
 
 -- one slot is kept as x, and all else as before

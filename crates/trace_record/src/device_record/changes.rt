@@ -1,4 +1,4 @@
-ghost use Rattle.std.specs.Prelude.{◌≡◌, ℕ, ◌<◌, Bool, Option, Some, true, unwrap_or};
+ghost use Rattle.std.specs.Prelude.{◌≡◌, ℕ, ◌<◌, ◌==◌, Bool, Option, Some, true, unwrap_or};
 ghost use Rattle.commands.specs.declared.command.Command.{Command as CommandValue};
 ghost use Rattle.commands.specs.declared.command.Command.TheVariants.{StopEndpoint};
 ghost use Rattle.commands.specs.States.{is_off, slot_success};
@@ -6,7 +6,7 @@ ghost use Rattle.commands.specs.Changes.{SlotGoesOn, DeviceLeft, Places, Stops, 
 ghost use Rattle.traces.specs.declared.header.Header.{Header};
 ghost use Rattle.traces.specs.Header.{ring_having};
 ghost use Rattle.ring_knowledge.specs.Known.{Known};
-ghost use Rattle.ring_knowledge.specs.Completions.{changed_by, in_state, stop_ended};
+ghost use Rattle.ring_knowledge.specs.Completions.{changed_by, in_state, stop_ended, typed};
 ghost use Rattle.ring_knowledge.specs.Writes.{with_device};
 ghost use Rattle.trace_record.specs.DeviceSlots.Endpoints.{placed_endpoint, ring_got};
 
@@ -70,6 +70,22 @@ impl DeviceRecord {
         let gets = ring_got(kept.state, ring);
         self.note_bound(gets);
         self.set_endpoint(slot, index, placed_endpoint(kept, gets, state));
+    }
+
+    /// An endpoint that a context adds has the type that the context says (xHCI 4.6.6, 6.2.3).
+    pub fn note_type(&mut self, slot: u8, index: u8, isochronous: bool)
+        requires { index < 32 }
+        ensures { (h : Header) (k : Known) → FollowsDevices k self.old → FollowsDevices (typed h k slot (λ i. i == index) (λ i. isochronous)) self.new }
+    {
+        let kept = self.endpoint(slot, index);
+        self.set_endpoint(
+            slot,
+            index,
+            Endpoint {
+                isochronous,
+                ..kept
+            },
+        );
     }
 
     /// An endpoint is Stopped by a command (xHCI 4.6.9).
@@ -138,6 +154,6 @@ fn placed_endpoint(kept: Endpoint, gets: Option<u8>, state: EndpointState) -> En
         state,
         ring: gets.or(kept.ring),
         must_move: false,
-        stop_seen: kept.stop_seen,
+        ..kept
     }
 }

@@ -24,6 +24,8 @@ pub struct Endpoint {
     pub(crate) ring: Option<u8>,
     pub(crate) must_move: bool,
     pub(crate) stop_seen: bool,
+    /// The context that added it last says so (xHCI 6.2.3).
+    pub(crate) isochronous: bool,
 }
 
 /// What one pass over a trace keeps of slots and endpoints: their states (xHCI 4.5.3, 4.8.3), the ring of each endpoint, the
@@ -109,13 +111,14 @@ impl DeviceRecord {
 
 /// An endpoint before the first row.
 pub(crate) fn untouched() -> Endpoint
-    ensures { result ≡ record { state = Off; ring = None; must_move = false; stop_seen = false } }
+    ensures { result ≡ record { state = Off; ring = None; must_move = false; stop_seen = false; isochronous = false } }
 {
     Endpoint {
         state: EndpointState::Disabled,
         ring: None,
         must_move: false,
         stop_seen: false,
+        isochronous: false,
     }
 }
 

@@ -1,9 +1,12 @@
 ghost use Rattle.std.specs.Prelude.{◌≡◌, ◌≢◌, ◌<◌, ℕ, Some, true, false, IfNone, IfSome};
 ghost use Rattle.ring_knowledge.specs.Known.{Known};
+ghost use Rattle.ring_knowledge.specs.Rings.{code_told};
 ghost use Rattle.trace_record.specs.DeviceSlots.Holders.{HasEndpoint, HasOneHolder};
 
 use crate::device_record::kept::DeviceRecord;
 use commands::{EndpointState, SlotState};
+use traces::Header;
+use trb::{Block, counted_code};
 
 impl DeviceRecord {
     ghost use Rattle.trace_record.specs.DeviceSlots.Devices.{FollowsDevices};
@@ -48,6 +51,23 @@ impl DeviceRecord {
         ensures { (k : Known) → FollowsDevices k self.now → result ≡ k.stop_seen slot index }
     {
         self.endpoint(slot, index).stop_seen
+    }
+
+    /// Whether an endpoint is isochronous, by the context that added it last (xHCI 6.2.3).
+    pub fn is_isochronous(&self, slot: u8, index: u8) -> bool
+        ensures { (k : Known) → FollowsDevices k self.now → result ≡ k.isochronous slot index }
+    {
+        self.endpoint(slot, index).isochronous
+    }
+
+    /// How the code of a Transfer Event counts: by its endpoint, where the trace's version has isochronous transfers (xHCI 4.10.2).
+    #[inline(always)]
+    pub fn code_told(&self, header: &Header, event: Block) -> u8
+        ensures { (k : Known) → FollowsDevices k self.now → result ≡ code_told header.now k event }
+    {
+        let (slot, index) = (event.slot(), event.endpoint());
+        let is_isochronous = header.version.has_isoch() && self.is_isochronous(slot, index);
+        counted_code(is_isochronous, event.code())
     }
 
     /// Whether an endpoint was bound to a ring.

@@ -1,7 +1,4 @@
-use Rattle.std.specs.Prelude.{List}
-use Rattle.traces.specs.declared.header.Header.{Header}
-use Rattle.traces.specs.declared.row.Row.{Row}
-use Rattle.bench.specs.Benches.{IsBenchOf, IsJudging}
+use Rattle.bench.proofs.Words.{List, Header, Row, IsBenchOf, IsJudging}
 use Rattle.bench.proofs.going.go_on.Given as goal
 
 -- the bench stands for the same rows, and judges the next where it did

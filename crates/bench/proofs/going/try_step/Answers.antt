@@ -1,5 +1,4 @@
-use Rattle.std.proofs.Common.{◌++◌, ◌∷◌, Err, ap}
-use Rattle.bench.specs.Benches.{words_told}
+use Rattle.bench.proofs.Words.{◌++◌, ◌∷◌, Err, ap, words_told}
 use Rattle.bench.proofs.going.try_step.Goals as goal
 
 pub returns-in-Ok-clause-rows : goal.returns-in-Ok-clause-rows

@@ -1,5 +1,4 @@
-use Rattle.std.proofs.Common.{All}
-use Rattle.std.specs.Prelude.{drop}
+use Rattle.bench.proofs.Words.{All, drop}
 use Rattle.traces.specs.Rows.{IsStep}
 use Rattle.bench.proofs.stepped.are_steps.Given as goal
 

@@ -1,4 +1,4 @@
-use Rattle.bench_runs.specs.Runs.{IsCourse}
+use Rattle.bench_runs.proofs.Words.{IsCourse}
 use Rattle.bench_runs.proofs.run.hear_rest.Given as goal
 
 -- what was noted is true of the run so far

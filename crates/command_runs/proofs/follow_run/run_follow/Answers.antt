@@ -1,4 +1,4 @@
-use Rattle.command_runs.proofs.Laws.{IsFollowAnswer, failure, opened, opened_holds, told_right}
+use Rattle.command_runs.proofs.Words.{IsFollowAnswer, failure, opened, opened_holds, told_right}
 use Rattle.command_runs.proofs.follow_run.run_follow.Goals as goal
 
 pub returns-in-Ok-clause-told : goal.returns-in-Ok-clause-told

@@ -15,5 +15,5 @@ returns-clause-change c = λ h words w same has free f.
     (bound_here w c.args.slot c.args.index c.args.ring c.args.pointer c.args.cycle c.args.state) (λ old.
     let harms = λ (there : IsSome (ring_with h c.args.ring)). rw same at (c.in_ok-place.ensures.harms (w.events c.args.ring) (rw (← same) at (old.harms there))) in
     assumption (harms, rw (← c.holder_of-bound.ensures) at taken, rw same at (c.in_ok-place.ensures.keeps (w.events c.args.ring) (w.reported c.args.ring) (rw (← same) at old.history)))))
-    (λ rings. with_endpoints (endpoints_set c.args.kept.now.endpoints.items w.endpoint_state w.ring_of (c.from-2.result * 32 + c.from-3.result) c.args.slot c.args.index _ place c.requires.index
-    is_ours f.endpoints) (assumption))
+    (λ rings. with_endpoints (endpoints_set c.args.kept.now.endpoints.items w.endpoint_state w.ring_of w.isochronous (c.from-2.result * 32 + c.from-3.result) c.args.slot c.args.index place
+    c.requires.index f.endpoints (omega (arith, c.ranges.slot)) c.args.kept.now.endpoints_many c.index_mut-endpoint.result.now _ c.index_mut-endpoint.ensures.value refl is_ours) (assumption))

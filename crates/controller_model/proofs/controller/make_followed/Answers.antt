@@ -1,5 +1,4 @@
-use Rattle.controller_model.proofs.Laws.{FollowsScene, step_made, IsFollowed, shows, step_more, subst, sym}
-use Rattle.controller_model.proofs.Words.{BringsNone}
+use Rattle.controller_model.proofs.Laws.{FollowsScene, step_made, IsFollowed, shows, step_more, subst, sym, BringsNone}
 use Rattle.controller_model.proofs.controller.make_followed.Goals as goal
 
 pub returns-clause-step : goal.returns-clause-step

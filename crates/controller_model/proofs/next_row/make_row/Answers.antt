@@ -1,5 +1,4 @@
-use Rattle.controller_model.proofs.Words.{sym, refl, event_read, row_done, Follows, FollowsScene, RowSeen, with_world}
-use Rattle.controller_model.proofs.NextRowLemmas.{follows_made, step_mapped}
+use Rattle.controller_model.proofs.Laws.{sym, refl, event_read, row_done, Follows, FollowsScene, RowSeen, with_world, follows_made, step_mapped}
 use Rattle.controller_model.proofs.next_row.make_row.Goals as goal
 
 pub returns-in_ok-declare-in-Sub-clause-step : goal.returns-in_ok-declare-in-Sub-clause-step

@@ -1,5 +1,4 @@
-use Rattle.controller_model.proofs.Laws.{option_copied, FollowsScene, row_made, ◌≡◌, ◌∙◌, ap, sym, drop, err_from_is_err_and, RowSeen, counted, Ok, first_left, row_next_is, step_failed, step_mapped}
-use Rattle.controller_model.proofs.Words.{with_left}
+use Rattle.controller_model.proofs.Laws.{option_copied, FollowsScene, row_made, ◌≡◌, ◌∙◌, ap, sym, drop, err_from_is_err_and, RowSeen, counted, Ok, first_left, row_next_is, step_failed, step_mapped, with_left}
 use Rattle.controller_model.proofs.next_row.next_row.Goals as goal
 
 pub returns-in_err-seen-clause-step : goal.returns-in_err-seen-clause-step

@@ -25,7 +25,7 @@ returns c = λ h words nothing. record {
   endpoints = record {
     each = λ s i x low at.
         let e = replicate_at (256 * 32) (s * 32 + i) _ x (rw c.in_ok-endpoints.ensures at at) in
-        (ap (λ y. y.state) e, ap (λ y. y.ring) e);
+        (ap (λ y. y.state) e, ap (λ y. y.ring) e, ap (λ y. y.is_isochronous) e);
     no_more = λ s i far. refl;
     low = λ s i r e. absurd (cc);
   };

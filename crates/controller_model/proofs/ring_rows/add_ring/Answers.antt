@@ -1,5 +1,4 @@
-use Rattle.controller_model.proofs.Words.{◌≡◌, ◌≢◌, ◌∙◌, ℕ, true, false, ap, sym, Header, ring_with, listed, may_come, with_coming, cond-true, cond-false}
-use Rattle.controller_model.proofs.RingRowLemmas.{listed_alike, listed_lists}
+use Rattle.controller_model.proofs.Laws.{◌≡◌, ◌≢◌, ◌∙◌, ℕ, true, false, ap, sym, Header, ring_with, listed, may_come, with_coming, cond-true, cond-false, listed_alike, listed_lists}
 use Rattle.controller_model.proofs.ring_rows.add_ring.Goals as goal
 
 pub returns-then-not-may_come : goal.returns-then-not-may_come

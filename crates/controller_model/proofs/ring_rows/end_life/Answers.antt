@@ -1,5 +1,4 @@
-use Rattle.controller_model.proofs.Words.{◌∙◌, ap, sym, Header, ring_with, without_ring}
-use Rattle.controller_model.proofs.RingRowLemmas.{without_lists}
+use Rattle.controller_model.proofs.Laws.{◌∙◌, ap, sym, Header, ring_with, without_ring, without_lists}
 use Rattle.controller_model.proofs.ring_rows.end_life.Goals as goal
 
 pub returns : goal.returns

@@ -1,5 +1,4 @@
-use Rattle.controller_model.proofs.Laws.{◌∙◌, sym, harms_kept}
-use Rattle.controller_model.proofs.RingHarmLemmas.{second_false}
+use Rattle.controller_model.proofs.Laws.{◌∙◌, sym, harms_kept, second_false}
 use Rattle.controller_model.proofs.safety.harms_after_others.Goals as goal
 
 pub returns : goal.returns

@@ -1,5 +1,5 @@
-use Rattle.controller_model.proofs.Laws.{◌≡◌, ◌<◌, true, inl, inr, refl, subst, cases_lt, same_Some, Ring, ◌∙◌, ◌&&◌, Some, ap, get_or, length, slice_get, sym, arith, list_any, shape_of, some_ring, has_other_words, is_inside_descriptor, is_out_of_order, waits, read_at, any_more, listed, take_past}
-use Rattle.controller_model.proofs.Words.{may_be_inside, slice_get_within}
+use Rattle.controller_model.proofs.Laws.{◌≡◌, ◌<◌, true, inl, inr, refl, subst, cases_lt, same_Some, Ring, ◌∙◌, ◌&&◌, Some, ap, get_or, length, slice_get, sym, arith, list_any, shape_of, some_ring, has_other_words, is_inside_descriptor, is_out_of_order, waits, read_at, any_more, take_past, may_be_inside, slice_get_within}
+use Rattle.controller_model.proofs.SafetyLemmas.{listed}
 use Rattle.controller_model.proofs.safety.ring_harms.Goals as goal
 
 pub loop-ring-preserved : goal.loop-ring-preserved

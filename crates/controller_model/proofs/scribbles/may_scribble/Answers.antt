@@ -1,4 +1,4 @@
-use Rattle.controller_model.proofs.Laws.{◌≡◌, ◌∙◌, sym, arith, inl, inr, is_scribbled, cases_lt, any_in_range, none_in_range}
+use Rattle.controller_model.proofs.Words.{◌≡◌, ◌∙◌, sym, arith, inl, inr, is_scribbled, cases_lt, any_in_range, none_in_range}
 use Rattle.controller_model.proofs.scribbles.may_scribble.Goals as goal
 
 pub returns-then-is_scribbled : goal.returns-then-is_scribbled

@@ -1,5 +1,4 @@
-use Rattle.controller_model.proofs.Laws.{FollowsScene, step_made, ◌∙◌, ap, option_map, Header, shows, stepped, Follows, step_made_is, step_mapped}
-use Rattle.controller_model.proofs.Words.{with_world}
+use Rattle.controller_model.proofs.Laws.{FollowsScene, step_made, ◌∙◌, ap, option_map, Header, shows, stepped, Follows, step_made_is, step_mapped, with_world}
 use Rattle.controller_model.proofs.steps.make_step.Goals as goal
 
 pub returns-in-NextRow-clause-step : goal.returns-in-NextRow-clause-step

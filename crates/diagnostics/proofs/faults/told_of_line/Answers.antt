@@ -1,6 +1,5 @@
-use Rattle.std.specs.Prelude.{string_bytes}
+use Rattle.diagnostics.proofs.Words.{string_bytes, Fault}
 use Rattle.diagnostics.proofs.Told.{told_of}
-use Rattle.diagnostics.specs.declared.diagnostic.Matter.TheVariants.{Fault}
 use Rattle.diagnostics.proofs.faults.told_of_line.Goals as goal
 
 pub returns : goal.returns

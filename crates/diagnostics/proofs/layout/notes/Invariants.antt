@@ -1,7 +1,4 @@
-use Rattle.std.proofs.Common.{◌≡◌, take}
-use Rattle.std.specs.Prelude.{string_bytes}
-use Rattle.std.specs.List.{flat_map}
-use Rattle.diagnostics.specs.Layout.{note_text}
+use Rattle.diagnostics.proofs.Words.{◌≡◌, take, string_bytes, flat_map, note_text}
 use Rattle.diagnostics.proofs.layout.notes.Given as goal
 
 abbrev pub invariant-loop-note : goal.invariant-loop-note

@@ -1,6 +1,4 @@
-use Rattle.std.specs.Prelude.{string_bytes}
-use Rattle.diagnostics.proofs.Told.{told_of}
-use Rattle.diagnostics.specs.declared.diagnostic.Matter.TheVariants.{Rule}
+use Rattle.explanations.proofs.Words.{string_bytes, told_of, Rule}
 use Rattle.explanations.proofs.explain.explain_refused.Goals as goal
 
 pub returns : goal.returns

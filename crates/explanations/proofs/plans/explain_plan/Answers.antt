@@ -1,5 +1,4 @@
-use Rattle.std.specs.Prelude.{string_bytes}
-use Rattle.diagnostics.proofs.Told.{told_of}
+use Rattle.explanations.proofs.Words.{string_bytes, told_of}
 use Rattle.explanations.proofs.plans.explain_plan.Goals as goal
 
 pub returns : goal.returns

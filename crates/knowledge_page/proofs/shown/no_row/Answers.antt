@@ -1,6 +1,4 @@
-use Rattle.knowledge_page.proofs.BaseWords.{◌≡◌, Some, ap, arith, length, text_of, trace_verdict, IsRange}
-use Rattle.knowledge_page.proofs.RowsFit.{rows_fit}
-use Rattle.knowledge_page.proofs.Verdicts.{range_of_all, range_to}
+use Rattle.knowledge_page.proofs.Laws.{◌≡◌, Some, ap, arith, length, text_of, trace_verdict, IsRange, rows_fit, range_of_all, range_to}
 use Rattle.knowledge_page.proofs.shown.no_row.Goals.{in-Ok, in-Err-Refused, in-Err-Memory}
 use Rattle.knowledge_page.proofs.shown.no_row.Goals as goal
 

@@ -1,6 +1,4 @@
-use Rattle.knowledge_page.proofs.BaseWords.{◌≡◌, Some, err_from_is_err_and, text_of, trace_verdict}
-use Rattle.knowledge_page.proofs.RowsFit.{rows_fit}
-use Rattle.knowledge_page.proofs.Verdicts.{is_there}
+use Rattle.knowledge_page.proofs.Laws.{◌≡◌, Some, err_from_is_err_and, text_of, trace_verdict, rows_fit, is_there}
 use Rattle.knowledge_page.proofs.shown.shown_before.Goals as goal
 
 pub standing_behind-requires-clause-fitting : goal.standing_behind-requires-clause-fitting

@@ -1,6 +1,4 @@
-use Rattle.knowledge_page.proofs.BaseWords.{◌≡◌, ◌-◌, Some, ap, inl, inr, arith, length, text_of, trace_verdict}
-use Rattle.knowledge_page.proofs.RowsFit.{first_fit}
-use Rattle.knowledge_page.proofs.Verdicts.{behind_broken, not_there}
+use Rattle.knowledge_page.proofs.Laws.{◌≡◌, ◌-◌, Some, ap, inl, inr, arith, length, text_of, trace_verdict, first_fit, behind_broken, not_there}
 use Rattle.knowledge_page.proofs.shown.standing_before.Goals.{then-row-trace-via-then-row-trace, then-row-trace-via-else-row-trace+then-row-trace-2}
 use Rattle.knowledge_page.proofs.shown.standing_before.Goals as goal
 

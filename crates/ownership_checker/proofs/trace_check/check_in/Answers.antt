@@ -1,6 +1,4 @@
-use Rattle.ownership_checker.proofs.Laws.{[], All-weaker, IsTraceRow, HoldsLents, header_now, reverse, lents, kept_whole, sound_so}
-use Rattle.traces.specs.TraceRows.{IsRowOf}
-use Rattle.trace_reader.specs.Entries.{text_of}
+use Rattle.ownership_checker.proofs.Laws.{[], All-weaker, IsTraceRow, HoldsLents, header_now, reverse, lents, kept_whole, sound_so, IsRowOf, text_of}
 use Rattle.ownership_checker.proofs.trace_check.check_in.Goals as goal
 
 pub pass_kept-requires-clause-fitting : goal.pass_kept-requires-clause-fitting

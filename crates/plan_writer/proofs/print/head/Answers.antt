@@ -1,5 +1,4 @@
-use Rattle.std.proofs.Common.{rules}
-use Rattle.trace_reader.specs.Spelling.{printed_line}
+use Rattle.plan_writer.proofs.Words.{rules, printed_line}
 use Rattle.plan_writer.proofs.print.head.Goals as goal
 
 pub returns : goal.returns

@@ -1,5 +1,4 @@
-use Rattle.std.proofs.Common.{◌≡◌, ◌+◌, ◌++◌, drop}
-use Rattle.plan_writer.specs.Plans.{refusal_from, rows_from, rows_text}
+use Rattle.plan_writer.proofs.Words.{◌≡◌, ◌+◌, ◌++◌, drop, refusal_from, rows_from, rows_text}
 use Rattle.plan_writer.proofs.print.print_lines.Given as goal
 
 -- what was printed and what the lines that are left print are all; the first refused line is one of those that are left

@@ -1,7 +1,4 @@
-use Rattle.std.proofs.Common.{rules}
-use Rattle.trace_reader.specs.PlanValues.{plan_text}
-use Rattle.trace_reader.proofs.LinePieces.{whole_text}
-use Rattle.plan_writer.specs.Plans.{plan_trace}
+use Rattle.plan_writer.proofs.Words.{rules, plan_text, whole_text, plan_trace}
 use Rattle.plan_writer.proofs.print.print_plan.Goals as goal
 
 pub returns-clause-printed : goal.returns-clause-printed

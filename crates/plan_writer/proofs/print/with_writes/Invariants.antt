@@ -1,5 +1,4 @@
-use Rattle.std.proofs.Common.{◌≡◌, ◌++◌, drop, map}
-use Rattle.plan_writer.specs.Plans.{rows_text, write_row}
+use Rattle.plan_writer.proofs.Words.{◌≡◌, ◌++◌, drop, map, rows_text, write_row}
 use Rattle.plan_writer.proofs.print.with_writes.Given as goal
 
 -- the rows so far and those of the writes that are left are all

@@ -1,6 +1,4 @@
-use Rattle.std.proofs.Common.{◌≡◌, map, take}
-use Rattle.serde_json.specs.View.{view}
-use Rattle.reports.specs.Objects.{section_data}
+use Rattle.reports.proofs.Words.{◌≡◌, map, take, view, section_data}
 use Rattle.reports.proofs.sections.sections_value.Given as goal
 
 abbrev pub invariant-loop-section : goal.invariant-loop-section

@@ -1,6 +1,4 @@
-use Rattle.std.proofs.Common.{◌≡◌, map, take}
-use Rattle.serde_json.specs.View.{view}
-use Rattle.reports.specs.Objects.{mark_data}
+use Rattle.reports.proofs.Words.{◌≡◌, map, take, view, mark_data}
 use Rattle.reports.proofs.values.marks.Given as goal
 
 abbrev pub invariant-loop-mark : goal.invariant-loop-mark

@@ -1,6 +1,4 @@
-use Rattle.std.proofs.Common.{◌≡◌, map, take}
-use Rattle.serde_json.specs.View.{view}
-use Rattle.reports.specs.Objects.{take_data}
+use Rattle.reports.proofs.Words.{◌≡◌, map, take, view, take_data}
 use Rattle.reports.proofs.values.takes.Given as goal
 
 abbrev pub invariant-loop-take : goal.invariant-loop-take

@@ -1,7 +1,4 @@
-use Rattle.std.proofs.Common.{◌≡◌, map, take}
-use Rattle.std.specs.Prelude.{string_bytes}
-use Rattle.serde_json.specs.Data.{string}
-use Rattle.serde_json.specs.View.{view}
+use Rattle.reports.proofs.Words.{◌≡◌, map, take, string_bytes, string, view}
 use Rattle.reports.proofs.values.texts.Given as goal
 
 abbrev pub invariant-loop-text : goal.invariant-loop-text

@@ -1,5 +1,4 @@
-use Rattle.traces.specs.Header.{IsHeader}
-use Rattle.trace_record.specs.RingFinder.Finding.{IsFinder}
+use Rattle.row_history.proofs.BaseWords.{IsHeader, IsFinder}
 use Rattle.row_history.proofs.known.known_after.Given as goal
 
 -- the rings that are there now may stand together, and the finder finds them

@@ -1,5 +1,4 @@
-use Rattle.std.proofs.Common.{◌++◌, ◌∷◌, [], rules, sym, subst}
-use Rattle.traces.specs.Header.{IsHeader}
+use Rattle.row_history.proofs.BaseWords.{◌++◌, ◌∷◌, [], rules, sym, subst, IsHeader}
 use Rattle.row_history.proofs.RingsNow.{one_more}
 use Rattle.row_history.proofs.live_rings.add_ring.Goals as goal
 

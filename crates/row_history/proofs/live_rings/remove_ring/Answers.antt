@@ -1,5 +1,4 @@
-use Rattle.std.proofs.Common.{sym, subst}
-use Rattle.traces.specs.Header.{IsHeader}
+use Rattle.row_history.proofs.BaseWords.{sym, subst, IsHeader}
 use Rattle.row_history.proofs.RingsNow.{one_less}
 use Rattle.row_history.proofs.live_rings.remove_ring.Goals as goal
 

@@ -1,6 +1,4 @@
-use Rattle.std.proofs.Common.{◌≢◌, ◌≤◌, ◌<◌, ℕ, Some}
-use Rattle.ring_knowledge.specs.Known.{Known}
-use Rattle.trace_record.specs.DeviceSlots.Devices.{FollowsDevices}
+use Rattle.row_history.proofs.BaseWords.{◌≢◌, ◌≤◌, ◌<◌, ℕ, Some, Known, FollowsDevices}
 use Rattle.row_history.proofs.rings.index_with.Given as goal
 
 -- no endpoint before this one has the ring

@@ -1,4 +1,4 @@
-use Rattle.std.proofs.Common.{◌≡◌, ◌≢◌, ◌+◌, ◌*◌, ◌%◌, ◌^◌, ◌<◌, ℕ}
+use Rattle.row_history.proofs.BaseWords.{◌≡◌, ◌≢◌, ◌+◌, ◌*◌, ◌%◌, ◌^◌, ◌<◌, ℕ}
 use Rattle.row_history.proofs.rings.shown_first_lap.Given as goal
 
 -- no control word before this block's shows the bit

@@ -1,14 +1,4 @@
-use Rattle.std.proofs.Common.{◌≡◌, ◌<◌, ◌∙◌, ◌∷◌, [], ℕ, Bool, List, arith, below_more, false, get_or, length, slice_get, subst, sym, true}
-use Rattle.std.proofs.lemmas.Option.{slice_get-get_or}
-use Rattle.std.specs.Prelude.{IfSome, IsTrue}
-use Rattle.certificate.specs.declared.fault.CertFault.TheVariants.{Magic as CertMagic, Length as CertLength, Field as CertField, Memory as CertMemory}
-use Rattle.ownership_rules.specs.declared.refusal.Refusal.TheVariants.{WriteToOwned, NotAsSubmitted, NotDeclared, NotWhole, LinkFault, RingFull, BadDescriptor, BadRegister, BadDoorbell, BadCommand, Busy, ImpossibleEvent, BadErdp, NotInProfile, AfterStop, BadMove, BadWithdraw, NotRestored, BadFree, BadRing}
-use Rattle.plan_writer.specs.declared.fault.PlanRefusal.TheVariants.{NotDeclared as PlanNotDeclared, RingFull as PlanRingFull, BadDescriptor as PlanBadDescriptor, NotInProfile as PlanNotInProfile, NotGiven as PlanNotGiven}
-use Rattle.trace_reader.specs.declared.fault.LineFault.TheVariants.{Header as LineHeader, Row as LineRow, Number as LineNumber, Limit as LineLimit, Shape as LineShape}
-use Rattle.world_state.specs.declared.harm.Harm.TheVariants.{TakenOutOfOrder, TakenOtherWords, WaitsInsideDescriptor, LooksOutside, PostsOverUnread, InputContextChanged}
-use Rattle.rule_pages.specs.Naming.{IsCalled}
-use Rattle.rule_pages.specs.declared.subject.Subject.{Subject}
-use Rattle.rule_pages.specs.declared.subject.Subject.TheVariants.{Rule as OfRule, Line as OfLine, Certificate as OfCertificate, Plan as OfPlan, Device as OfDevice, Harm as OfHarm}
+use Rattle.rule_pages.proofs.Words.{◌≡◌, ◌<◌, ◌∙◌, ◌∷◌, [], ℕ, Bool, List, arith, below_more, false, get_or, length, slice_get, subst, sym, true, slice_get-get_or, IfSome, IsTrue, CertMagic, CertLength, CertField, CertMemory, WriteToOwned, NotAsSubmitted, NotDeclared, NotWhole, LinkFault, RingFull, BadDescriptor, BadRegister, BadDoorbell, BadCommand, Busy, ImpossibleEvent, BadErdp, NotInProfile, AfterStop, BadMove, BadWithdraw, NotRestored, BadFree, BadRing, PlanNotDeclared, PlanRingFull, PlanBadDescriptor, PlanNotInProfile, PlanNotGiven, LineHeader, LineRow, LineNumber, LineLimit, LineShape, TakenOutOfOrder, TakenOtherWords, WaitsInsideDescriptor, LooksOutside, PostsOverUnread, InputContextChanged, IsCalled, Subject, OfRule, OfLine, OfCertificate, OfPlan, OfDevice, OfHarm}
 use Rattle.rule_pages.proofs.naming.subject_called.Goals as goal
 
 -- what holds of the item that is read

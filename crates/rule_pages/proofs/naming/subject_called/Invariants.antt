@@ -1,6 +1,4 @@
-use Rattle.std.proofs.Common.{ℕ, ◌<◌}
-use Rattle.std.specs.Prelude.{IfSome, slice_get}
-use Rattle.rule_pages.specs.Naming.{IsCalled}
+use Rattle.rule_pages.proofs.Words.{ℕ, ◌<◌, IfSome, slice_get, IsCalled}
 use Rattle.rule_pages.proofs.naming.subject_called.Given as goal
 
 -- none of those so far is called so

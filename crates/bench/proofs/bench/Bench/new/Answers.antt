@@ -1,5 +1,4 @@
-use Rattle.std.proofs.Common.{refl, subst, []}
-use Rattle.ownership_checker.specs.RingPasses.Passing.{IsRingPassed}
+use Rattle.bench.proofs.Words.{refl, subst, [], IsRingPassed}
 use Rattle.bench.proofs.bench.Bench.new.Goals as goal
 
 pub returns-clause-bench : goal.returns-clause-bench

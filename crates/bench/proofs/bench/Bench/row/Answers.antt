@@ -1,13 +1,4 @@
-use Rattle.std.proofs.Common.{◌++◌, ◌≡◌, ◌∙◌, ◌∷◌, [], Some, Err, arith, ap, refl, subst, sym}
-use Rattle.std.proofs.lemmas.Bool.{false≢true}
-use Rattle.controller_model.specs.Following.{IsStep}
-use Rattle.std.specs.Prelude.{option_and_then, reverse}
-use mathlib.Core.List.{reverse-cons}
-use Rattle.traces.specs.declared.step.Step.TheVariants.{NextRow}
-use Rattle.controller_model.specs.Controllers.{IsBeside}
-use Rattle.controller_model.specs.declared.seen.Seen.TheVariants.{Row as RowSeen}
-use Rattle.world_state.specs.Scenes.{scene_reached, step_made}
-use Rattle.bench.specs.Benches.{with_row}
+use Rattle.bench.proofs.Words.{◌++◌, ◌≡◌, ◌∙◌, ◌∷◌, [], Some, Err, arith, ap, refl, subst, sym, false≢true, IsStep, option_and_then, reverse, reverse-cons, NextRow, IsBeside, RowSeen, scene_reached, step_made, with_row}
 use Rattle.bench.proofs.RowsBeside.{beside_rows, reached_more, row_passed, step_refused, step_shown}
 use Rattle.bench.proofs.bench.Bench.row.Goals as goal
 

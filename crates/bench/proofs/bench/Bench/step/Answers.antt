@@ -1,10 +1,4 @@
-use Rattle.std.proofs.Common.{◌++◌, ◌∙◌, ◌∷◌, [], ap, sym}
-use Rattle.std.specs.Prelude.{option_and_then}
-use mathlib.Core.List.{reverse-cons}
-use Rattle.controller_model.specs.Controllers.{IsBeside}
-use Rattle.controller_model.specs.Showing.{shows}
-use Rattle.world_state.specs.Scenes.{step_made}
-use Rattle.bench.specs.Benches.{words_told}
+use Rattle.bench.proofs.Words.{◌++◌, ◌∙◌, ◌∷◌, [], ap, sym, option_and_then, reverse-cons, IsBeside, shows, step_made, words_told}
 use Rattle.bench.proofs.RowsBeside.{none_left, step_shown}
 use Rattle.bench.proofs.bench.Bench.step.Goals as goal
 

@@ -1,5 +1,4 @@
-use Rattle.std.proofs.Common.{◌∷◌, Ok, Err, ap}
-use Rattle.traces.specs.declared.step.Step.TheVariants.{NextRow}
+use Rattle.bench.proofs.Words.{◌∷◌, Ok, Err, ap, NextRow}
 use Rattle.bench.proofs.live.Live.row.Goals as goal
 
 pub let_go_on-requires : goal.let_go_on-requires

@@ -1,4 +1,4 @@
-use Rattle.std.proofs.Common.{[]}
+use Rattle.bench.proofs.Words.{[]}
 use Rattle.bench.proofs.live.Live.words.Goals as goal
 
 pub returns-clause-rows : goal.returns-clause-rows

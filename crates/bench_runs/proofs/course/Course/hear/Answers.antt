@@ -1,5 +1,4 @@
-use Rattle.std.proofs.Common.{◌∙◌, sym}
-use Rattle.bench_runs.proofs.Courses.{not_some}
+use Rattle.bench_runs.proofs.Laws.{◌∙◌, sym, not_some}
 use Rattle.bench_runs.proofs.course.Course.hear.Goals as goal
 
 pub answer-requires : goal.answer-requires

@@ -1,6 +1,4 @@
-use Rattle.std.proofs.Common.{◌∙◌, ◌∷◌, subst, sym}
-use Rattle.bench_runs.specs.Runs.{IsEndSoFar, noted_with}
-use Rattle.bench_runs.proofs.Courses.{both, course_of, not_some, noted_behind, noted_none, over, over_some}
+use Rattle.bench_runs.proofs.Laws.{◌∙◌, ◌∷◌, subst, sym, IsEndSoFar, noted_with, both, course_of, not_some, noted_behind, noted_none, over, over_some}
 use Rattle.bench_runs.proofs.course.Course.hear_row.Goals as goal
 
 pub returns-in_ok-note_refusal-in-Ok : goal.returns-in_ok-note_refusal-in-Ok

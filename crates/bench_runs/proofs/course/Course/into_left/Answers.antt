@@ -1,6 +1,4 @@
-use Rattle.std.proofs.Common.{subst, sym}
-use Rattle.bench_runs.specs.Runs.{IsEndAt}
-use Rattle.bench_runs.proofs.Courses.{told_end}
+use Rattle.bench_runs.proofs.Laws.{subst, sym, IsEndAt, told_end}
 use Rattle.bench_runs.proofs.course.Course.into_left.Goals as goal
 
 pub returns : goal.returns

@@ -1,5 +1,4 @@
-use Rattle.std.proofs.Common.{[], None, refl}
-use Rattle.bench_runs.proofs.Courses.{course_of}
+use Rattle.bench_runs.proofs.Laws.{[], None, refl, course_of}
 use Rattle.bench_runs.proofs.course.Course.new.Goals as goal
 
 pub returns : goal.returns

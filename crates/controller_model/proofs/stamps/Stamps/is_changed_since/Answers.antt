@@ -1,4 +1,4 @@
-use Rattle.controller_model.proofs.Laws.{◌+◌, ◌*◌, ◌∙◌, ap, sym, nat_lt, arith, changed_at, lt-ltb, any_in_range}
+use Rattle.controller_model.proofs.Words.{◌+◌, ◌*◌, ◌∙◌, ap, sym, nat_lt, arith, changed_at, lt-ltb, any_in_range}
 use Rattle.controller_model.proofs.stamps.Stamps.is_changed_since.Goals as goal
 
 pub returns-then-changed_behind-step : goal.returns-then-changed_behind-step

@@ -23,7 +23,8 @@ returns c =
     let same = eqb-true ring.id c.args.id here.1 in
     record {
       ok = declared_ok c.args.header.now c.requires.headed c.args.id c.args.blocks.now c.in-Some.number ring here.0 same driver c.args.kept.now c.index_mut.result.now there
-          c.declare_on.new.known c.declare_on.result c.declare_on.ensures.ok;
-      refused = declared_bad c.args.header.now c.requires.headed c.args.id c.args.blocks.now c.in-Some.number ring here.0 same driver c.args.kept.now c.index_mut.result.now there c.declare_on.result c.declare_on.ensures.refused;
+          c.profile-profile.result c.profile-profile.ensures c.declare_on.new.known c.declare_on.result c.declare_on.ensures.ok;
+      refused = declared_bad c.args.header.now c.requires.headed c.args.id c.args.blocks.now c.in-Some.number ring here.0 same driver c.args.kept.now c.index_mut.result.now there
+          c.profile-profile.result c.profile-profile.ensures c.declare_on.result c.declare_on.ensures.refused;
       events = search rules;
     }

@@ -1,9 +1,9 @@
 use Rattle.driver_rows.proofs.Words.{arith, nat_lt, is_passed}
 use Rattle.driver_rows.proofs.rings.withdrawing.is_passed.Goals as goal
 
-pub returns-then-is_three : goal.returns-then-is_three
+pub returns-then-is_lenient : goal.returns-then-is_lenient
 unfolding is_passed
-returns-then-is_three c = grind (arith, nat_lt)
+returns-then-is_lenient c = grind (arith, nat_lt)
 
 pub returns : goal.returns
 unfolding is_passed

@@ -1,4 +1,4 @@
-use Rattle.leases.proofs.Laws.{◌∙◌, ◌==◌, ℕ, get_or, refl, sym, ap, arith, eqb-true, code, endpoint, named, come_to, some_end, ring_here, shape_there, among_at, held_still, record_there, comes, driver_kind, keeps, other_lent, ring_keeps, ring_of_header, transfer_ends, unbound_lent, unnamed_lent}
+use Rattle.leases.proofs.Laws.{◌∙◌, ◌==◌, ℕ, get_or, refl, sym, ap, arith, eqb-true, endpoint, code_told, named, come_to, some_end, ring_here, shape_there, among_at, held_still, record_there, comes, driver_kind, keeps, other_lent, ring_keeps, ring_of_header, transfer_ends, unbound_lent, unnamed_lent}
 use Rattle.leases.proofs.rows.events.note_transfer.Goals as goal
 
 pub returns-then-not-is_transfer : goal.returns-then-not-is_transfer
@@ -60,7 +60,7 @@ returns g c = λ list k ts memory ranges other next all.
     let spot = c.in-Some-named.spot in
     let is = ap (λ (a : ℕ). named q.shape (k.ring q.id) a) (sym c.pointer.ensures) ∙ named_is ∙ c.in-Some-named.is in
     let floor = c.floor_number-floor.ensures.value q.shape (k.ring q.id) follows in
-    let reached = c.come_to-reached.ensures ∙ ap (λ (x : ℕ). come_to x spot c.floor_number-floor.result) c.code.ensures ∙ ap (λ (n : ℕ). come_to (code b) spot n) floor in
+    let reached = c.come_to-reached.ensures ∙ ap (λ (x : ℕ). come_to x spot c.floor_number-floor.result) (c.code_told.ensures k next.followed.devices) ∙ ap (λ (n : ℕ). come_to (code_told h k b) spot n) floor in
     let rises = comes h c.requires.headed k ts c.args.event c.args.number c.args.t.now memory next transfers c.in-Some.id of q among id spot is in
     transfer_ends h c.requires.headed k ts c.args.event c.args.number c.args.t.now memory next transfers c.in-Some.id of q among id spot is c.end_passed.new.self ranges _ _ floor reached
     (record {

@@ -1,6 +1,6 @@
 use Rattle.replayer.proofs.MiddleLaws.{◌≡◌, ◌+◌, ap, drop, false, true, length, rules, arith, Some, IfSome, is_event_kind, eager_schedule, lines_of, IsTame, left, late_event, late_goes, late_last, late_nothing, made_lines}
-use Rattle.replayer.proofs.scheduler.harmful.harm_with_a_late_ring.Goals as goal
 use Rattle.replayer.proofs.scheduler.harmful.harm_with_a_late_ring.Goals.{In_default}
+use Rattle.replayer.proofs.scheduler.harmful.harm_with_a_late_ring.Goals as goal
 
 pub loop-ring-preserved-then-eq : goal.loop-ring-preserved-then-eq
 loop-ring-preserved-then-eq c tame =

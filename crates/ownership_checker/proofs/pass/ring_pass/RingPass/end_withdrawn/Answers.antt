@@ -1,5 +1,4 @@
-use Rattle.ownership_checker.proofs.Laws.{◌≤◌, ◌≡◌, ◌<◌, ◌^◌, ◌∙◌, Some, true, ap, arith, get_or, length, not, refl, subst, sym, slice_get_read, slice_get_within, Ring, is_transfer_kind, ring_with, length_from, floor_number, on_ring, open_leases, AreOpen, passed_on, read_there, count_is, found, no_room, none_high, withdrawn_held, transfer_drives}
-use Rattle.segments.specs.RingView.{Withdraws}
+use Rattle.ownership_checker.proofs.Laws.{◌≤◌, ◌≡◌, ◌<◌, ◌^◌, ◌∙◌, Some, true, ap, arith, get_or, length, not, refl, subst, sym, slice_get_read, slice_get_within, Ring, is_transfer_kind, ring_with, length_from, floor_number, on_ring, open_leases, AreOpen, passed_on, read_there, count_is, found, no_room, none_high, withdrawn_held, transfer_drives, Withdraws}
 use Rattle.ownership_checker.proofs.pass.ring_pass.RingPass.end_withdrawn.Goals as goal
 
 pub returns-then-is_none-clause-ended : goal.returns-then-is_none-clause-ended

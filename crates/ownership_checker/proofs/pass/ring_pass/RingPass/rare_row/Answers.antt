@@ -1,4 +1,4 @@
-use Rattle.ownership_checker.proofs.Laws.{driven_by}
+use Rattle.ownership_checker.proofs.JudgedRows.Kinds.{driven_by}
 use Rattle.ownership_checker.proofs.pass.ring_pass.RingPass.rare_row.Goals as goal
 
 pub row_behind_withdrawals-requires-clause-withdrawn : goal.row_behind_withdrawals-requires-clause-withdrawn
