@@ -5,7 +5,7 @@
  *
  * It starts the controller, addresses a device, makes control transfers, configures a bulk endpoint, moves data on it, cancels TDs by Set
  * TR Dequeue Pointer and by No Ops, drops the endpoint and frees its ring, configures it again, has its device unplugged and plugged, and
- * stops. It waits for each event, and rests on nothing that no event has told: endpoints halt, TRBs are found wrong, packets are short,
+ * stops; beside toy controllers it then resets the controller and starts it again in the same memory. It waits for each event, and rests on nothing that no event has told: endpoints halt, TRBs are found wrong, packets are short,
  * commands fail, events come late, and events of other kinds between.
  *
  * Status 0: done; 3: it waits for an event, and none will come.
@@ -16,6 +16,7 @@
  *	BUG_FORGOTTEN_WORD		11 NotAsSubmitted	word 2 of a TRB is not written
  *	BUG_FIRST_TRB_FIRST		13 NotWhole		the first TRB of a TD is handed over before the others
  *	BUG_NO_TOGGLE			14 LinkFault		the last Link TRB of a ring has no Toggle Cycle
+ *	BUG_RESET_RUNNING		17 BadRegister		the controller is reset before it has halted
  *	BUG_MIXED_UP			21 ImpossibleEvent	events of the second controller are told in the first one's trace
  *	BUG_ERDP_TOO_FAR		22 BadErdp		ERDP names an event that the driver has not read
  *	BUG_MOVE_TOO_FAR		25 BadMove		Set TR Dequeue Pointer names a TRB past the last TD
@@ -997,9 +998,55 @@ static int stop(struct controller *c)
 	return 0;
 }
 
+#ifndef XHCI_BENCH
+static int has_halted(struct controller *c)
+{
+	uint32_t status = hc_status(c->hc);
+
+	xt_usbsts(c->trace, status);
+	return status & 1;
+}
+
+/* A ring goes, and its memory is cleared: what the controller has written there too */
+static void take_ring(struct controller *c, const struct ring *ring)
+{
+	unsigned int i;
+
+	xt_free(c->trace, ring->id);
+	for (i = 0; i < ring->segments; i++)
+		clear(c, ring->base[i], 4u * ring->trbs[i]);
+}
+
+/* The controller halts and is reset: all rings are the driver's, and the device is unknown */
+static int reset(struct controller *c)
+{
+#ifdef BUG_RESET_RUNNING
+	(void)has_halted;
+#else
+	while (!has_halted(c))
+		;
+#endif
+	write_register(c, "usbcmd", HC_USBCMD, 2);
+	take_ring(c, &c->commands);
+	take_ring(c, &c->events);
+	if (c->slot) {
+		free_transfer_ring(c, &c->bulk);
+		free_transfer_ring(c, &c->control);
+		store_pointer(c, DCBAA + 8 * c->slot, 0);
+		c->slot = 0;
+	}
+	return 0;
+}
+#endif
+
 /* ---- all controllers, step by step, so that their rows come in turns ---- */
 
-static int (*const steps[])(struct controller *) = { start, plug, cancel, configure_again, unplug, plug, stop };
+static int (*const steps[])(struct controller *) = {
+	start, plug, cancel, configure_again, unplug, plug, stop,
+#ifndef XHCI_BENCH
+	reset, start, plug, stop,
+#endif
+};
 
 static int run(int count, char **paths)
 {

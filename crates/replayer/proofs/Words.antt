@@ -95,7 +95,7 @@ pub use Rattle.safety.specs.Harmless.{DoNoHarm}
 pub use Rattle.safety.specs.Keeps.{DriverKeeps, IsTransferRing}
 pub use Rattle.safety.specs.LazyRuns.LateEvents.{IsTimely}
 pub use Rattle.safety.specs.LazyRuns.Law.{ContainsAll}
-unfoldable pub use Rattle.safety.specs.LazyRuns.Lazy.{behind_taken, brought, command_taken, further, goals, lazy_run, lazy_steps, looks_to, open_goals, pointers_after, pointers_at, pointers_for, post_of, report_goals, spots_before, steps_before, steps_for, stop_goal, stopped_goals, taken_up_to}
+unfoldable pub use Rattle.safety.specs.LazyRuns.Lazy.{behind_blocks, brought, command_taken, further, goals, lazy_run, lazy_steps, looks_to, open_goals, pointers_after, pointers_at, pointers_for, post_of, report_goals, spots_before, steps_before, steps_for, stop_goal, stopped_goals, taken_up_to}
 unfoldable pub use Rattle.safety.specs.LazyRuns.Needs.{begins_anew, ends_need, is_placed, is_placed_by, is_placed_by_all, need, number_behind, number_reported, ring_placed}
 pub use Rattle.safety.specs.Placings.{StillHolds}
 pub use Rattle.safety.specs.RingChanges.Histories.{AreKept, IsKept}

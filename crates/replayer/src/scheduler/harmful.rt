@@ -184,7 +184,7 @@ fn eager_row<'r>(
     ensures { (g : HeaderValue) (m : Making) → rings_at prompt.now ≡ g.rings → HasMade attempt.old m →
         IsMade result (eager_row (option_map (λ ring. ring.now) late.entry) g (rings_at active.now) row.now m) (λ rings p. (rings_at rings.items ≡ p.0) × HasMade attempt.new p.1) }
 {
-    attempt.post_before(row, late)?;
+    attempt.make_before(row, late)?;
     attempt.make(Step::NextRow)?;
     attempt.look_at_each(alloc, looked_rings(prompt, active, row))
 }
