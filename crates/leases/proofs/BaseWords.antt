@@ -50,6 +50,7 @@ unfoldable pub use Rattle.ring_knowledge.specs.Completions.{typed}
 pub use Rattle.ring_knowledge.specs.Histories.{header_now, known_after, known_now, restored}
 unfoldable pub use Rattle.ring_knowledge.specs.Histories.{forgotten, gone, restored_on, ring_moved, ring_restored}
 unfoldable pub use Rattle.ring_knowledge.specs.Learned.{event_read}
+pub use Rattle.ring_knowledge.specs.Resets.{learned_or_reset}
 unfoldable pub use Rattle.ring_knowledge.specs.Resets.{given_up, held_at_given, reset, resets}
 pub use Rattle.ring_knowledge.specs.Rings.{Crossing, Given, Position}
 unfoldable pub use Rattle.ring_knowledge.specs.Rings.{code_told, spot_on}
@@ -121,7 +122,6 @@ pub use Rattle.trace_record.proofs.Words.{Apart, FollowsTrace, IsAmong, RingReco
 pub use Rattle.trace_record.proofs.WordsInside.{gives_no_crossing, gives_no_position}
 pub use Rattle.trace_record.specs.Premises.{EndpointRings}
 pub use Rattle.trace_record.specs.RowPlaces.{IsGivenBy, IsPlaced, IsPlacedSo}
-pub use Rattle.trace_record.specs.Steps.{learned_or_reset}
 pub use Rattle.trace_record.specs.declared.row_place.RowPlace.{RowPlace}
 pub use Rattle.trace_record.specs.declared.trace_record.TraceRecord.{TraceRecord}
 pub use Rattle.traces.specs.Header.{is_event_kind, no_id}

@@ -60,7 +60,7 @@ unfoldable pub use Rattle.ring_knowledge.specs.Histories.{forgotten, gone, resto
 pub use Rattle.ring_knowledge.specs.Known.{Known}
 unfoldable pub use Rattle.ring_knowledge.specs.Known.{nothing}
 unfoldable pub use Rattle.ring_knowledge.specs.Learned.{event_read, learned}
-pub use Rattle.ring_knowledge.specs.Resets.{resets}
+pub use Rattle.ring_knowledge.specs.Resets.{learned_or_reset, resets}
 unfoldable pub use Rattle.ring_knowledge.specs.Resets.{given_up, held_at_given, reset}
 pub use Rattle.ring_knowledge.specs.RingRecords.{FollowsRing, positions_of}
 pub use Rattle.ring_knowledge.specs.Rings.{unfinished}
@@ -152,7 +152,7 @@ pub use Rattle.trace_record.specs.Fresh.{IsWithin}
 pub use Rattle.trace_record.specs.Premises.{CommandsDeclared, ContextsFit, FitsMemory, IsSetUp}
 pub use Rattle.trace_record.specs.RingFinder.Finding.{IsFinder}
 pub use Rattle.trace_record.specs.RowPlaces.{IsOwnedSo, IsPlaced}
-pub use Rattle.trace_record.specs.Steps.{IfRefused, IsLeast, IsRowStep, learned_or_reset}
+pub use Rattle.trace_record.specs.Steps.{IfRefused, IsLeast, IsRowStep}
 pub use Rattle.trace_record.specs.declared.fault.StepFault.{StepFault}
 pub use Rattle.trace_record.specs.declared.fault.StepFault.TheVariants.{Memory, Refused, Refused as RefusedBy}
 pub use Rattle.trace_record.specs.declared.row_place.RowPlace.{RowPlace}

@@ -1,11 +1,9 @@
 -- What the check of one row answers
-use Rattle.std.specs.Prelude.{◌≡◌, ℕ, if◌then◌else◌, [], Some}
+use Rattle.std.specs.Prelude.{◌≡◌, ℕ, [], Some}
 use Rattle.traces.specs.declared.header.Header.{Header}
 use Rattle.traces.specs.declared.row.Row.{Row}
-use Rattle.traces.specs.declared.row.Row.TheVariants.{Reg}
 use Rattle.ring_knowledge.specs.Known.{Known}
-use Rattle.ring_knowledge.specs.Learned.{learned}
-use Rattle.ring_knowledge.specs.Resets.{reset, resets}
+use Rattle.ring_knowledge.specs.Resets.{learned_or_reset}
 use Rattle.ownership_rules.specs.declared.refusal.Refusal.{Refusal}
 use Rattle.ownership_rules.specs.Refusal.{first_of}
 use Rattle.ownership_rules.specs.Rules.{broken}
@@ -13,11 +11,6 @@ use Rattle.trace_record.specs.declared.fault.StepFault.{StepFault}
 use Rattle.trace_record.specs.declared.fault.StepFault.TheVariants.{Refused, Memory}
 use Rattle.trace_record.specs.declared.trace_record.TraceRecord.{TraceRecord}
 use Rattle.trace_record.specs.FollowsTrace.{FollowsTrace}
-
--- what is known behind a row by which no ring comes or goes and no descriptor is withdrawn, where the ring that it starts or moves is restored
-abbrev pub learned_or_reset : Header → Known → Row → Known
-learned_or_reset h k (Reg r v) = if resets k r v then reset h k else learned h k (Reg r v)
-learned_or_reset h k row = learned h k row
 
 -- the row breaks no rule, and the record and the memory hold what is known after it
 pub record IsRowStep (h : Header) (k : Known) (row : Row) (after : TraceRecord) (memory : ℕ → ℕ) : Type 0 where
