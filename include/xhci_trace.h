@@ -7,8 +7,8 @@
  *	#include "xhci_trace.h"
  *
  *	xt_open(path, 32)		before the controller's reset; contexts of 32 or 64 bytes
- *	xt_ring(..)			when a ring is made, at any time, behind the rows that clear its memory
- *	xt_free(..)			when a Transfer Ring goes, behind the completion with which its endpoint let it go
+ *	xt_ring(..)			when a ring is made, behind the rows that clear its memory, before a register names it
+ *	xt_free(..)			when a ring goes: behind the completion with which its endpoint let it go, or behind HCRST
  *	xt_submit(..)			before the first store for a TD: the TRBs that it is to have
  *	xt_submit_block(..)		or so, TRB by TRB, each before its own stores
  *	xt_withdraw(..)			before the first store that makes a No Op of a TD's TRB
@@ -17,23 +17,21 @@
  *	xt_reg(..), xt_reg_half(..)	in place of each store to a register
  *	xt_doorbell(..)			in place of each store to a doorbell
  *	xt_event(..)			when an event was read, before the driver acts on it
- *	xt_close()			when the controller was stopped
+ *	xt_usbsts(..)			when USBSTS was read
+ *	xt_close()			at the end
  *
- * Order: a row is made directly before its store, both under one lock; the row of an event is made after the event was read.
+ * Order: a row is made directly before its store, both under one lock; the row of an event, or of USBSTS, is made after that was read.
  * So no effect of a store has a row before the store's own, and rows stand in the order of the stores. The lock is held while the
  * store is made: no hook may be called within one. Barriers stay where they are in the driver: the rows are the order of the program,
  * and whether the controller sees it so is up to them.
  *
  * Addresses are bus addresses, values are in the CPU's byte order; xHCI's is little-endian, and on a big-endian CPU the bytes are
  * swapped here. Memory counts as 0 until a row writes it: clear it before xt_open, or tell it by a hook. Memory that is used again is
- * cleared again, and told so. The controller writes event rings: no hook stores there.
+ * cleared again, and told so. The controller writes event rings: no hook stores there while they are there.
  *
- * Rings: Transfer Rings come and go among the rows. The Command Ring and the Event Ring stand before all rows, so rows wait in the
- * buffer until both are made, or the controller starts, or the buffer is full. One that is made later is put in the file before them;
- * with XT_PRINT it can't be told.
- *
- * A trace is one run of the controller. The row that stops it is its last one: what comes behind makes no row, up to the next xt_open,
- * which needs each xt_ring again.
+ * Runs: a trace goes on behind the row that stops the controller. USBSTS is told as often as it is read; a row is made where it says
+ * something: HCHalted 1 for the first time behind Run/Stop 0, HCHalted as it can't be. Behind a halt that was read
+ * the driver starts the controller again, or resets it by HCRST: then all rings go (xt_free), and those of the next run are made.
  *
  * When rows are out: they are gathered in a buffer, and all that were made are written to the file before a store to a doorbell or a
  * register, and when the buffer is full, at xt_flush() and at xt_close(). Where the driver dies those since then are missing.
@@ -41,7 +39,7 @@
  * hook. Or each row is written before its store:
  *
  *	#define XT_AT_ONCE 1		0 where it isn't defined, with XT_PRINT 1
- *	#define XT_BUFFER 3072		the buffer's bytes, at least 1536
+ *	#define XT_BUFFER 3072		the buffer's bytes, at least 128
  *
  * In a kernel or in firmware, where there is no stdio, two macros say how text goes out and what lock is held. xt_begin(32) then
  * stands for xt_open, and nothing for xt_close:
@@ -133,8 +131,8 @@ static inline uint64_t xt_le64(uint64_t value)
 #ifndef XT_BUFFER
 #define XT_BUFFER 3072
 #endif
-#if XT_BUFFER < 1536
-#error "XT_BUFFER is too small for the line of a ring of 64 segments"
+#if XT_BUFFER < 128
+#error "XT_BUFFER is too small"
 #endif
 
 /* How many bytes of rows are held back while a TD comes block by block: 4 rows of 28 bytes for each of 256 TRBs, and as much again */
@@ -164,16 +162,15 @@ struct xt_wide {
 struct xt_state {
 	unsigned char lock;
 	unsigned char on;	/* a trace has begun and not ended */
-	unsigned char started;	/* Run/Stop was set */
-	unsigned char rings;	/* that were made: 1 the Command Ring, 2 the Event Ring */
-	unsigned char head_open;	/* no row is out, so that a line can still be put before all rows */
-	unsigned int head_bytes;	/* of the buffer: the lines before its first row, while that is so */
+	unsigned char started;	/* Run/Stop was set, and no HCRST was written since */
+	unsigned char halting;	/* Run/Stop was cleared, and not set since */
+	unsigned char halted;	/* .. and HCHalted was read as 1 */
+	unsigned char refuted;	/* HCHalted was read as it can't be */
 	unsigned int bytes;	/* of the buffer */
 	struct xt_hold *hold;	/* where rows are held back for a TD that isn't whole */
 	struct xt_wide wide[4];
 #if XT_STDIO
 	FILE *file;
-	long file_head;		/* of the file: the lines before its first row */
 	int failed;
 #endif
 	char buffer[XT_BUFFER];
@@ -213,20 +210,16 @@ static inline char *xt_hex(char *end, uint64_t value, int digits)
 /* Writes what was gathered */
 static inline void xt_give_out(struct xt_state *xt)
 {
+	if (!xt->bytes)
+		return;
 	xt->buffer[xt->bytes] = 0;
 #if XT_STDIO
-	if (xt->head_open)
-		xt->file_head += (long)xt->head_bytes;
-	if (xt->bytes && fwrite(xt->buffer, 1, xt->bytes, xt->file) != xt->bytes)
+	if (fwrite(xt->buffer, 1, xt->bytes, xt->file) != xt->bytes)
 		xt->failed = 1;
 #else
-	if (xt->bytes)
-		XT_PRINT(xt->buffer);
+	XT_PRINT(xt->buffer);
 #endif
-	if (xt->bytes > xt->head_bytes)
-		xt->head_open = 0;
 	xt->bytes = 0;
-	xt->head_bytes = 0;
 }
 
 /* Where the next XT_PIECE bytes may be put: with those that are held back, while there are such */
@@ -266,15 +259,9 @@ static inline void xt_text(struct xt_state *xt, const char *text, unsigned int b
 	xt_put(xt, end);
 }
 
-/* The Command Ring or the Event Ring may still come, before the rows that wait */
-static inline int xt_head_waits(const struct xt_state *xt)
-{
-	return xt->head_open && xt->rings != 3;
-}
-
 static inline void xt_row_is_whole(struct xt_state *xt)
 {
-	if (XT_AT_ONCE && !xt->hold && !xt_head_waits(xt))
+	if (XT_AT_ONCE && !xt->hold)
 		xt_give_out(xt);
 }
 
@@ -283,13 +270,6 @@ static inline void xt_end_row(struct xt_state *xt, char *end)
 	*end++ = '\n';
 	xt_put(xt, end);
 	xt_row_is_whole(xt);
-}
-
-/* What was gathered is out before a store on which the controller acts */
-static inline void xt_before_act(struct xt_state *xt)
-{
-	if (xt->started || !xt_head_waits(xt))
-		xt_give_out(xt);
 }
 
 /* A line that no trace has, so that the checker names it: rows were lost */
@@ -373,7 +353,7 @@ static inline void xt_doorbell_row(struct xt_state *xt, unsigned int slot, unsig
 		return;
 	end = xt_hex(xt_word(xt_piece(xt), "db "), slot, 2);
 	xt_end_row(xt, xt_hex(xt_word(end, " "), target, 2));
-	xt_before_act(xt);
+	xt_give_out(xt); /* before a store on which the controller acts */
 }
 
 static inline void xt_event_row(struct xt_state *xt, uint32_t word0, uint32_t word1, uint32_t word2, uint32_t word3)
@@ -397,22 +377,54 @@ static inline int xt_is(const char *name, const char *other)
 	return *name == *other;
 }
 
-/* Run/Stop is bit 0 of USBCMD, HCRST bit 1: what stops a controller that was started ends the trace */
+static inline void xt_named_row(struct xt_state *xt, const char *word, const char *name, uint64_t value)
+{
+	char *end = xt_word(xt_word(xt_word(xt_piece(xt), word), " "), name);
+
+	xt_end_row(xt, xt_hex(xt_word(end, " "), value, 16));
+}
+
+/* What USBCMD makes of the run: Run/Stop is bit 0, HCRST bit 1 */
+static inline void xt_follow(struct xt_state *xt, uint64_t value)
+{
+	if (value & 3) {
+		xt->started = (value & 3) == 1;
+		xt->halting = 0;
+		xt->halted = 0;
+	} else {
+		xt->halting = xt->started;
+	}
+}
+
+/* Whether a read of USBSTS says something: HCHalted is bit 0 */
+static inline int xt_says(struct xt_state *xt, uint32_t value)
+{
+	int says;
+
+	if (value & 1 ? xt->halting : xt->started && !xt->halted) {
+		says = value & 1 && !xt->halted;
+		xt->halted |= value & 1;
+		return says;
+	}
+	says = value & 1 ? xt->started && !xt->refuted : !xt->refuted;
+	xt->refuted |= (unsigned char)says;
+	return says;
+}
+
+static inline void xt_status_row(struct xt_state *xt, uint32_t value)
+{
+	if (xt->on && xt_says(xt, value))
+		xt_named_row(xt, "rd", "usbsts", value);
+}
+
 static inline void xt_reg_row(struct xt_state *xt, const char *name, uint64_t value)
 {
-	char *end;
-
 	if (!xt->on)
 		return;
-	end = xt_word(xt_word(xt_piece(xt), "reg "), name);
-	xt_end_row(xt, xt_hex(xt_word(end, " "), value, 16));
-	if (xt_is(name, "usbcmd")) {
-		if (xt->started && (value & 3) != 1)
-			xt->on = 0;
-		else if ((value & 3) == 1)
-			xt->started = 1;
-	}
-	xt_before_act(xt);
+	xt_named_row(xt, "reg", name, value);
+	if (xt_is(name, "usbcmd"))
+		xt_follow(xt, value);
+	xt_give_out(xt); /* before a store on which the controller acts */
 }
 
 static inline void xt_half_row(struct xt_state *xt, const char *name, unsigned int high, uint32_t value)
@@ -497,91 +509,13 @@ static inline void xt_ring_line(struct xt_state *xt, unsigned int id, const char
 	xt_put(xt, end);
 }
 
-static inline void xt_reverse(char *from, char *end)
-{
-	while (from < end) {
-		char last = *--end;
-
-		*end = *from;
-		*from++ = last;
-	}
-}
-
-/* Puts the line that begins at `line` before the rows that wait */
-static inline void xt_line_to_head(struct xt_state *xt, unsigned int line)
-{
-	xt_reverse(xt->buffer + xt->head_bytes, xt->buffer + line);
-	xt_reverse(xt->buffer + line, xt->buffer + xt->bytes);
-	xt_reverse(xt->buffer + xt->head_bytes, xt->buffer + xt->bytes);
-	xt->head_bytes += xt->bytes - line;
-}
-
-/* Puts the line that stands alone in the buffer before the rows that are out; 0 where that can't be */
-static inline int xt_line_among_rows(struct xt_state *xt)
-{
-#if XT_STDIO
-	size_t line = xt->bytes, room = XT_BUFFER - line, part;
-	long at = fseek(xt->file, 0, SEEK_END) ? -1 : ftell(xt->file);
-
-	if (at < 0)
-		return 0;
-	while (at > xt->file_head) {
-		part = (size_t)(at - xt->file_head) < room ? (size_t)(at - xt->file_head) : room;
-		at -= (long)part;
-		if (fseek(xt->file, at, SEEK_SET) || fread(xt->buffer + line, 1, part, xt->file) != part ||
-		    fseek(xt->file, at + (long)line, SEEK_SET) || fwrite(xt->buffer + line, 1, part, xt->file) != part)
-			xt->failed = 1;
-	}
-	if (fseek(xt->file, at, SEEK_SET) || fwrite(xt->buffer, 1, line, xt->file) != line || fseek(xt->file, 0, SEEK_END))
-		xt->failed = 1;
-	xt->file_head += (long)line;
-	xt->bytes = 0;
-	return 1;
-#else
-	(void)xt;
-	return 0;
-#endif
-}
-
-/* The Command Ring and the Event Ring stand before all rows, whenever they are made */
-static inline void xt_early_ring(struct xt_state *xt, unsigned int id, const char *kind, unsigned int segments, const uint64_t *bases,
-				 const uint16_t *trbs)
-{
-	struct xt_hold *hold = xt->hold;
-	unsigned int line;
-
-	if (!xt->head_open)
-		xt_give_out(xt);
-	xt->hold = 0;
-	line = xt->bytes;
-	xt_ring_line(xt, id, kind, segments, bases, trbs);
-	xt->rings |= xt_is(kind, "cmd") ? 1 : 2;
-	if (xt->head_open) {
-		xt_line_to_head(xt, line);
-	} else if (!xt_line_among_rows(xt)) {
-		xt->bytes = 0;
-		xt_complain(xt, "the Command Ring or the Event Ring behind rows that are out: call xt_ring before them");
-	}
-	xt->hold = hold;
-}
-
-/* A Transfer Ring has its line where it is made */
+/* A ring has its line where it is made */
 static inline void xt_make_ring(struct xt_state *xt, unsigned int id, const char *kind, unsigned int segments, const uint64_t *bases,
 				const uint16_t *trbs)
 {
-	int rows;
-
 	if (!xt->on)
 		return;
-	if (xt->bytes + 22 * segments + 16 >= XT_BUFFER - XT_PIECE)
-		xt_give_out(xt);
-	rows = !xt->head_open || xt->hold || xt->bytes > xt->head_bytes;
-	if (!xt_is(kind, "xfer"))
-		xt_early_ring(xt, id, kind, segments, bases, trbs);
-	else
-		xt_ring_line(xt, id, kind, segments, bases, trbs);
-	if (!rows)
-		xt->head_bytes = xt->bytes;
+	xt_ring_line(xt, id, kind, segments, bases, trbs);
 	xt_row_is_whole(xt);
 }
 
@@ -591,14 +525,14 @@ static inline void xt_head(struct xt_state *xt, unsigned int context_bytes)
 
 	xt->on = 1;
 	xt->started = 0;
-	xt->rings = 0;
-	xt->head_open = 1;
+	xt->halting = 0;
+	xt->halted = 0;
+	xt->refuted = 0;
 	xt->bytes = 0;
 	xt->hold = 0;
 	for (i = 0; i < 4; i++)
 		xt->wide[i].waits = 0;
 	xt_text(xt, context_bytes == 64 ? "xtrace 4\nctx 40\n" : "xtrace 4\nctx 20\n", 16);
-	xt->head_bytes = xt->bytes;
 }
 
 /* ---- the hooks ---- */
@@ -609,11 +543,10 @@ static inline int xt_open(XT_FIRST const char *path, unsigned int context_bytes)
 {
 	struct xt_state *state = XT_SELF;
 
-	state->file = fopen(path, "w+");
+	state->file = fopen(path, "w");
 	if (!state->file)
 		return -1;
 	setvbuf(state->file, 0, _IONBF, 0);
-	state->file_head = 0;
 	state->failed = 0;
 	XT_LOCKED_BY(state, xt_head(state, context_bytes));
 	return 0;
@@ -653,7 +586,8 @@ static inline void xt_flush_unlocked(XT_ALONE)
 
 /*
  * A ring of several segments, in their order; the Link TRB counts in trbs. kind: "cmd", "evt" or "xfer". id is yours to choose, once in a
- * trace: a ring that is made where another one went has its own. A Transfer Ring comes behind the rows that clear its memory.
+ * trace: a ring that is made where another one went has its own. It comes behind the rows that clear its memory; the Command Ring and the
+ * Event Ring before the registers that name them, while the controller isn't started, the Command Ring also where it is known to have halted.
  */
 static inline void xt_ring_segments(XT_FIRST unsigned int id, const char *kind, unsigned int segments, const uint64_t *bases,
 				    const uint16_t *trbs)
@@ -661,7 +595,10 @@ static inline void xt_ring_segments(XT_FIRST unsigned int id, const char *kind, 
 	XT_LOCKED_BY(XT_SELF, xt_make_ring(XT_SELF, id, kind, segments, bases, trbs));
 }
 
-/* A Transfer Ring goes: its memory is used for something else from now on. No endpoint has it, as the driver has read */
+/*
+ * A ring goes: its memory is used for something else from now on. Of a Transfer Ring the driver has read that no endpoint has it; the Command
+ * Ring and the Event Ring go behind HCRST, the Command Ring also where the controller is known to have halted and all commands have ended.
+ */
 static inline void xt_free(XT_FIRST unsigned int ring)
 {
 	XT_LOCKED_BY(XT_SELF, xt_free_row(XT_SELF, ring));
@@ -743,6 +680,12 @@ static inline void xt_copy32(XT_FIRST uint64_t bus, const void *bytes, unsigned 
 static inline void xt_event(XT_FIRST uint32_t word0, uint32_t word1, uint32_t word2, uint32_t word3)
 {
 	XT_LOCKED_BY(XT_SELF, xt_event_row(XT_SELF, word0, word1, word2, word3));
+}
+
+/* USBSTS was read: directly behind each read in which the driver waits for a halt, and wherever it likes */
+static inline void xt_usbsts(XT_FIRST uint32_t value)
+{
+	XT_LOCKED_BY(XT_SELF, xt_status_row(XT_SELF, value));
 }
 
 #else /* no trace: the stores alone */
@@ -836,6 +779,11 @@ static inline void xt_copy32(XT_FIRST uint64_t bus, const void *bytes, unsigned 
 static inline void xt_event(XT_FIRST uint32_t word0, uint32_t word1, uint32_t word2, uint32_t word3)
 {
 	XT_UNUSED, (void)word0, (void)word1, (void)word2, (void)word3;
+}
+
+static inline void xt_usbsts(XT_FIRST uint32_t value)
+{
+	XT_UNUSED, (void)value;
 }
 
 #define XT_ONE 0

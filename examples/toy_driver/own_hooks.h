@@ -17,15 +17,12 @@ static struct xt_state {
 	size_t td;		/* where the rows of the TD begin that comes block by block */
 	char sub[16384];	/* its sub row as far as it goes */
 	size_t sub_length;
-	int stopped, running;
+	int started, halting;	/* the controller; halting until that is read */
 	uint32_t low;		/* of a register whose low half was written */
 } xt_states[XT_CONTROLLERS];
 
 #define row(xt, ...) \
-	do { \
-		if (!(xt)->stopped) \
-			(xt)->length += (size_t)snprintf((xt)->rows + (xt)->length, sizeof((xt)->rows) - (xt)->length, __VA_ARGS__); \
-	} while (0)
+	((xt)->length += (size_t)snprintf((xt)->rows + (xt)->length, sizeof((xt)->rows) - (xt)->length, __VA_ARGS__))
 
 static int xt_open(struct xt_state *xt, const char *path, unsigned int context_bytes)
 {
@@ -118,9 +115,17 @@ static void register_row(struct xt_state *xt, const char *name, uint64_t value)
 {
 	row(xt, "reg %s %016" PRIx64 "\n", name, value);
 	if (!strcmp(name, "usbcmd")) {
-		xt->stopped = xt->running && !(value & 1);
-		xt->running = value & 1;
+		xt->halting = xt->started && !(value & 3);
+		xt->started = (value & 1) || xt->halting;
 	}
+}
+
+/* USBSTS: a row where the driver reads that the controller has halted */
+static void xt_usbsts(struct xt_state *xt, uint32_t value)
+{
+	if (xt->halting && (value & 1))
+		row(xt, "rd usbsts %016" PRIx64 "\n", (uint64_t)value);
+	xt->halting &= !(value & 1);
 }
 
 static void half_row(struct xt_state *xt, const char *name, unsigned int high, uint32_t value)
@@ -136,6 +141,7 @@ static void half_row(struct xt_state *xt, const char *name, unsigned int high, u
 #define xt_doorbell(xt, slot, target, store) do { row(xt, "db %02x %02x\n", slot, target); store; } while (0)
 #define xb_poll(xt) ((void)(xt))
 #define xb_wait(xt) 1
+#define xb_usbsts(xt, read) (read)
 #define xt_event(xt, word0, word1, word2, word3) row(xt, "ev %08x %08x %08x %08x\n", word0, word1, word2, word3)
 
 #endif

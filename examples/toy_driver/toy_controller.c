@@ -7,6 +7,8 @@
 
 #ifndef XHCI_BENCH
 
+#include <string.h>
+
 static uint32_t word_at(const struct toy *hc, uint64_t bus)
 {
 	return le32(hc->memory.word[bus / 4]);
@@ -100,9 +102,31 @@ static void execute(struct toy *hc, struct dequeue *ring, unsigned int slot, uns
 	}
 }
 
+/* Run/Stop 0 stops the controller, HCRST resets it: it has no rings, and begins anew */
+static void write_command(struct toy *hc, uint64_t value)
+{
+	unsigned int dci;
+
+	hc->looks = 0;
+	if (!(value & 2))
+		return;
+	for (dci = 0; dci < 32; dci++)
+		bind(hc, dci, 0);
+	memset(hc->registers, 0, sizeof(hc->registers));
+	hc->posted = 0;
+}
+
+/* USBSTS: it takes a look until HCHalted is 1 behind Run/Stop 0 */
+uint32_t hc_status(struct toy *hc)
+{
+	return hc->registers[HC_USBCMD] & 1 ? 0 : hc->looks++ > 0;
+}
+
 void hc_write(struct toy *hc, enum hc_register reg, uint64_t value)
 {
 	hc->registers[reg] = value;
+	if (reg == HC_USBCMD)
+		write_command(hc, value);
 	if (reg == HC_CRCR) {
 		hc->commands.trb = value & ~(uint64_t)63;
 		hc->commands.cycle = value & 1;

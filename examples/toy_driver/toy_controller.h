@@ -40,12 +40,14 @@ struct toy {
 	struct dequeue commands, endpoints[32];
 	uint64_t registers[HC_REGISTERS];
 	unsigned int posted;
+	unsigned int looks;	/* at its USBSTS, since it was stopped */
 };
 
 #ifndef XHCI_BENCH
 void hc_write(struct toy *hc, enum hc_register reg, uint64_t value);
 void hc_write_half(struct toy *hc, enum hc_register reg, unsigned int high, uint32_t value);
 void hc_doorbell(struct toy *hc, unsigned int slot, unsigned int target);
+uint32_t hc_status(struct toy *hc);
 #else /* the bench is told by the rows: these stores have nothing to do */
 static inline void hc_write(struct toy *hc, enum hc_register reg, uint64_t value)
 {

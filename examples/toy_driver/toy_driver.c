@@ -4,9 +4,10 @@
  * defined, toy_driver runs against `xhcitrace bench`.
  *
  * It starts the controller, addresses a device, makes control transfers, configures a bulk endpoint, moves data on it, cancels TDs by Set
- * TR Dequeue Pointer and by No Ops, drops the endpoint and frees its ring, configures it again, has its device unplugged and plugged, and
- * stops. It waits for each event, and rests on nothing that no event has told: endpoints halt, TRBs are found wrong, packets are short,
- * commands fail, events come late, and events of other kinds between.
+ * TR Dequeue Pointer and by No Ops, drops the endpoint and frees its ring, configures it again, halts the controller between two transfers
+ * and lets it go on, has its device unplugged and plugged, and stops; then it resets the controller and starts it again in the same memory.
+ * It waits for each event, and rests on nothing that no event has told: endpoints halt, TRBs are found wrong, packets are short, commands
+ * fail, events come late, and events of other kinds between.
  *
  * Status 0: done; 3: it waits for an event, and none will come.
  *
@@ -16,6 +17,7 @@
  *	BUG_FORGOTTEN_WORD		11 NotAsSubmitted	word 2 of a TRB is not written
  *	BUG_FIRST_TRB_FIRST		13 NotWhole		the first TRB of a TD is handed over before the others
  *	BUG_NO_TOGGLE			14 LinkFault		the last Link TRB of a ring has no Toggle Cycle
+ *	BUG_RESET_RUNNING		17 BadRegister		the controller is reset before it has halted
  *	BUG_MIXED_UP			21 ImpossibleEvent	events of the second controller are told in the first one's trace
  *	BUG_ERDP_TOO_FAR		22 BadErdp		ERDP names an event that the driver has not read
  *	BUG_MOVE_TOO_FAR		25 BadMove		Set TR Dequeue Pointer names a TRB past the last TD
@@ -93,6 +95,7 @@ static struct toy toys[XT_CONTROLLERS];
 
 #define ERST 0x40000
 #define DCBAA 0x50000
+#define SLOTS 8
 #define INPUT_CONTEXT 0x60000
 #define INPUT_CONTEXT_WORDS (5 * 8)	/* up to the context of DCI 3 */
 #define DEVICE_CONTEXT 0x70000
@@ -151,7 +154,7 @@ struct controller {
 	unsigned int slot;	/* 0: there is no device */
 	struct endpoint control, bulk;
 	unsigned int waits;	/* in a row in which nothing has ended */
-	int is_over;		/* a slot couldn't be disabled: what the controller has of it stays as it is */
+	int is_over;		/* a slot couldn't be disabled: what the controller has of it stays as it is until the reset */
 };
 
 static struct controller controllers[XT_CONTROLLERS];
@@ -843,7 +846,7 @@ static int start(struct controller *c)
 	make_ring(c, &c->events, &new_event_ring, "evt");
 	store_pointer(c, ERST, c->events.base[0]);
 	store(c, ERST + 8, c->events.trbs[0]);
-	write_register(c, "config", HC_CONFIG, 8);
+	write_register(c, "config", HC_CONFIG, SLOTS);
 	write_register(c, "dcbaap", HC_DCBAAP, DCBAA);
 	write_register(c, "crcr", HC_CRCR, c->commands.base[0] | CYCLE);
 	write_register(c, "erstsz", HC_ERSTSZ, 1);
@@ -997,9 +1000,59 @@ static int stop(struct controller *c)
 	return 0;
 }
 
+static void wait_for_halt(struct controller *c)
+{
+	uint32_t status;
+
+	do {
+		status = xb_usbsts(c->trace, hc_status(c->hc));
+		xt_usbsts(c->trace, status);
+	} while (!(status & 1));
+}
+
+/* The controller halts while TDs stand on a ring, and goes on where it was. No command may be unfinished then */
+static int halt_and_go_on(struct controller *c)
+{
+	if (c->slot && (bulk_in(c, 2) || bulk_in(c, 3)))
+		return -1;
+	stop(c);
+	wait_for_halt(c);
+	write_register(c, "usbcmd", HC_USBCMD, 1);
+	return c->slot ? wait_for_all(c, &c->bulk) : 0;
+}
+
+/* A ring goes, and its memory is cleared: what the controller has written there too */
+static void take_ring(struct controller *c, const struct ring *ring)
+{
+	unsigned int i;
+
+	xt_free(c->trace, ring->id);
+	for (i = 0; i < ring->segments; i++)
+		clear(c, ring->base[i], 4u * ring->trbs[i]);
+}
+
+/* The controller halts and is reset: all rings and contexts are the driver's, and the device is unknown */
+static int reset(struct controller *c)
+{
+#ifndef BUG_RESET_RUNNING
+	wait_for_halt(c);
+#endif
+	write_register(c, "usbcmd", HC_USBCMD, 2);
+	take_ring(c, &c->commands);
+	take_ring(c, &c->events);
+	free_transfer_ring(c, &c->bulk);
+	free_transfer_ring(c, &c->control);
+	clear(c, DCBAA, 2 * (1 + SLOTS));
+	c->slot = 0;
+	c->is_over = 0;
+	return 0;
+}
+
 /* ---- all controllers, step by step, so that their rows come in turns ---- */
 
-static int (*const steps[])(struct controller *) = { start, plug, cancel, configure_again, unplug, plug, stop };
+static int (*const steps[])(struct controller *) = {
+	start, plug, cancel, configure_again, halt_and_go_on, unplug, plug, stop, reset, start, plug, stop,
+};
 
 static int run(int count, char **paths)
 {

@@ -15,15 +15,22 @@ static uint32_t memory[1 << 18];
 #define AT &xt_states[0],
 #define ALONE &xt_states[0]
 #define REG(name, value) xt_reg(&xt_states[0], name, value, (void)0)
+#define USBSTS(read) xb_usbsts(&xt_states[0], read)
 #else
 #define AT
 #define ALONE
 #define REG(name, value) xt_reg(name, value, (void)0)
+#define USBSTS(read) xb_usbsts(read)
 #endif
 
 void over(const char *line)
 {
 	fprintf(stderr, "over: %.*s\n", (int)strcspn(line, "\n"), line);
+}
+
+static void tell(const char *where, int waited)
+{
+	fprintf(stderr, "%s %d, halted %u\n", where, waited, (unsigned int)USBSTS((uint32_t)5));
 }
 
 static void set_up(void)
@@ -45,12 +52,12 @@ int main(void)
 	if (xt_open(AT "/dev/null", 32))
 		return 1;
 	set_up();
-	fprintf(stderr, "early %d\n", xb_wait(ALONE));
+	tell("early", xb_wait(ALONE));
 	REG("usbcmd", 1);
 	xb_poll(ALONE);
-	fprintf(stderr, "idle %d\n", xb_wait(ALONE));
+	tell("idle", xb_wait(ALONE));
 	xt_event(AT 0x10000, 0, 0x01000000, 0x8401); /* which was never posted */
 	xb_poll(ALONE);
-	fprintf(stderr, "behind %d\n", xb_wait(ALONE));
+	tell("behind", xb_wait(ALONE));
 	return xt_close(ALONE) ? 1 : 0;
 }

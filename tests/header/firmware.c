@@ -58,14 +58,29 @@ int firmware_main(int how)
 	xt_free(2);
 	xt_ring(3, "xfer", 0x30000, 4);
 	xt_reg("usbcmd", 2, firmware_register = 9);
+	xt_usbsts(1); /* not started */
 	xt_reg("usbcmd", 1, before = length);
 	if (before != length) /* the row is there before the store */
 		return -1;
+	xt_usbsts(0x18);
 	xt_reg("usbcmd", 5, firmware_register = 11);
 	xt_reg("usbcmd", 4, firmware_register = 12);
+	xt_usbsts(0x10); /* it goes on for a while */
+	xt_usbsts(0x19);
+	xt_usbsts(0x19);
+	xt_free(0);
+	xt_ring(5, "cmd", 0x10000, 16);
+	xt_reg("usbcmd", 0x100, firmware_register = 12);
+	xt_usbsts(0x101); /* it saves, which says nothing */
+	xt_reg("usbcmd", 1, firmware_register = 12);
+	xt_usbsts(1); /* as it can't be, once */
+	xt_usbsts(1);
+	xt_reg("usbcmd", 0, firmware_register = 12);
+	xt_usbsts(1);
+	xt_reg("usbcmd", 2, firmware_register = 12);
+	xt_free(5);
+	xt_ring(6, "evt", 0x20000, 16);
 	xt_doorbell(0, 0, firmware_register = 13);
-	xt_ring(4, "xfer", 0x50000, 4);
-	xt_free(3);
 	xt_flush();
 	firmware_log[length] = 0;
 	return depth == 0 ? locked : -1;

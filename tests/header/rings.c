@@ -1,14 +1,13 @@
 /*
- * Two controllers: rings HOW PATH PATH. Their traces go to these files, or, where BY_CALLS is defined, to texts that are printed there with
- * the number of calls. The first one makes its rings late: where HOW is 1 the Event Ring behind the start, and where it is 2 both behind
- * more rows than the buffer holds.
+ * Two controllers: rings PATH PATH. Their traces go to these files, or, where BY_CALLS is defined, to texts that are printed there with
+ * the number of calls. The first one makes its rings behind rows, one of them of as many segments as a ring may have.
  */
 #include <stdint.h>
 #include <stdio.h>
-#include <stdlib.h>
 #include <string.h>
 
 #define XT_CONTROLLERS 2
+#define SEGMENTS 64
 #ifdef BY_CALLS
 static void put_text(long controller, const char *text);
 #define XT_PRINT(text) put_text(xt - xt_states, text)
@@ -42,26 +41,25 @@ static int xt_close(struct xt_state *xt)
 
 int main(int argc, char **argv)
 {
-	static const uint64_t bases[2] = { 0x20000, 0x21000 };
-	static const uint16_t trbs[2] = { 16, 16 };
+	static uint64_t bases[SEGMENTS];
+	static uint16_t trbs[SEGMENTS];
 	static const uint32_t td[4] = { 0, 0, 0, 0x2401 };
 	struct xt_state *first = &xt_states[0], *second = &xt_states[1];
 	volatile uint32_t word;
-	int how, i;
+	int i;
 
-	if (argc != 4 || xt_open(first, argv[2], 32) || xt_open(second, argv[3], 64))
+	for (i = 0; i < SEGMENTS; i++) {
+		bases[i] = 0x20000 + 0x1000 * (uint64_t)i;
+		trbs[i] = 16;
+	}
+	if (argc != 3 || xt_open(first, argv[1], 32) || xt_open(second, argv[2], 64))
 		return 1;
-	how = atoi(argv[1]);
 	xt_ring(second, 0, "cmd", 0x10000, 16);
 	xt_reg(first, "dcbaap", 0x50000, word = 1);
 	xt_ring(first, 2, "xfer", 0x30000, 4);
-	if (how == 2)
-		xt_zero32(first, 0x40000, 400);
 	xt_ring(first, 0, "cmd", 0x10000, 16);
 	xt_store32(first, &word, 0x100f0, 0x10000);
-	if (how == 1)
-		xt_reg(first, "usbcmd", 1, word = 2);
-	xt_ring_segments(first, 1, "evt", 2, bases, trbs);
+	xt_ring_segments(first, 1, "evt", SEGMENTS, bases, trbs);
 	for (i = 0; i < XT_CONTROLLERS; i++)
 		xt_store32(&xt_states[i], &word, 0x60000, (uint32_t)i);
 	xt_submit(second, 0, td, 1);

@@ -20,7 +20,7 @@ def read(path):
 
 
 def made(tool, program, *words):
-    return subprocess.run([os.path.join(TOP, 'tools', tool), *words, '--program', program], capture_output=True, timeout=120).stdout
+    return subprocess.run([os.path.join(TOP, 'tools', tool), *words, '--program', program], capture_output=True, timeout=600).stdout
 
 
 def needs_no_network(markup):

@@ -1,7 +1,8 @@
 """Traces of random drivers beside random controllers, picked by a seed.
 
 A driver makes one step after another: a command with its contexts, a descriptor, a write, a doorbell, an event, ERDP; from version 2
-on rings come and go besides, and descriptors are withdrawn, and in version 4 endpoints are isochronous. A row that breaks no rule, by the plain rules, stands in the trace. One that breaks a rule is dropped; the trace up to it is remembered.
+on rings come and go besides, and descriptors are withdrawn, and in version 4 endpoints are isochronous, and the controller is stopped, reset and runs again
+(drivers_of_runs.py). A row that breaks no rule, by the plain rules, stands in the trace. One that breaks a rule is dropped; the trace up to it is remembered.
 """
 import random
 
@@ -9,12 +10,13 @@ import contexts
 from blocks import (ADDRESS_DEVICE, CONFIGURE_ENDPOINT, COMMAND_COMPLETION, DATA_STAGE, DISABLE_SLOT, ENABLE_SLOT, EVALUATE_CONTEXT,
                     EVENT_DATA, ISOCH, LINK, NORMAL, NO_OP, NO_OP_COMMAND, RESET_DEVICE, RESET_ENDPOINT, SETUP_STAGE, SET_TR_DEQUEUE, STATUS_STAGE,
                     STOP_ENDPOINT, TRANSFER_EVENT, with_cycle)
+from drivers_of_runs import TABLES, DriverOfRuns
 from known import Known
 from rings import Ring, Segment, is_shape
 from rules import least_broken
-from trace import Comes, Declare, Doorbell, Event, Goes, Register, Trace, Withdraws, Write
+from trace import Comes, Declare, Doorbell, Event, Goes, Read, Register, Trace, Withdraws, Write
 
-ARRAY, TABLE, INPUT_CONTEXTS, DEVICE_CONTEXTS = 0x50000, 0x40000, 0x60000, 0x70000
+ARRAY, TABLE, INPUT_CONTEXTS, DEVICE_CONTEXTS = 0x50000, TABLES[0], 0x60000, 0x70000
 SLOTS = (1, 2)
 COMMANDS = [ENABLE_SLOT, ADDRESS_DEVICE, CONFIGURE_ENDPOINT, EVALUATE_CONTEXT, STOP_ENDPOINT, SET_TR_DEQUEUE, RESET_ENDPOINT,
             RESET_DEVICE, DISABLE_SLOT, NO_OP_COMMAND]
@@ -43,7 +45,7 @@ def halves(number):
     return number & 0xffffffff, number >> 32
 
 
-class Driver:
+class Driver(DriverOfRuns):
     def __init__(self, seed, unmade):
         self.pick = random.Random(seed)
         self.unmade = unmade
@@ -62,6 +64,27 @@ class Driver:
         events = [16] * self.pick.choice([1, 1, 2])
         transfers = [ring(number, 'xfer', 0x100000 + 0x10000 * number, counts()) for number in range(2, self.pick.choice([5, 8, 12]))]
         return [ring(0, 'cmd', 0x10000, counts()), ring(1, 'evt', 0x20000, events), *transfers]
+
+    def ring_there(self, kind):
+        """The ring of a kind; where there is none the step ends."""
+        ring = self.known.ring_of_kind(kind)
+        if ring is None:
+            raise Dropped
+        return ring
+
+    def one_of(self, rings):
+        """Some ring; where there is none the step ends."""
+        if not rings:
+            raise Dropped
+        return self.pick.choice(rings)
+
+    @property
+    def command_ring(self):
+        return self.ring_there('cmd')
+
+    @property
+    def event_ring(self):
+        return self.ring_there('evt')
 
     def make(self, row):
         """The row comes next, if it breaks no rule, and is one that this driver makes."""
@@ -101,19 +124,11 @@ class Driver:
     # ---- the set-up
 
     def start(self):
-        segments = self.known.event_segments
-        for i, segment in enumerate(segments):
-            self.write(TABLE + 16 * i, *halves(segment.base), segment.count)
         if self.trace.version >= 3 and self.pick.random() < 0.3:
-            self.make(Register('erstsz', self.pick.choice([0, len(segments), len(segments) + 1])))
-            self.make(Register('erdp', self.pick.choice([0, 8, segments[0].base, TABLE])))
-        self.make(Register('erstsz', len(segments)))
-        self.make(Register('erstba', TABLE))
-        self.make(Register('erdp', segments[0].base))
-        self.make(Register('crcr', self.known.command_ring.address(0) + 1))
-        if self.pick.random() < 0.95:
-            self.make(Register('dcbaap', self.array))
-        self.make(Register('config', 8))
+            ring = self.event_ring
+            self.make(Register('erstsz', self.pick.choice([0, len(ring.segments), len(ring.segments) + 1])))
+            self.make(Register('erdp', self.pick.choice([0, 8, ring.address(0), TABLE])))
+        self.set_up()
         self.make(Register('usbcmd', 1))
 
     # ---- giving what is declared
@@ -156,7 +171,7 @@ class Driver:
             self.make(Write(address + 4 * i, word))
 
     def give_some(self):
-        self.give(self.pick.choice(self.known.driver_rings))
+        self.give(self.one_of(self.known.driver_rings))
 
     # ---- commands
 
@@ -164,7 +179,7 @@ class Driver:
         slot, endpoint = self.some_enabled_endpoint() if self.pick.random() < 0.5 else (self.pick.choice(SLOTS), self.some_endpoint())
         self.declare_command(self.some_kind(slot, endpoint), slot, endpoint)
         if self.pick.random() < 0.9:
-            self.give(self.known.command_ring)
+            self.give(self.command_ring)
         if self.pick.random() < 0.9:
             self.make(Doorbell(0, 0))
         if self.pick.random() < 0.5:
@@ -181,7 +196,7 @@ class Driver:
         if kind == ADDRESS_DEVICE and self.known.device(slot) is None:
             self.write(self.array + 8 * slot, *halves(self.some_address(DEVICE_CONTEXTS, 64)))
         low = kind << 10 | option << 9 | slot << 24 | (endpoint << 16 if kind in (STOP_ENDPOINT, SET_TR_DEQUEUE, RESET_ENDPOINT) else 0)
-        self.make(Declare(0, ((*halves(number), 0, low),)))
+        self.make(Declare(self.command_ring.number, ((*halves(number), 0, low),)))
 
     def suspend(self):
         """Endpoint commands of a slot side by side, with one doorbell, as a driver gives them that suspends a device; then their ends."""
@@ -192,7 +207,7 @@ class Driver:
             self.declare_command(self.pick.choice(FITTING[self.known.endpoint_state(slot, index)]), slot, index)
         if self.pick.random() < 0.1:
             self.declare_command(self.pick.choice(COMMANDS), slot, self.some_endpoint())
-        self.give_all(self.known.command_ring)
+        self.give_all(self.command_ring)
         self.make(Doorbell(0, 0))
         for index in endpoints[:self.pick.choice([0, 1, 3, 3])]:
             if self.pick.random() < 0.5:
@@ -218,7 +233,7 @@ class Driver:
     def finish_all(self):
         """Mostly what is declared on the command ring is given, and the completions of all commands are read."""
         if self.pick.random() < 0.8:
-            self.try_step(lambda driver: driver.give_all(driver.known.command_ring))
+            self.try_step(lambda driver: driver.give_all(driver.command_ring))
             self.try_step(lambda driver: driver.make(Doorbell(0, 0)))
             for _ in 2 * self.known.unfinished_positions:
                 self.try_step(lambda driver: driver.completion([1, 1, 1, 1, 1, 11]))
@@ -226,7 +241,7 @@ class Driver:
 
     def whole_command(self, kind, slot, index):
         self.declare_command(kind, slot, index)
-        self.give_all(self.known.command_ring)
+        self.give_all(self.command_ring)
         self.make(Doorbell(0, 0))
         if self.pick.random() < 0.9:
             self.try_step(Driver.stopped)
@@ -257,7 +272,7 @@ class Driver:
 
     def some_target(self, slot, endpoint):
         """A pointer and a cycle state on the endpoint's ring."""
-        ring = self.known.ring_of(slot, endpoint) or self.pick.choice(self.known.driver_rings)
+        ring = self.known.ring_of(slot, endpoint) or self.one_of(self.known.driver_rings)
         spots = ring.spots(self.known.floor(ring).number, self.known.declared(ring))
         spot = self.pick.choice(spots)
         return ring.spot_address(spot) | ring.spot_cycle(spot)
@@ -293,13 +308,13 @@ class Driver:
                 spots = ring.spots(self.known.floor(ring).number, self.known.ceiling(ring))
                 return self.standing(ring, self.known.floor(ring) if self.pick.random() < 0.7 else self.pick.choice(spots))
         unused = [ring for ring in self.known.rings if ring.kind == 'xfer' and not self.known.was_bound(ring)]
-        return self.pick.choice(unused or self.known.driver_rings).address(0) | 1
+        return self.one_of(unused or self.known.driver_rings).address(0) | 1
 
     # ---- descriptors, doorbells, writes
 
     def descriptor(self):
         used = [ring for ring in self.known.rings if ring.kind == 'xfer' and self.known.was_bound(ring)]
-        ring = self.pick.choice(used or self.known.driver_rings) if self.pick.random() < 0.9 else self.pick.choice(self.known.rings)
+        ring = self.one_of(used or self.known.driver_rings) if self.pick.random() < 0.9 else self.one_of(self.known.rings)
         self.declare_some(ring)
         if self.pick.random() < 0.8:
             self.give(ring)
@@ -317,7 +332,7 @@ class Driver:
 
     def stray_write(self):
         """A word of a block, a context, the array or the table."""
-        ring = self.pick.choice(self.known.rings)
+        ring = self.one_of(self.known.rings)
         context = 0x1000 * self.pick.randrange(3)
         areas = [self.pick.choice(ring.places), self.array, TABLE, INPUT_CONTEXTS + context, DEVICE_CONTEXTS + context]
         address = self.pick.choice(areas) + 4 * self.pick.randrange(8)
@@ -332,10 +347,10 @@ class Driver:
     # ---- events
 
     def event(self, number, code, low):
-        self.make(Event((*halves(number), code << 24, low | self.known.event_ring.cycle(self.known.reads))))
+        self.make(Event((*halves(number), code << 24, low | self.event_ring.cycle(self.known.reads))))
 
     def completion(self, codes=(*[1] * 9, 11)):
-        ring = self.known.command_ring
+        ring = self.command_ring
         command = self.known.command_at(self.known.next_command)
         slot = command.slot if command and command.type != ENABLE_SLOT else self.pick.choice(SLOTS)
         self.event(ring.address(self.known.next_command), self.pick.choice(codes), COMMAND_COMPLETION << 10 | slot << 24)
@@ -361,7 +376,7 @@ class Driver:
         if not found():
             self.enable_endpoints(5)
         slot, index = self.pick.choice(found() or [self.some_enabled_endpoint()])
-        ring = self.known.ring_of(slot, index) or self.pick.choice(self.known.driver_rings)
+        ring = self.known.ring_of(slot, index) or self.one_of(self.known.driver_rings)
         for _ in range(self.pick.randrange(4)):
             self.try_step(lambda driver: driver.declare_form(ring, driver.pick.choice(FORMS_OF_FOUR)))
         self.try_step(lambda driver: driver.give_all(ring))
@@ -384,7 +399,7 @@ class Driver:
     def read_on(self):
         """ERDP goes to some event position up to the next one."""
         position = self.pick.choice([self.known.reads, self.pick.randint(self.known.dequeue, self.known.reads + 1)])
-        self.make(Register('erdp', self.known.event_ring.address(position) | self.pick.choice([0, 8])))
+        self.make(Register('erdp', self.event_ring.address(position) | self.pick.choice([0, 8])))
 
     # ---- descriptors that are withdrawn
 
@@ -392,7 +407,7 @@ class Driver:
         """An endpoint is stopped while it has work, mostly; of its ring descriptors are withdrawn, and mostly No Ops put there; then it is rung, or its ring moved."""
         self.finish_all()
         slot, index = self.some_endpoint_with_work() if self.pick.random() < 0.9 else self.some_enabled_endpoint()
-        ring = self.known.ring_of(slot, index) or self.pick.choice(self.known.rings)
+        ring = self.known.ring_of(slot, index) or self.one_of(self.known.rings)
         if self.known.endpoint_state(slot, index) == 'Running':
             for _ in range(self.pick.randrange(4)):
                 self.try_step(lambda driver: driver.declare_some(ring))
@@ -410,7 +425,7 @@ class Driver:
     def command_beside(self, slot, index):
         """A command that touches an endpoint stays unfinished."""
         self.declare_command(self.pick.choice([SET_TR_DEQUEUE, SET_TR_DEQUEUE, DISABLE_SLOT, RESET_DEVICE, CONFIGURE_ENDPOINT]), slot, index)
-        self.give_all(self.known.command_ring)
+        self.give_all(self.command_ring)
 
     def some_endpoint_with_work(self):
         """One that runs or is stopped, where there is one, or can be made one."""
@@ -477,14 +492,19 @@ class Driver:
 
     def ring_comes(self):
         """A ring with a new number, mostly in memory of one that is gone, or in none's; mostly that is cleared."""
-        ring = Ring(1 + max(ring.number for ring in self.trace.ever), 'xfer', self.some_segments())
-        if not is_shape(ring) or ring.number > 255:
-            raise Dropped
+        ring = self.new_ring('xfer', self.some_segments())
         for segment in ring.segments if self.pick.random() < 0.9 else []:
             for control in range(segment.base + 12, segment.base + 16 * segment.count, 16):
                 if self.known.word(control) % 2 == 1 and self.pick.random() < 0.95:
                     self.make(Write(control, self.pick.choice([0, self.known.word(control) ^ 1])))
         self.make(Comes(ring))
+
+    def new_ring(self, kind, segments):
+        """With a number that none had; the step ends where no line can say it."""
+        ring = Ring(1 + max(ring.number for ring in self.trace.ever), kind, segments)
+        if not is_shape(ring) or ring.number > 255 or any(segment.base >> 64 for segment in segments):
+            raise Dropped
+        return ring
 
     def some_segments(self):
         gone = [ring for ring in self.trace.ever if ring not in self.known.rings]
@@ -543,7 +563,7 @@ class Driver:
             self.event(ring.address(self.known.given_count(ring) - 1), 1, TRANSFER_EVENT << 10 | slot << 24 | index << 16)
 
     def read_all(self):
-        self.make(Register('erdp', self.known.event_ring.address(self.known.reads) | 8))
+        self.make(Register('erdp', self.event_ring.address(self.known.reads) | 8))
 
     # ---- all of it
 
@@ -553,6 +573,7 @@ class Driver:
     STEPS_OF_TWO = [(cancel, 40), (replace_ring, 16), (ring_goes, 2), (ring_comes, 6)]
     STEPS_OF_THREE = [(suspend, 14), (bind_anew, 30)]
     STEPS_OF_FOUR = [(play, 40)]
+    STEPS_OF_RUNS = [(DriverOfRuns.rest, 30), (DriverOfRuns.next_of_rest, 15), (DriverOfRuns.stray_register, 8), (DriverOfRuns.stray_ring, 4)]
 
     def try_step(self, step):
         """A step one of whose rows is dropped is mostly dropped whole."""
@@ -568,6 +589,8 @@ class Driver:
         if self.trace.version > 1 and self.pick.random() < 0.8:
             self.prepare()
         later = [self.STEPS_OF_TWO, self.STEPS_OF_THREE, self.STEPS_OF_FOUR][:self.trace.version - 1]
+        if self.trace.has_runs:
+            later.append(self.STEPS_OF_RUNS)
         for step in self.pick.choices(*zip(*self.STEPS, *(step for steps_of in later for step in steps_of)), k=steps):
             self.try_step(step)
 
@@ -577,8 +600,8 @@ def fields_of(row):
         return ['sub', '%02x' % row.ring, *('%08x' % word for block in row.blocks for word in block)]
     if isinstance(row, Write):
         return ['w', '%016x' % row.address, '%08x' % row.word]
-    if isinstance(row, Register):
-        return ['reg', row.name, '%016x' % row.value]
+    if isinstance(row, (Register, Read)):
+        return ['reg' if isinstance(row, Register) else 'rd', row.name, '%016x' % row.value]
     if isinstance(row, Doorbell):
         return ['db', '%02x' % row.slot, '%02x' % row.target]
     if isinstance(row, Comes):

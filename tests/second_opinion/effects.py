@@ -4,8 +4,9 @@ from blocks import (ADDRESS_DEVICE, CONFIGURE_ENDPOINT, COMMAND_COMPLETION, DISA
                     SET_TR_DEQUEUE, STOP_ENDPOINT, SUCCESS, TRANSFER_EVENT, aligned, code, endpoint, slot, type_of)
 from codes import ERROR, HALTED, PASSED, STOPPED, said_by
 from commands import adds_endpoints, slot_after_success
-from rings import Data, is_data
-from trace import Doorbell, Event, Register, Write
+from rings import is_data
+from runs import of_command, of_read
+from trace import Doorbell, Event, Read, Register, Write
 
 ALL_ENDPOINTS = range(32)
 ABOVE_CONTROL = range(2, 32)
@@ -16,6 +17,8 @@ def of_row(known, row):
         return of_write(known, row)
     if isinstance(row, Register):
         return of_register(known, row)
+    if isinstance(row, Read):
+        return of_read(known, row)
     if isinstance(row, Doorbell):
         return of_doorbell(known, row)
     if isinstance(row, Event) and type_of(row.block) == TRANSFER_EVENT:
@@ -37,19 +40,21 @@ def of_write(known, write):
 
 
 def of_register(known, row):
+    if row.name == 'usbcmd':
+        return of_command(known, row.value)
+    return of_erdp(known, row.value) if row.name == 'erdp' and known.event_ring else []
+
+
+def of_erdp(known, value):
     ring = known.event_ring
-    if row.name == 'erdp' and ring:
-        positions = range(known.dequeue, known.dequeue + ring.place_count)
-        named = [position for position in positions if ring.address(position) == aligned(row.value, 16)]
-        if named:
-            yield ('dequeue',), named[0]
+    positions = range(known.dequeue, known.dequeue + ring.place_count)
+    named = [position for position in positions if ring.address(position) == aligned(value, 16)]
+    if named:
+        yield ('dequeue',), named[0]
 
 
 def of_doorbell(known, row):
-    if row.slot == 0:
-        yield ('held', known.command_ring.number), None
-        return
-    ring = known.ring_of(row.slot, row.target)
+    ring = known.command_ring if row.slot == 0 else known.ring_of(row.slot, row.target)
     if ring:
         yield ('held', ring.number), None
         if known.endpoint_state(row.slot, row.target) == 'Stopped':
@@ -90,7 +95,8 @@ def of_completion(known, block):
     if command and command.type == STOP_ENDPOINT:
         yield ('stop seen', command.slot, command.endpoint), False
     ring = known.command_ring
-    yield ('floor', ring.number), ring.after(known.next_command)
+    if ring:
+        yield ('floor', ring.number), ring.after(known.next_command)
 
 
 def of_success(known, command, slot_of_event):

@@ -12,7 +12,7 @@ def is_in_profile(known, block):
 
 def may_be_taken(known):
     """The controller may have come to the next command."""
-    return known.next_command < known.ceiling(known.command_ring)
+    return known.command_ring is not None and known.next_command < known.ceiling(known.command_ring)
 
 
 def is_possible_stop(known, ring, spot, number, index):

@@ -6,9 +6,9 @@ then. What was answered once is kept; nothing else is.
 from functools import cached_property, lru_cache, wraps
 
 import effects
-from blocks import endpoint, pointer, slot
+import runs
+from blocks import NO_OP, SET_TR_DEQUEUE, endpoint, is_set, pointer, slot
 from commands import command_of
-from blocks import NO_OP, SET_TR_DEQUEUE
 from rings import Data, RingList
 from trace import Comes, Declare, Doorbell, Event, Goes, Register, Withdraws, Write
 
@@ -119,8 +119,10 @@ class Known(RingList):
 
     @carried({})
     def facts(self, facts):
-        """What the rows told last, by the facts."""
+        """What the rows told last, by the facts: since the last reset, of most."""
         told = self.previous.told_by(self.row)
+        if self.previous.is_reset(self.row):
+            facts = {fact: value for fact, value in facts.items() if fact[0] in runs.OF_RINGS}
         return {**facts, **dict(told)} if told else facts
 
     def last(self, fact, otherwise):
@@ -132,36 +134,47 @@ class Known(RingList):
     @carried({})
     def registers(self, values):
         row = self.row
+        if self.previous.is_reset(row):
+            return {}
+        if isinstance(row, Goes) and self.trace.has_runs and self.previous.is_command_ring(row.ring):
+            return {name: value for name, value in values.items() if name != 'crcr'}
         return {**values, row.name: row.value} if isinstance(row, Register) else values
 
+    def is_command_ring(self, number):
+        return self.command_ring is not None and self.command_ring.number == number
+
     def register(self, name):
-        """The last value written; None where none was."""
+        """The last value written; None where none was since the last reset, to CRCR since the command ring came that is there."""
         return self.registers().get(name)
 
     def is_written(self, name):
         return self.register(name) is not None
 
-    def is_start(self, row):
-        return isinstance(row, Register) and row.name == 'usbcmd' and row.value & 3 == 1
-
-    def is_stop(self, row):
-        return isinstance(row, Register) and row.name == 'usbcmd' and row.value & 3 != 1 and self.is_started
-
-    @carried(False)
-    def was_started(self, was):
-        return was or self.previous.is_start(self.row)
-
-    @carried(False)
-    def was_stopped(self, was):
-        return was or self.previous.is_stop(self.row)
+    # ---- runs of the controller
 
     @property
     def is_started(self):
-        return self.was_started()
+        return self.last(('started',), False)
 
     @property
     def is_stopped(self):
-        return self.was_stopped()
+        """It was stopped or reset, in a version in which it doesn't run again."""
+        return self.last(('stopped',), False)
+
+    @property
+    def is_halting(self):
+        """In a run R/S 0 was written."""
+        return self.last(('halting',), False)
+
+    @property
+    def is_halted(self):
+        """It is known to have halted."""
+        return self.last(('halted',), False)
+
+    def is_reset(self, row):
+        """The row ends a run by a reset."""
+        is_written = isinstance(row, Register) and row.name == 'usbcmd' and is_set(row.value, runs.RESET)
+        return is_written and self.trace.has_runs and self.is_started and self.is_halted
 
     @carried(Memory({}))
     def memory(self, memory):
@@ -322,10 +335,10 @@ class Known(RingList):
     @property
     def next_command(self):
         """The position of the command that is finished next."""
-        return self.floor(self.command_ring).number
+        return self.floor(self.command_ring).number if self.command_ring else 0
 
     def command_at(self, position):
-        queue = self.queue(self.command_ring)
+        queue = self.queue(self.command_ring) if self.command_ring else []
         return command_of(queue[position]) if position < len(queue) else None
 
     @cached_property
@@ -413,12 +426,19 @@ class Known(RingList):
     @carried(frozenset())
     def soiled(self, soiled):
         """The words that the controller may have changed, and that the driver hasn't written since."""
+        if isinstance(self.row, Goes) and self.trace.has_runs:
+            return soiled.union(self.previous.event_words(self.row.ring))
         if not isinstance(self.row, Write):
             return soiled
         taken = self.previous.taken_device(self.row)
         words = range(taken[1] + -taken[1] % 4, taken[1] + self.trace.device_context_bytes, 4) if taken else []
         is_changed = taken or self.row.address in soiled
         return soiled.difference([self.row.address]).union(words) if is_changed else soiled
+
+    def event_words(self, number):
+        """The words of the event ring, where that has this number."""
+        ring = self.event_ring
+        return [word for place in ring.places for word in range(place, place + 16, 4)] if ring and ring.number == number else []
 
     def is_soiled(self, address):
         return address in self.soiled()
@@ -427,7 +447,8 @@ class Known(RingList):
 
     @carried(0)
     def events_read(self, count):
-        return count + isinstance(self.row, Event)
+        """Since the last reset."""
+        return 0 if self.previous.is_reset(self.row) else count + isinstance(self.row, Event)
 
     @property
     def reads(self):

@@ -1,4 +1,5 @@
-"""The lazy schedule of rows: all of them, and directly before each event that is read the looks that it needs, and its post (xHCI 4.6.9, 4.9.2, 4.9.4).
+"""The lazy schedule of rows: all of them, and directly before each event that is read the looks that it needs, and its post; and before the read that sees the
+controller halted, that it halts (xHCI 4.6.9, 4.9.2, 4.9.4, 5.4.2).
 
 By hand: lazy.py TRACE prints what `xhcitrace schedule` must print of an accepted trace.
 """
@@ -9,7 +10,7 @@ from codes import OF_SERVICE, PASSED, STOPPED, said_by
 from controller import posted
 from known import histories
 from rings import Data, is_data
-from trace import Comes, Doorbell, Event, Goes, read_trace
+from trace import Comes, Doorbell, Event, Goes, Read, read_trace
 
 
 def is_event(row, kind):
@@ -21,6 +22,11 @@ def placed_by(known, row):
     if not is_event(row, COMMAND_COMPLETION) or code(row.block) != SUCCESS:
         return {}
     return {fact[1]: spot for fact, spot in known.told_by(row) if fact[0] == 'floor' and fact[1] != known.command_ring.number}
+
+
+def sees_halt(known, row):
+    """The row is the first in its halt that reads the controller halted."""
+    return isinstance(row, Read) and not known.is_halted and (('halted',), True) in known.told_by(row)
 
 
 def ends_need(known, row, number):
@@ -115,7 +121,8 @@ def lazy(trace, histories, count):
     for place, (known, row) in enumerate(rows):
         for ring, spot in goals(known, row, rows[place + 1:]):
             steps += pointers.looks(ring, spot)
-        steps += [posted(row.block), 'row'] if isinstance(row, Event) else ['row']
+        steps += [posted(row.block)] if isinstance(row, Event) else ['halt'] if sees_halt(known, row) else []
+        steps.append('row')
         pointers.follow(known, row)
     return steps
 

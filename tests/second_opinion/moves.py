@@ -2,7 +2,7 @@
 import contexts
 from blocks import ADDRESS_DEVICE
 from effects import disabled_by
-from rings import is_data
+from standing import spots_named
 
 
 def bindings_of(known, command):
@@ -42,16 +42,9 @@ def is_bad_binding(known, command):
     return len(set(rings)) != len(rings) or any(is_bad_place(known, command, *at) for at in zip(rings, bindings_of(known, command)))
 
 
-def is_reached(known, ring, spot):
-    """Everything before the spot was given; for a block the crossing to it too."""
-    ways = range(1, spot.number + 1 if is_data(spot) else spot.number)
-    return all(known.is_given(ring, p) for p in range(spot.number)) and all(known.is_way_given(ring, q) for q in ways)
-
-
 def is_move(known, ring, binding, least, most):
     """Pointer and cycle state name a spot, with a number from least to most, to which the ring may be moved."""
-    named = [spot for spot in ring.spots(least, most) if (ring.spot_address(spot), ring.spot_cycle(spot)) == binding]
-    return any(known.is_border(ring, spot.number) and is_reached(known, ring, spot) for spot in named)
+    return bool(spots_named(known, ring, binding, least, most))
 
 
 def is_bad_dequeue(known, command):

@@ -87,8 +87,8 @@ def withdrawn_lines(trace, count, ring):
 
 
 def use_of(use):
-    if use == 'segment table':
-        return 'Event Ring Segment Table'
+    if use in ('event segment', 'segment table'):
+        return {'event segment': 'segment of the Event Ring', 'segment table': 'Event Ring Segment Table'}[use]
     kind, number = use
     return {'input context': 'Input Context', 'slot entry': f'entry of slot {number} in the DCBAA',
             'device context': f'Device Context of slot {number}'}[kind]
@@ -98,15 +98,23 @@ def range_lines(leased):
     told = []
     for line, what in leased:
         if what.kind == 2:
-            given = '(from the beginning): segment of the Event Ring' if line == 0 else f'(row {line}): {use_of(what.use)}'
-            told.append(f'  {what.address:016x}, {what.length} bytes {given}')
+            given = 'from the beginning' if line == 0 else f'row {line}'
+            told.append(f'  {what.address:016x}, {what.length} bytes ({given}): {use_of(what.use)}')
     return ['ranges under lease', *told] if told else ['ranges under lease: none']
 
 
 # ---- what is known
 
+def state_of(known):
+    if known.is_stopped:
+        return 'was stopped or reset'
+    if known.is_halting:
+        return 'is halted' if known.is_halted else 'halts'
+    return 'runs' if known.is_started else "isn't started"
+
+
 def controller_lines(known):
-    state = 'was stopped or reset' if known.is_stopped else 'runs' if known.is_started else "isn't started"
+    state = state_of(known)
     told = [f'{name.upper()} {known.register(name):0{16 if name in WIDE_REGISTERS else 8}x}' for name in REGISTERS if known.is_written(name)]
     lines = ['  '.join(told[i:i + 4]) for i in range(0, len(told), 4)] or ['none is written']
     return [f'controller: {state}', f'registers: {lines[0]}', *(f'           {line}' for line in lines[1:])]

@@ -1,6 +1,10 @@
-"""Which values of a register are wrong in the set-up of a controller (xHCI 4.2, 5.4.1, 5.4.5, 5.5.2.3, 6.5)."""
+"""Which values of a register are wrong in the set-up of a controller, and where it halted (xHCI 4.2, 4.23.2, 5.4.1, 5.4.5, 5.5.2.3, 6.5)."""
 from areas import is_bad_area
 from blocks import aligned, bits, is_set
+from events import may_be_taken
+from runs import RESET, RUN
+
+SET_UP = ('crcr', 'dcbaap', 'config', 'erstsz', 'erstba', 'erdp')
 
 
 def is_right_size(known, value):
@@ -13,21 +17,39 @@ def is_event_ring_named(known):
     return ring is not None and is_right_size(known, known.register('erstsz')) and aligned(known.register('erdp'), 16) == ring.address(0)
 
 
-def is_bad_usbcmd(known, value):
-    """A reset after registers were set up; the start before they all are, or with the event ring named wrongly."""
-    if known.is_started:
-        return False
-    if is_set(value, 1):
-        return any(known.is_written(name) for name in ('crcr', 'dcbaap', 'config', 'erstsz', 'erstba', 'erdp'))
-    if not is_set(value, 0):
-        return False
+def is_late_reset(known):
+    return any(known.is_written(name) for name in SET_UP)
+
+
+def is_early_start(known):
+    """Not all is set up, or the event ring is named wrongly."""
     return not all(known.is_written(name) for name in ('crcr', 'erstsz', 'erstba', 'erdp')) or not is_event_ring_named(known)
 
 
-def is_bad_crcr(known, value):
-    """The pointer isn't the command ring's first block, RCS isn't 1, or CS or CA is."""
+def has_gap(known):
+    """Behind a block of the command ring that wasn't given one was."""
     ring = known.command_ring
-    return ring is None or aligned(value, 64) != ring.address(0) or bits(value, 0, 3) != 1
+    return ring is not None and any(p >= known.given_count(ring) for p in known.given_and_due(ring))
+
+
+def may_go_on(known):
+    """A halting controller is known to have halted, CRCR names the command ring that is there, and nothing of it may be taken that isn't finished."""
+    return known.is_halted and known.is_written('crcr') and not may_be_taken(known)
+
+
+def is_bad_usbcmd(known, value):
+    """A reset or a start comes too early or too late."""
+    if is_set(value, RESET):
+        return is_late_reset(known) if not known.is_started else known.trace.has_runs and (not known.is_halted or has_gap(known))
+    if not is_set(value, RUN):
+        return False
+    return is_early_start(known) if not known.is_started else known.is_halting and not may_go_on(known)
+
+
+def is_bad_crcr(known, value):
+    """The pointer isn't the first block of a command ring whose doorbell wasn't rung, RCS isn't 1, or CS or CA is."""
+    ring = known.command_ring
+    return ring is None or aligned(value, 64) != ring.address(0) or bits(value, 0, 3) != 1 or known.held(ring) != 0
 
 
 def is_bad_erstsz(known, value):
@@ -49,3 +71,15 @@ def is_bad_erstba(known, value):
     is_sized = known.is_written('erstsz') and is_right_size(known, known.register('erstsz'))
     is_in_turn = is_sized and not known.is_written('erstba')
     return not is_in_turn or is_bad_area(known, base, 16 * len(segments)) or not lists(known, base, segments)
+
+
+TESTS = {'crcr': is_bad_crcr, 'erstsz': is_bad_erstsz, 'erstba': is_bad_erstba}
+
+
+def is_bad_set_up(known, name, value):
+    """A register of the set-up, but ERDP, is written in a run that isn't known to have halted, with a wrong value, or while halted with another than stands."""
+    if known.is_started and not known.is_halted:
+        return True
+    if known.is_started and name != 'crcr':
+        return known.register(name) != value
+    return name in TESTS and TESTS[name](known, value)

@@ -1,6 +1,7 @@
 """Where a ring may come, where one may go, and which descriptors may be withdrawn (xHCI 4.6.9, 4.6.10, 4.9, 4.11.5.1)."""
 from areas import is_in_range_lease, is_soiled
 from blocks import with_cycle
+from events import may_be_taken
 from given_commands import changes_endpoint
 from moves import is_being_bound
 
@@ -16,9 +17,27 @@ def is_bad_segment(known, segment):
             or shows_first_lap(known, segment))
 
 
+def may_come(known, kind):
+    """A transfer ring; or, where the controller has none of this kind, an event ring while it isn't started, a command ring also while it is known halted."""
+    if kind == 'xfer':
+        return True
+    return known.ring_of_kind(kind) is None and (not known.is_started or kind == 'cmd' and known.is_halted)
+
+
 def may_go(known, ring):
-    """A transfer ring that no endpoint has, and that no unfinished command binds."""
-    return ring is not None and ring.kind == 'xfer' and not known.endpoints_with(ring) and not is_being_bound(known, ring)
+    """A transfer ring that no endpoint has, and that no unfinished command binds; or one that the controller doesn't use."""
+    if ring is None:
+        return False
+    if ring.kind == 'xfer':
+        return not known.endpoints_with(ring) and not is_being_bound(known, ring)
+    return known.trace.has_runs and is_out_of_use(known, ring)
+
+
+def is_out_of_use(known, ring):
+    """An event ring before ERSTSZ tells of it; a command ring without a run, or where the controller is known to have halted and all commands are finished."""
+    if ring.kind == 'evt':
+        return not known.is_started and not known.is_written('erstsz')
+    return not known.is_started or known.is_halted and not may_be_taken(known)
 
 
 def has_stopped(known, ring):

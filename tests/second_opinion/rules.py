@@ -5,9 +5,10 @@ from events import is_impossible_completion, is_impossible_transfer, is_in_profi
 from given_commands import adds_left_out_endpoint, changes_endpoint, is_in_the_way, is_refused, moves_ring
 from leases import device_contexts, event_segments, is_touched, open_leases
 from moves import is_bad_binding, is_bad_dequeue, is_bad_stay, is_being_bound
-from registers import is_bad_crcr, is_bad_erstba, is_bad_erstsz, is_bad_usbcmd
-from rings_that_come import flips_passed, has_stopped, is_bad_segment, is_left, may_be_withdrawn, may_go
-from trace import Comes, Declare, Doorbell, Event, Goes, Register, Withdraws, Write
+from registers import SET_UP, is_bad_set_up, is_bad_usbcmd
+from rings_that_come import flips_passed, has_stopped, is_bad_segment, is_left, may_be_withdrawn, may_come, may_go
+from runs import HALTED
+from trace import Comes, Declare, Doorbell, Event, Goes, Read, Register, Withdraws, Write
 
 
 # ---- what a write gives
@@ -85,10 +86,7 @@ def bad_register(known, row):
     """A set-up register is written too late, too early, with a wrong value or, before version 3, twice."""
     if row.name == 'usbcmd':
         return is_bad_usbcmd(known, row.value)
-    tests = {'crcr': is_bad_crcr, 'erstsz': is_bad_erstsz, 'erstba': is_bad_erstba}
-    if row.name in ('dcbaap', 'config', *tests) and known.is_started:
-        return True
-    return row.name in tests and tests[row.name](known, row.value)
+    return row.name in SET_UP and row.name != 'erdp' and is_bad_set_up(known, row.name, row.value)
 
 
 def bad_erdp(known, row):
@@ -114,8 +112,8 @@ def is_bad_bell(known, number, index):
 
 
 def bad_doorbell(known, row):
-    """Before the start, for a target that there is none, or for an endpoint that may not be rung now."""
-    if not known.is_started:
+    """Outside of a run, for a target that there is none, or for an endpoint that may not be rung now."""
+    if not known.is_started or known.is_halting:
         return True
     return row.target != 0 if row.slot == 0 else is_bad_bell(known, row.slot, row.target)
 
@@ -176,11 +174,11 @@ def impossible_event(known, row):
 # ---- 24: all rows
 
 def after_stop(known, row):
-    """The controller was stopped or reset by an earlier row."""
+    """The controller was stopped or reset by an earlier row, and doesn't run again."""
     return known.is_stopped
 
 
-# ---- 32 to 35: descriptors that are withdrawn, rings that come and go
+# ---- 32 to 36: descriptors that are withdrawn, rings that come and go, registers that are read
 
 def bad_withdraw(known, row):
     """No endpoint that has the ring has stopped; or no descriptor may be withdrawn there."""
@@ -195,13 +193,23 @@ def not_restored(known, row):
 
 
 def bad_free(known, row):
-    """No transfer ring that is there, or one that an endpoint has or an unfinished command binds, goes."""
+    """No ring that is there, or one that an endpoint has, an unfinished command binds, or the controller uses, goes."""
     return not may_go(known, known.ring(row.ring))
 
 
 def bad_ring(known, row):
-    """A segment of a ring that comes touches a ring that is there or what is leased, has a soiled word, or shows the first lap's Cycle bit."""
-    return any(is_bad_segment(known, segment) for segment in row.ring.segments)
+    """A segment of a ring that comes touches a ring that is there or what is leased, has a soiled word, or shows the first lap's Cycle bit; or the controller
+    has another ring of this kind, or runs."""
+    return not may_come(known, row.ring.kind) or any(is_bad_segment(known, segment) for segment in row.ring.segments)
+
+
+def impossible_read(known, row):
+    """HCHalted shows 1 while the controller runs, or 0 where it isn't started or known to have halted."""
+    if row.name != 'usbsts':
+        return False
+    if is_set(row.value, HALTED):
+        return known.is_started and not known.is_halting
+    return not known.is_started or known.is_halted
 
 
 # ---- all rules, by the numbers that are printed
@@ -209,7 +217,7 @@ def bad_ring(known, row):
 RULES = {
     10: write_to_owned, 11: not_as_submitted, 12: not_declared, 13: not_whole, 14: link_fault, 15: ring_full, 16: bad_descriptor,
     17: bad_register, 18: bad_doorbell, 19: bad_command, 20: busy, 21: impossible_event, 22: bad_erdp, 23: not_in_profile,
-    24: after_stop, 25: bad_move, 32: bad_withdraw, 33: not_restored, 34: bad_free, 35: bad_ring,
+    24: after_stop, 25: bad_move, 32: bad_withdraw, 33: not_restored, 34: bad_free, 35: bad_ring, 36: impossible_read,
 }
 
 # those of each kind of row, in ascending order: one may rest on those before it
@@ -222,6 +230,7 @@ RULES_OF = {
     Withdraws: [32],
     Goes: [34],
     Comes: [35],
+    Read: [36],
 }
 
 

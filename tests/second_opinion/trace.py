@@ -10,6 +10,9 @@ FAULTS = {1: 'Header', 2: 'Row', 3: 'Number', 4: 'Limit', 5: 'Shape'}
 
 MOST_LINES, MOST_BYTES, MOST_BLOCKS = 1 << 20, 1 << 14, 256
 
+# the first version in which the controller halts, is reset and runs again
+FIRST_WITH_RUNS = 4
+
 
 @dataclass(frozen=True)
 class Declare:
@@ -30,6 +33,13 @@ class Register:
 
 
 @dataclass(frozen=True)
+class Read:
+    """The driver read a register."""
+    name: str
+    value: int
+
+
+@dataclass(frozen=True)
 class Doorbell:
     slot: int
     target: int
@@ -42,7 +52,7 @@ class Event:
 
 @dataclass(frozen=True)
 class Comes:
-    """A transfer ring that is there from this row on."""
+    """A ring that is there from this row on."""
     ring: Ring
 
 
@@ -88,6 +98,11 @@ class Trace(RingList):
         return self.version >= 4
 
     @property
+    def has_runs(self):
+        """The controller halts, is reset and runs again."""
+        return self.version >= FIRST_WITH_RUNS
+
+    @property
     def ever(self):
         """All rings that are ever there, in the order of their lines."""
         return self.rings + [row.ring for row in self.rows if isinstance(row, Comes)]
@@ -114,8 +129,10 @@ def lines_of(text):
 
 
 def ring_kinds(version, is_begun):
-    """The kinds that a ring may have: behind a row only a transfer ring comes, and not in version 1."""
-    return RING_KINDS if not is_begun else {'xfer'} if version > 1 else set()
+    """The kinds that a ring may have: behind a row none comes in version 1, and only a transfer ring where the controller runs once."""
+    if not is_begun or version >= FIRST_WITH_RUNS:
+        return RING_KINDS
+    return {'xfer'} if version > 1 else set()
 
 
 def has_form(fields, version, is_begun):
@@ -123,8 +140,8 @@ def has_form(fields, version, is_begun):
     word, rest = fields[0], fields[1:]
     if word == 'sub':
         return len(rest) > 1 and len(rest[1:]) % 4 == 0
-    if word == 'reg':
-        return len(rest) == 2 and rest[0] in REGISTERS
+    if word in ('reg', 'rd'):
+        return len(rest) == 2 and rest[0] in REGISTERS and (word == 'reg' or version >= FIRST_WITH_RUNS)
     if word == 'ring':
         return len(rest) > 2 and rest[1] in ring_kinds(version, is_begun)
     if word in ('free', 'nop'):
@@ -171,8 +188,8 @@ def said_by(fields):
         return Declare(number(rest[0], 2), blocks_of(rest[1:]))
     if word == 'w':
         return Write(word_address(rest[0]), number(rest[1], 8))
-    if word == 'reg':
-        return Register(rest[0], register_value(rest[0], rest[1]))
+    if word in ('reg', 'rd'):
+        return (Register if word == 'reg' else Read)(rest[0], register_value(rest[0], rest[1]))
     if word == 'db':
         return Doorbell(number(rest[0], 2), number(rest[1], 2))
     if word == 'ev':

@@ -14,9 +14,9 @@ _xhcitrace() {
     bench) options='--seed --policy --errors --steps --out --help -h' ;;
     decode) options='--explain --help -h' ;;
     explain)
-      [ "$before" = --format ] || mapfile -t COMPREPLY < <(compgen -W '10 11 12 13 14 15 16 17 18 19 20 21 22 23 24 25 32 33 34 35 WriteToOwned NotAsSubmitted NotDeclared NotWhole
+      [ "$before" = --format ] || mapfile -t COMPREPLY < <(compgen -W '10 11 12 13 14 15 16 17 18 19 20 21 22 23 24 25 32 33 34 35 36 WriteToOwned NotAsSubmitted NotDeclared NotWhole
         LinkFault RingFull BadDescriptor BadRegister BadDoorbell BadCommand Busy ImpossibleEvent BadErdp NotInProfile AfterStop BadMove
-        BadWithdraw NotRestored BadFree BadRing 1 2 3 4 5 6 7 8 26 30 31 Header Row Number Limit Shape Magic Length Field NotGiven Memory
+        BadWithdraw NotRestored BadFree BadRing ImpossibleRead 1 2 3 4 5 6 7 8 26 30 31 Header Row Number Limit Shape Magic Length Field NotGiven Memory
         Device harm-1 harm-2 harm-3 harm-4 harm-5 harm-6 --format --help -h' -- "$word")
       [ "$before" = --format ] || return ;;
     help)

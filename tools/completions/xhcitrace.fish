@@ -54,6 +54,7 @@ complete -c xhcitrace -n '__fish_seen_subcommand_from explain' -a 32 -d BadWithd
 complete -c xhcitrace -n '__fish_seen_subcommand_from explain' -a 33 -d NotRestored
 complete -c xhcitrace -n '__fish_seen_subcommand_from explain' -a 34 -d BadFree
 complete -c xhcitrace -n '__fish_seen_subcommand_from explain' -a 35 -d BadRing
+complete -c xhcitrace -n '__fish_seen_subcommand_from explain' -a 36 -d ImpossibleRead
 complete -c xhcitrace -n '__fish_seen_subcommand_from explain' -a 1 -d Header
 complete -c xhcitrace -n '__fish_seen_subcommand_from explain' -a 2 -d Row
 complete -c xhcitrace -n '__fish_seen_subcommand_from explain' -a 3 -d Number

@@ -103,7 +103,12 @@ class Lines:
             controller.pass_over(step)
             if step is hidden[-1]:
                 told.append(Line(step.row, '..', f'{len(hidden)} more steps', is_step=True))
-        return told + [harm_line(step) for step in steps[-1:] if step.harm]
+        return told + [self.harm_line(step) for step in steps[-1:] if step.harm]
+
+    def harm_line(self, step):
+        is_nowhere = step.harm == 5 and not self.trace.has_event_ring(step.row)
+        told = standard.NO_EVENT_RING if is_nowhere else standard.HARMS[step.harm]
+        return Line(step.row, verdict=f'harm {step.harm}: {told}', is_step=True, is_bad=True)
 
     def of_step(self, step, controller):
         shown = controller.shown(step)
@@ -114,10 +119,6 @@ class Lines:
         text = shown.text if step.is_possible else f'isn\u2019t possible here: {shown.text}'
         tip = f'the controller, step {step.number}: {step.line}\n{text}'
         return Line(step.row, step.line, text, marks, tip, is_step=True, is_bad=bool(step.harm))
-
-
-def harm_line(step):
-    return Line(step.row, verdict=f'harm {step.harm}: {standard.HARMS[step.harm]}', is_step=True, is_bad=True)
 
 
 def place_text(place):

@@ -12,16 +12,20 @@ class Meanings:
 
     def of_row(self, number):
         word, *fields = self.trace.row(number).split()
-        tell = {'sub': self.submission, 'w': self.write, 'reg': self.register, 'db': self.doorbell, 'ev': self.event,
+        tell = {'sub': self.submission, 'w': self.write, 'reg': self.register, 'rd': self.reading, 'db': self.doorbell, 'ev': self.event,
                 'ring': self.coming, 'free': self.going, 'nop': self.withdrawal}[word]
         return tell(number, fields)
 
     def coming(self, number, fields):
         count = len(fields) - 2
-        return f'ring {fields[0]} comes, of {count} segment{"" if count == 1 else "s"}'
+        return f'{self.ring_text(fields[0])} comes, of {count} segment{"" if count == 1 else "s"}'
 
     def going(self, number, fields):
-        return f'ring {fields[0]} goes'
+        return f'{self.ring_text(fields[0])} goes'
+
+    def ring_text(self, number):
+        ring = self.trace.ring(int(number, 16))
+        return f'the {ring.name}, ring {number},' if ring and ring.kind != 'xfer' else f'ring {number}'
 
     def withdrawal(self, number, fields):
         return f'withdraws the TD at TRB {int(fields[1], 16)} of ring {fields[0]}: its TRBs become No Ops'
@@ -40,6 +44,9 @@ class Meanings:
         if name == 'erdp':
             return f'ERDP: {self.memory.trb_text(value & ~15)}'
         return standard.register_text(name, value)
+
+    def reading(self, number, fields):
+        return f'reads {standard.status_text(fields[0], int(fields[1], 16))}'
 
     def doorbell(self, number, fields):
         slot, target = int(fields[0], 16), int(fields[1], 16)

@@ -5,7 +5,7 @@ from collections import Counter
 MOST_APART, MOST_NAMED, LEAST_LAPS = 2, 4, 2
 # in a `sub` row a TRB is four words, each with a space before it
 TRB_LENGTH = 36
-OTHER_ROWS = ((b'w', 'write of memory', 'writes of memory'), (b'reg', 'write of a register', 'writes of registers'), (b'db', 'doorbell', 'doorbells'),
+OTHER_ROWS = ((b'w', 'write of memory', 'writes of memory'), (b'reg', 'write of a register', 'writes of registers'), (b'rd', 'read of a register', 'reads of registers'), (b'db', 'doorbell', 'doorbells'),
               (b'nop', 'withdrawn TD', 'withdrawn TDs'), (b'ring', 'ring that comes', 'rings that come'), (b'free', 'ring that goes', 'rings that go'))
 
 

@@ -43,7 +43,7 @@ class RowRings:
     def of(self, text):
         """The numbers of the rings that a line is about; None where it is about something else, or that isn't known."""
         word, *fields = text.split() or ['']
-        if word == 'reg':
+        if word in ('reg', 'rd'):
             return {'erdp': self.events, 'crcr': self.commands}.get(fields[0])
         numbers = words_of(fields[:1] if word == 'ring' else fields)
         if word in ('sub', 'look', 'ring', 'free', 'nop'):

@@ -74,7 +74,7 @@ class MemoryMap:
         return ring.address(lease.position) if lease.kind == BLOCK else ring.link_behind(lease.position)
 
     def kind_of_range(self, lease):
-        if lease.begin == 0:
+        if lease.begin == 0 or self.trace.row(lease.begin).startswith('ring '):
             return EVENT_RING
         if self.trace.row(lease.begin).startswith('reg erstba '):
             return ERST

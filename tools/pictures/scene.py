@@ -106,9 +106,9 @@ class Scene:
 
     def commands(self, ranges):
         """The commands that are submitted near some rows, as their words."""
-        ring = self.trace.command_ring
-        texts = map(self.trace.row, rows_near(self.trace, ranges, COMMANDS_NEAR)) if ring else ()
-        return [[int(field, 16) for field in text.split()[2:6]] for text in texts if text.startswith(f'sub {ring.number:02x} ')]
+        rings = tuple(f'sub {ring.number:02x} ' for ring in self.trace.rings if ring.kind == 'cmd')
+        texts = map(self.trace.row, rows_near(self.trace, ranges, COMMANDS_NEAR)) if rings else ()
+        return [[int(field, 16) for field in text.split()[2:6]] for text in texts if text.startswith(rings)]
 
     def sections(self, told, with_folded, others):
         wanted = {row for rows in told if is_seen(rows) for row in range(rows.first, rows.last + 1)}

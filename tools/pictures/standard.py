@@ -26,6 +26,7 @@ HARMS = {
     4: 'it fetches outside the ring',
     5: 'it posts over an event that the driver has not read',
     6: 'it works on an Input Context that has changed'}
+NO_EVENT_RING = 'it posts where no Event Ring is'
 
 ENDPOINT_TYPES = {1: 'Isoch OUT', 2: 'Bulk OUT', 3: 'Interrupt OUT', 4: 'Control', 5: 'Isoch IN', 6: 'Bulk IN', 7: 'Interrupt IN'}
 LINK_WORDS = ('Ring Segment Pointer', 'Ring Segment Pointer, high word', 'Interrupter Target')
@@ -103,3 +104,8 @@ def register_text(name, value):
         return f'CONFIG: MaxSlotsEn {value & 255}'
     shown = {'dcbaap': ~63, 'erstba': ~63, 'erdp': ~15}.get(name, ~0)
     return f'{name.upper()}: {value & shown:x}'
+
+
+def status_text(name, value):
+    """What was read of a register."""
+    return f'USBSTS: HCHalted {value & 1}' if name == 'usbsts' else f'{name.upper()}: {value:x}'

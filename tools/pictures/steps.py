@@ -113,6 +113,8 @@ class Controller:
     def __init__(self, trace, memory, meanings):
         self.trace, self.memory, self.meanings = trace, memory, meanings
         self.pointers, self.scribbled = {}, {}
+        # by ring the last row before its last look
+        self.looked = {}
 
     def pass_over(self, step):
         """A step that isn't told: what it takes says where the controller stands, and what it doesn't take leaves that unknown."""
@@ -120,15 +122,23 @@ class Controller:
             self.took(step.take)
         elif step.word == 'look':
             self.pointers[int(step.line.split()[1], 16)] = None
+        if step.word == 'look':
+            self.looked[int(step.line.split()[1], 16)] = step.row
 
     def lose_track(self):
         """Some steps weren't seen."""
         self.pointers = {ring.number: None for ring in self.trace.rings}
+        self.looked = {ring.number: self.trace.last for ring in self.trace.rings}
 
     def shown(self, step):
         word, *fields = step.line.split()
+        if word == 'halt':
+            return Shown('halts')
         if word == 'look':
-            return self.took(step.take) if step.take else self.fetched(int(fields[0], 16), step.row)
+            ring = int(fields[0], 16)
+            shown = self.took(step.take) if step.take else self.fetched(ring, step.row)
+            self.looked[ring] = step.row
+            return shown
         numbers = [int(one, 16) for one in fields]
         return self.wrote(*numbers, step.row) if word == 'scrib' else self.posted(word, numbers, step.row)
 
@@ -138,7 +148,7 @@ class Controller:
         return Shown(f'takes {self.memory.trb_text(take.address)}: {name}', take.address)
 
     def fetched(self, ring, row):
-        pointer = self.pointers[ring] if ring in self.pointers else self.from_crcr(ring, row)
+        pointer = self.pointers[ring] = self.from_crcr(ring, row) or self.pointers.get(ring)
         if not pointer:
             return Shown(f'fetches from ring {ring:02x}, and takes nothing')
         words = self.words(pointer.address, row)
@@ -152,10 +162,11 @@ class Controller:
         return Shown(f'follows the {what} to {standard.pointer_of(words):x}', pointer.address)
 
     def from_crcr(self, ring, row):
-        """Where the controller stands on the Command Ring that it has taken nothing from."""
-        values = [written.word for written in self.trace.values('crcr') if written.row <= row]
-        is_command = self.trace.command_ring and ring == self.trace.command_ring.number
-        return Pointer(values[-1] & ~63, values[-1] & 1) if values and is_command else None
+        """Where the controller stands on a Command Ring that it hasn't looked at since CRCR was written."""
+        values = [written for written in self.trace.values('crcr') if written.row <= row]
+        known = self.trace.ring(ring)
+        is_placed = values and known and known.kind == 'cmd' and values[-1].row > self.looked.get(ring, 0)
+        return Pointer(values[-1].word & ~63, values[-1].word & 1) if is_placed else None
 
     def wrote(self, address, value, row):
         self.scribbled[address] = (row, value)

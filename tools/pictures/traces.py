@@ -109,9 +109,11 @@ class TraceText:
         _, number, segment = self.segments[found] if found >= 0 else (0, None, None)
         return (self.ring(number), segment) if segment and address < segment.end else (None, None)
 
-    @cached_property
-    def command_ring(self):
-        return next((ring for ring in self.rings if ring.kind == 'cmd'), None)
+    def has_event_ring(self, row):
+        """Whether an Event Ring is there behind a row."""
+        before = self.text[:self.offset(row + 1)]
+        rings = [ring.number for ring in self.rings if ring.kind == 'evt']
+        return any(b'\nring %02x ' % number in before and b'\nfree %02x\n' % number not in before for number in rings)
 
     @cached_property
     def ends(self):

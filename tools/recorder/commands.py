@@ -16,8 +16,9 @@ def events(items):
     return pairs, seen[len(posts):]
 
 
-def find(items, memory):
-    """A fetched command was taken where QEMU posts its completion before it fetches anything else."""
+def find(items, memory, since=None):
+    """A fetched command was taken where QEMU posts its completion before it fetches anything else; it was given behind `since`, where that isn't
+    None."""
     read = {id(post): seen for post, seen in events(items)[0] if seen}
     commands, fetched = [], None
     for item in items:
@@ -26,7 +27,7 @@ def find(items, memory):
         elif isinstance(item, Post) and fetched and blocks.kind(item.words) == blocks.COMMAND_COMPLETION:
             if blocks.pointer(item.words) == fetched.at:
                 seen = read.get(id(item))
-                given = memory.cycle_since(fetched.at + 12, fetched.key) or fetched.key
+                given = memory.cycle_since(fetched.at + 12, fetched.key, since) or fetched.key
                 commands.append(Command(fetched.key, fetched.at, fetched.words, given, item.words, seen and seen.key))
             fetched = None
     return commands

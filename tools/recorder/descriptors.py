@@ -3,6 +3,7 @@ from collections import namedtuple
 
 import blocks
 from commands import placed_by
+from registers import RESET
 from rows import Row
 
 MOST_BLOCKS = 256
@@ -102,7 +103,9 @@ class Follower:
             self.read_event(row)
         elif row.kind == 'db':
             self.stopped.discard(row.fields)
-        elif row.kind == 'ring':
+        elif row.kind == 'reg' and row.fields[0] == 'usbcmd' and row.fields[1] & RESET:
+            self.stopped.clear()
+        elif row.kind == 'ring' and row.fields[0] in self.by_ring:
             self.come(self.by_ring[row.fields[0]])
         elif row.kind == 'free':
             self.owner = {at: producer for at, producer in self.owner.items() if producer.ring is not row.fields[0]}

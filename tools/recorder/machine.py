@@ -14,8 +14,8 @@ UNITS = {'': 1 << 20, 'b': 1, 'k': 1 << 10, 'm': 1 << 20, 'g': 1 << 30, 't': 1 <
 PLUGIN_FLAGS = ('-O2', '-shared', '-fPIC', '-fvisibility=hidden')  # of the compiler
 CONTROLLERS = ('qemu-xhci', 'nec-usb-xhci')
 # QEMU's trace lines that are read; with a * none of them is an error where this QEMU lacks it
-TRACES = [word for name in ('oper_write', 'runtime_write', 'port_write', 'doorbell_write', 'cap_read', 'fetch_trb', 'queue_event', 'reset')
-          for word in ('-trace', f'usb_xhci_{name}*')]
+TRACES = [word for name in ('oper_read', 'oper_write', 'runtime_write', 'port_write', 'doorbell_write', 'cap_read', 'fetch_trb', 'queue_event',
+                            'reset') for word in ('-trace', f'usb_xhci_{name}*')]
 OWN = ('-D', '-d', '-trace', '-plugin', '-daemonize')
 DISPLAYS = ('-display', '-nographic', '-vnc', '-curses')
 NO_START = ('-loadvm', '-incoming')

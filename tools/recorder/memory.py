@@ -82,6 +82,13 @@ class Memory:
             last -= 1
         return entries[max(first - 1, 0):last]
 
+    def other_use(self, start, length, since, until, is_written):
+        """When a word of an area was first stored between these moments (None: no end): any, or one by which it is another."""
+        keys = [entry.key for at in range(start, start + length, 4) for entry in self.entries.get(at, ())
+                if since < entry.key and (until is None or entry.key < until) and entry.found is None
+                and (is_written or entry.word != self.word(at, since))]
+        return min(keys, default=None)
+
     def prune(self, stretches):
         """Forgets what no area can need: neither in these stretches (start, length, named, ended), nor in one that is named later."""
         kept = {}

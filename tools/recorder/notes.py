@@ -3,14 +3,28 @@ import registers
 import steps
 from commands import events
 from qemu_log import Bell
+from rows import before_event_rings
 
 MOST_KEPT = 1 << 20  # lines of a trace that is replayed
 
 
-def of_run(run, memory, finder, rows, cut, schedule):
-    lines = finder.notes + of_streams(finder.areas) + of_memory(memory, rows) + of_cut(rows, cut) + of_rows(run) + of_events(run)
+def of_trace(parts, memory, finder, rows, cut, schedule):
+    items = [item for part in parts for item in part.items]
+    lines = finder.notes() + of_streams(finder.areas) + of_memory(memory, rows) + of_cut(rows, cut) + of_rows(items)
+    lines += of_early_writes(before_event_rings(parts, finder.rings)) + of_events(parts)
     lines += of_controller(schedule)
     return lines
+
+
+def of_runs(parts, rows, header):
+    """Of several runs in one trace: the lines at which they begin."""
+    numbers = {row.key: number for number, row in enumerate(rows, header + 1) if row.kind == 'reg'}
+    lines = [f'the trace has {len(parts)} runs of the controller'] * (len(parts) > 1)
+    for number, (earlier, part) in enumerate(zip(parts, parts[1:]), 2):
+        line = numbers[part.begin]
+        why = f'lines {line + 1 - earlier.made_up} to {line} are made up for a reset of the machine' if earlier.made_up else 'HCRST'
+        lines.append(f'run {number} begins behind line {line}: {why}')
+    return lines + [f'run {number} goes on behind a halt' for number, part in enumerate(parts, 1) if part.goes_on]
 
 
 def of_streams(areas):
@@ -34,29 +48,40 @@ def of_cut(rows, cut):
     return [f'{cut.why}: the trace ends before its first row, and {len(rows) - cut.row} rows are left out']
 
 
-def of_rows(run):
-    lines = [f'{count} register writes make no row: {where}' for where, count in sorted(registers.left_out(run.items).items())]
-    streams = sum(1 for item in run.items if isinstance(item, Bell) and item.stream)
+def of_rows(items):
+    lines = [f'{count} register writes make no row: {where}' for where, count in sorted(registers.left_out(items).items())]
+    streams = sum(1 for item in items if isinstance(item, Bell) and item.stream)
     if streams:
         lines.append(f'{streams} doorbells had a stream: a row can not say it')
     return lines
 
 
-def of_events(run):
-    pairs, more = events(run.items)
-    unread = [post for post, seen in pairs if seen is None]
+def of_early_writes(early):
+    names = ', '.join(sorted({row.name.upper() for row in early}))
+    return [f'{len(early)} register writes make no row: {names} before the Event Ring comes that is used'] if early else []
+
+
+def of_events(parts):
+    pairs, more, unread = [], [], []
+    for part in parts:
+        of_part, more_of_part = events(part.items)
+        pairs, more = pairs + of_part, more + more_of_part
+        unread += of_unread([post for post, seen in of_part if seen is None], part)
     other = sum(1 for post, seen in pairs if seen and seen.words != post.words) + len(more)
-    elsewhere = sum(1 for item in run.items if getattr(item, 'interrupter', 0))
-    lines = [f'events: {len(pairs)} posted, {len(pairs) - len(unread)} read']
-    if unread:
-        why = 'the controller was stopped first' if run.stop else 'the recording ended first'
-        lines.append(f'{len(unread)} events were not read: {why}')
-        lines += ['not read: %08x %08x %08x %08x' % post.words for post in unread[:20]]
+    elsewhere = sum(1 for part in parts for item in part.items if getattr(item, 'interrupter', 0))
+    lines = [f'events: {len(pairs)} posted, {sum(1 for post, seen in pairs if seen)} read'] + unread
     if other:
         lines.append(f'{other} events were read with other words than QEMU says it posted')
     if elsewhere:
         lines.append(f'{elsewhere} events were posted to interrupters above 0: they are left out')
     return lines
+
+
+def of_unread(posts, part):
+    if not posts:
+        return []
+    why = 'the controller was stopped first' if part.stop else 'the recording ended first'
+    return [f'{len(posts)} events were not read: {why}'] + ['not read: %08x %08x %08x %08x' % post.words for post in posts[:20]]
 
 
 def fetched(schedule):
@@ -67,7 +92,7 @@ def of_controller(schedule):
     lines = [fetched(schedule)]
     if schedule.not_followed:
         lines.append(f'{schedule.not_followed} TRBs were fetched outside the rings of the trace: they have no step')
-    lines += of_stopped_endpoint(schedule.not_possible())
+    lines += of_stopped_endpoint(schedule.not_possible()) + of_halted_controller(schedule.while_halted())
     if schedule.is_cut:
         lines.append(f'the schedule ends after {steps.MOST_LINES} lines, as many as it may have: the trace goes on')
     lines.append('what the controller writes to device contexts is not recorded: the schedule has no scrib lines')
@@ -81,6 +106,11 @@ def of_stopped_endpoint(look):
     step, ring, (slot, index) = look
     return [f'the schedule is not possible at step {step}: QEMU fetched a TRB of ring {ring:02x}, whose endpoint, DCI {index} of slot {slot}, '
             'was stopped, with no doorbell since; what `check` says of the trace does not rest on it']
+
+
+def of_halted_controller(step):
+    """Of a fetch or an event behind the halt."""
+    return [f'the schedule is not possible at step {step}: QEMU did that while the controller had halted'] if step else []
 
 
 def of_replay(lines):

@@ -8,12 +8,14 @@
  * DC ZVA of aarch64 clears a block of memory by a function of QEMU that no plugin sees. That one is executed is seen, not where: before
  * the next store to a watched page, register or read event each block that was cleared since is told as stores of 0.
  *
- * Lines, all numbers in hex; SEQ counts stores, loads of events and stores to the device, in the order in which the CPU made them:
+ * Lines, all numbers in hex; SEQ counts stores, stores to the device, and loads of events and of USBSTS, in the order in which the CPU
+ * made them:
  *   xr w SEQ ADDR WORD      a store has left this word; one that was remembered comes later in the log than its SEQ says
  *   xr v SEQ ADDR WORD      the word as it was found
  *   xr p SEQ ADDR KNOWN     the page at ADDR is watched from here on; stores are known from KNOWN on
  *   xr d SEQ ADDR SIZE      a store to a register; the trace lines of what QEMU did for it stand before
  *   xr e SEQ ADDR W W W W   a load has found the event at ADDR
+ *   xr r SEQ ADDR SIZE      a load of USBSTS; QEMU's own line of it, with the value, stands before
  *   xr end SEQ LINES        the end of the recording; how many of these lines there are
  */
 #include <fcntl.h>
@@ -78,7 +80,7 @@ __attribute__((constructor)) static void choose_version(void)
 }
 
 /* QEMU's layout of the controller's registers: 16 KB, the capabilities first; devices below 1 MB are others */
-enum { REGISTERS = 0x4000, CAPABILITIES = 0x40, DOORBELLS_END = 0x3000, DEVICES = 0x100000 };
+enum { REGISTERS = 0x4000, CAPABILITIES = 0x40, STATUS = 0x44, DOORBELLS_END = 0x3000, DEVICES = 0x100000 };
 enum { PAGE = 4096, BLOCK = 16, AHEAD = 1024, DCBAA = 2048, SEGMENTS = 64, BOUNDARY = 0x10000 };
 enum { LINK = 6, DISABLE_SLOT = 10, ADDRESS_DEVICE, CONFIGURE_ENDPOINT, EVALUATE_CONTEXT, SET_TR_DEQUEUE = 16, RESET_DEVICE };
 enum { COMMAND_COMPLETION = 33, SUCCESS = 1 };
@@ -545,12 +547,33 @@ static void loaded(qemu_plugin_meminfo_t info, uint64_t vaddr, unsigned size)
         sweep();
 }
 
+/* A load of USBSTS, by the place in the page alone */
+static bool may_read_status(uint64_t vaddr, unsigned size)
+{
+    uint64_t from = vaddr % PAGE;
+    return registers && from <= STATUS && STATUS < from + size;
+}
+
+static void status_loaded(qemu_plugin_meminfo_t info, uint64_t vaddr, unsigned size)
+{
+    struct qemu_plugin_hwaddr *hw = qemu_plugin_get_hwaddr(info, vaddr);
+    if (!hw || !qemu_plugin_hwaddr_is_io(hw))
+        return;
+    uint64_t phys = qemu_plugin_hwaddr_phys_addr(hw);
+    if (phys > registers + STATUS || registers + STATUS >= phys + size)
+        return;
+    see_cleared(0, 0);
+    say('r', ++seq, phys, size);
+}
+
 static void moved(unsigned int cpu, qemu_plugin_meminfo_t info, uint64_t vaddr, void *data)
 {
     unsigned size = 1u << qemu_plugin_mem_size_shift(info);
     if (!qemu_plugin_mem_is_store(info)) {
         if (may_read_event(vaddr, size))
             loaded(info, vaddr, size);
+        if (may_read_status(vaddr, size))
+            status_loaded(info, vaddr, size);
         return;
     }
     unsigned first = PAGE - vaddr % PAGE;

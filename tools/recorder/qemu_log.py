@@ -1,9 +1,9 @@
 """Reads QEMU's log with the plugin's lines, as a stream, into what happened, in the order in which the guest's CPU saw it.
 
 Each item has a key: the plugin's count of stores, then what comes first at that count, then the line. Items come in the order of
-their keys, but for stores that are remembered when a page comes to be watched. What QEMU does for a store to a register stands in
-the log before that store's own line, and is given its count. What QEMU's main loop does is only known to lie between two stores to
-registers.
+their keys, but for stores that are remembered when a page comes to be watched. What QEMU does for a store to a register, or for a load of
+USBSTS, stands in the log before the line of that store or load, and is given its count. What QEMU's main loop does is only known to lie
+between two stores to registers.
 
 A log may break off while the plugin still tells of a store to a register, or of a page that comes to be watched and of what is
 remembered of it. Half of that would be wrong, so the recording ends before it.
@@ -19,6 +19,7 @@ Bell = namedtuple('Bell', 'key slot target stream')
 Fetch = namedtuple('Fetch', 'key at words')                 # the controller has fetched the block
 Post = namedtuple('Post', 'key interrupter words')          # the controller has posted the event
 Seen = namedtuple('Seen', 'key at words')                   # the driver has loaded the event's Cycle bit, and it was due
+Status = namedtuple('Status', 'key value')                  # the driver has loaded USBSTS
 Reset = namedtuple('Reset', 'key by_driver')
 
 CPU, DEVICE, LATER = 0, 1, 2  # at one count: what the CPU did, what the device did for it, what came after
@@ -29,8 +30,9 @@ RECENT = 1 << 16      # counts: a command that names an area, and is taken now, 
 
 
 def key_of(count, rank, number):
-    """One number that sorts like the three; the least bit is for a word that was found behind a store."""
-    return count << 40 | rank << 38 | number << 1
+    """One number that sorts like the three. The next greater one is for a word that was found behind a store; the two before it are for what is
+    made up before a reset of the machine."""
+    return count << 40 | rank << 38 | number << 2
 
 
 def count_of(key):
@@ -43,10 +45,12 @@ PATTERNS = [(re.compile(pattern), kind) for pattern, kind in [
     (r'usb_xhci_fetch_trb addr 0x(\w+), .*, p 0x(\w+), s 0x(\w+), c 0x(\w+)', 'fetch'),
     (r'usb_xhci_queue_event v (\d+), .*, p 0x(\w+), s 0x(\w+), c 0x(\w+)', 'event'),
     (r'usb_xhci_(reset)', 'reset'),
+    (r'usb_xhci_oper_read off 0x(\w+), ret 0x(\w+)', 'read'),
     (r'usb_xhci_cap_read off 0x0010, ret 0x(\w+)', 'capability')]]
 # lines of these names have one of these patterns, or are no whole lines
 NAMES = ['usb_xhci_' + name for name in
-         ('oper_write', 'runtime_write', 'port_write', 'doorbell_write', 'fetch_trb', 'queue_event', 'reset')]
+         ('oper_read', 'oper_write', 'runtime_write', 'port_write', 'doorbell_write', 'fetch_trb', 'queue_event', 'reset')]
+USBSTS = 4  # where it stands among the operational registers
 
 
 class Unsupported(Exception):
@@ -71,6 +75,7 @@ class LogReader:
         self.count = 0       # the greatest count so far
         self.number = self.said = 0  # lines so far, and those of the plugin
         self.waiting = []    # trace lines from a register write on, until the line of its store
+        self.status = None   # what QEMU says that USBSTS was read as, until the line of that load
         self.found = []      # words found, until the remembered stores to their page are told
         self.in_page = False # whether the plugin may still tell of a page that comes to be watched
         self.end = (0, 0)
@@ -118,7 +123,7 @@ class LogReader:
         fields = line.split()
         if fields[:1] != ['xr']:
             return False
-        return fields[1:2] in (['d'], ['e'], ['end']) or (fields[1:2] == ['w'] and is_beyond(fields[2:3], self.count))
+        return fields[1:2] in (['d'], ['e'], ['r'], ['end']) or (fields[1:2] == ['w'] and is_beyond(fields[2:3], self.count))
 
     def line(self, number, line):
         if line.startswith('xr '):
@@ -144,6 +149,8 @@ class LogReader:
             return before
         if kind == 'e':
             return before + [Seen(key_of(count, CPU, number), rest[0], tuple(rest[1:]))]
+        if kind == 'r':
+            return before + self.status_load(key_of(count, CPU, number))
         self.in_page = self.in_page or kind == 'p'
         item, rank = {'w': (Store, CPU), 'p': (Page, LATER)}[kind]
         return before + [item(key_of(count, rank, number), *rest)]
@@ -151,6 +158,10 @@ class LogReader:
     def all_found(self):
         found, self.found = self.found, []
         return found
+
+    def status_load(self, key):
+        value, self.status = self.status, None
+        return [] if value is None else [Status(key, value)]
 
     def device_store(self, count, at, size):
         if not self.waiting:
@@ -170,6 +181,9 @@ class LogReader:
             return []
         if kind == 'capability':
             self.context_size = 64 if int(match[1], 16) & 4 else 32
+            return []
+        if kind == 'read':
+            self.status = int(match[2], 16) if int(match[1], 16) == USBSTS else self.status
             return []
         make = self.maker(kind, match)
         if self.waiting or kind in ('register', 'doorbell'):

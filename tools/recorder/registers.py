@@ -9,7 +9,10 @@ OPERATIONAL = {0x00: ('usbcmd', None), 0x04: ('usbsts', None), 0x14: ('dnctrl', 
                0x30: ('dcbaap', 0), 0x34: ('dcbaap', 1), 0x38: ('config', None)}
 INTERRUPTER = {0x00: ('iman', None), 0x04: ('imod', None), 0x08: ('erstsz', None), 0x10: ('erstba', 0), 0x14: ('erstba', 1),
                0x18: ('erdp', 0), 0x1c: ('erdp', 1)}
-RUN, RESET = 1, 2  # USBCMD
+USBCMD = 0x00
+RUN, RESET = 1, 2  # of it
+STOP_OR_ABORT = 6  # of CRCR: it names no ring then
+EVENT_RING_REGISTERS = ('erstsz', 'erdp', 'erstba')
 
 
 def name_of(write):

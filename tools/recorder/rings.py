@@ -108,11 +108,12 @@ class Finder:
         if self.version > 1:
             for ring in self.rings:
                 self.place_in_time(ring)
-        self.notes = [note for ring in self.rings for note in ring.notes] + ([self.why] if self.cut else [])
+
+    def notes(self):
+        return [note for ring in self.rings for note in ring.notes] + ([self.why] if self.cut else [])
 
     def find(self):
-        transfer = [use for use in self.areas.rings if use.what == 'xfer']
-        for use in [use for use in self.areas.rings if use.what != 'xfer'] + transfer:
+        for use in self.areas.rings:
             ring = next((ring for ring in self.rings if not ring.is_over and self.shared(ring, use)), None)
             if ring:
                 self.see_again(ring, use)
@@ -127,15 +128,13 @@ class Finder:
             self.rings.append(ring)
 
     def shared(self, ring, use):
-        """Whether this use names the ring's first block, or another one while the ring is in use."""
-        return use.start == ring.segments[0][0] or (
-            ring.holds(use.start) and any(other.lives_with(use) for other in ring.uses))
+        """Whether this use names the ring's first block, or another one while the ring is in use; or the command ring where it stands."""
+        return use.start == ring.segments[0][0] or ring.holds(use.start) and (
+            any(other.lives_with(use) for other in ring.uses) or ring.kind == 'cmd' and self.goes_on(ring, use))
 
     def see_again(self, ring, use):
-        """A ring that is bound once more: its positions go on counting, so where it was used no row can say what a ring holds that begins anew."""
-        earlier = any(other.bound and other.named < use.named for other in ring.uses)
-        was_used = earlier and any(ring.holds(at) and self.was_fetched(at, ring.uses[0].named, use.named) for at in self.fetched)
-        if was_used and not self.goes_on(ring, use):
+        """A ring that is named once more: its positions go on counting, so where it was used no row can say what a ring holds that begins anew."""
+        if self.was_used(ring, use) and not self.goes_on(ring, use):
             if self.can_go(ring, use):
                 ring.is_over = True
                 self.see_new(use)
@@ -144,6 +143,13 @@ class Finder:
         else:
             ring.uses.append(use)
             self.laid(ring, use)
+
+    def was_used(self, ring, use):
+        """Whether something was taken of a ring; behind a reset each counts as used."""
+        if ring.uses[-1].part != use.part:
+            return True
+        earlier = any(other.bound and other.named < use.named for other in ring.uses)
+        return earlier and any(ring.holds(at) and self.was_fetched(at, ring.uses[0].named, use.named) for at in self.fetched)
 
     def was_fetched(self, at, since, until):
         """Whether a block was fetched from one moment to another."""
@@ -155,7 +161,10 @@ class Finder:
         return place < len(keys) and keys[place] < until
 
     def goes_on(self, ring, use):
-        """Whether the ring is bound where it stands: the block before that place was given with the cycle that then led there."""
+        """Whether the ring is named where it stands: the block before that place was given with the cycle that then led there. No ring goes on
+        behind a reset."""
+        if use.what != ring.kind or ring.uses[-1].part != use.part:
+            return False
         if use.start not in ring.place and use.start not in ring.crossing:
             return False
         place = ring.place[use.start] if use.start in ring.place else ring.crossing[use.start]
@@ -165,7 +174,7 @@ class Finder:
 
     def laid(self, ring, use):
         """Whether the ring's segments, by all its uses so far, are of no other ring."""
-        segments, notes, joined = (self.areas.segments, [], {}) if use.what == 'evt' else self.segments_of(ring.uses)
+        segments, notes, joined = (use.segments, [], {}) if use.what == 'evt' else self.segments_of(ring.uses)
         earlier = [other for other in self.rings if other is not ring and not other.is_over and self.overlap(other, segments)]
         if not all(self.can_go(other, use) for other in earlier):
             self.end_with(use, f'memory of an earlier ring is used for another one at {use.start:#x}')
@@ -180,20 +189,27 @@ class Finder:
     def can_go(self, ring, use):
         """Whether a trace can say that the ring is gone before another use of its memory."""
         over = ring.over()
-        return self.version > 1 and ring.kind == 'xfer' and over is not None and over < use.named
+        return self.version > 1 and over is not None and over < use.named
 
     def place_in_time(self, ring):
-        """A ring comes before the first row that gives a block of it, or that gives the command that names it; it goes with its last endpoint."""
-        if ring.kind != 'xfer':
-            return
+        """A ring comes before the first row that gives a block of it, or that names it or gives the command which names it; it goes with its
+        last endpoint, or a reset. What the first run's registers name before the start is there from the beginning."""
         ring.goes = ring.over()
-        named = min(use.named for use in ring.uses)
+        if self.is_in_header(ring):
+            return
+        named, wanted = min(use.named for use in ring.uses), min(use.wanted for use in ring.uses)
         earlier = [other.goes for other in self.rings if other.is_over and other.goes is not None and other.goes < named
                    and self.overlap(other, ring.segments)]
         since = max(earlier, default=None)
         segments = [(start, count) for start, count in ring.segments if ring.joined.get(start, named) <= named]
         givings = [self.memory.set_since(at + 12, named, since) for start, count in segments for at in range(start, start + 16 * count, 16)]
-        ring.comes = min([named] + [key for key in givings if key is not None])
+        ring.comes = min([wanted] + [key for key in givings if key is not None])
+        if ring.kind != 'xfer':
+            ring.comes = max([ring.comes] + [other.goes for other in self.rings[:ring.number] if other.kind == ring.kind])
+
+    def is_in_header(self, ring):
+        first = next(other for other in self.rings if other.kind == ring.kind)
+        return ring.kind != 'xfer' and ring is first and ring.uses[0].part == 0
 
     def end_with(self, use, why):
         self.end_at(use.named, why + ': the trace ends with the command that names it')
@@ -317,7 +333,7 @@ class Finder:
         end = self.bound(start, uses)
         fetched = [at for at in self.fetched if start <= at < end and self.was_fetched(at, uses[0].named, FOREVER)]
         used = max((at - start) // 16 + 2 for at in [start, *fetched])
-        linked = self.linked_counts()
+        linked = self.linked_counts(uses[0].part)
         room = min((end - start) // 16, MOST_BLOCKS)
         if self.option:
             why, count = 'as the option says', self.option
@@ -330,11 +346,11 @@ class Finder:
         notes.append(f'the Link of the segment at {start:#x} was never written: it is taken to have {count} TRBs, {why}')
         return count
 
-    def linked_counts(self):
-        """The counts of all first segments of this run whose Link was written."""
+    def linked_counts(self, part):
+        """The counts of all first segments of a run whose Link was written."""
         counts = set()
         for use in self.areas.rings:
-            found = {} if use.what == 'evt' else self.linked([use])[0]
+            found = {} if use.what == 'evt' or use.part != part else self.linked([use])[0]
             if use.start in found:
                 counts.add((found[use.start].link - use.start) // 16 + 1)
         return counts

@@ -2,7 +2,9 @@
 from collections import namedtuple
 
 import blocks
+from memory import BEFORE_ALL
 from qemu_log import Bell, Seen, count_of
+from registers import EVENT_RING_REGISTERS
 
 # made_up: a `w` row for a word that no store was seen to leave; if_set: to be left out where the trace's memory has 0 there; rank: its
 # place among the rows of its key, behind that of a ring that goes
@@ -12,8 +14,8 @@ Row = namedtuple('Row', 'key kind fields made_up if_set rank', defaults=(False, 
 def text(row):
     if row.kind == 'w':
         return 'w %016x %08x' % row.fields
-    if row.kind == 'reg':
-        return 'reg %s %016x' % row.fields
+    if row.kind in ('reg', 'rd'):
+        return row.kind + ' %s %016x' % row.fields
     if row.kind == 'db':
         return 'db %02x %02x' % row.fields
     if row.kind == 'ev':
@@ -35,19 +37,20 @@ def is_isochronous(row):
     return row.kind == 'ev' and blocks.kind(row.fields) == blocks.TRANSFER_EVENT and blocks.code(row.fields) in blocks.SERVICE_CODES
 
 
-def head(latest, rows, context_size, rings):
-    """The lines before these rows: of version 3 where the latest that was asked for is a later one, and nothing in them is that one's."""
-    version = latest if latest < 4 or any(map(is_isochronous, rows)) else 3
+def head(latest, rows, context_size, rings, is_joined=False):
+    """The lines before these rows: of version 3 where the latest that was asked for is a later one, and nothing in them is that one's. Rows of
+    several runs are."""
+    version = latest if latest < 4 or is_joined or any(map(is_isochronous, rows)) else 3
     return [f'xtrace {version}', f'ctx {context_size:02x}'] + [ring.line() for ring in rings if ring.comes is None]
 
 
 def writes(areas, rings, memory, cut):
     """A row for each store to a word of an area while the area lives."""
     rows, looked_at = {}, list(stretches(areas, rings, cut))
-    for start, length, named, ended, mixed in looked_at:
+    for start, length, named, area in looked_at:
         for at in range(start, start + length, 4):
-            for i, entry in enumerate(memory.life(at, named, ended)):
-                if mixed and entry.found and count_of(entry.found) > count_of(named):
+            for i, entry in enumerate(memory.life(at, named, area.ended)):
+                if area.is_written() and entry.found and count_of(entry.found) > count_of(named):
                     continue
                 if_set = i == 0 and entry.word == 0 and entry.key < named
                 known = rows.get((at, entry.key))
@@ -59,48 +62,74 @@ def writes(areas, rings, memory, cut):
 
 def behind_areas(row, found, looked_at):
     """Where a word that was found may have come at any time since `row.key`: behind the areas that had it and were let go meanwhile."""
-    lives = [(named, ended) for start, length, named, ended, mixed in looked_at if start <= row.fields[0] < start + length]
+    lives = [(named, area.ended) for start, length, named, area in looked_at if start <= row.fields[0] < start + length]
     latest = min([named for named, ended in lives if named > row.key] + [found])
     ends = [ended for named, ended in lives if ended and row.key < ended <= latest]
     return row._replace(key=max(ends), rank=2) if ends else row
 
 
 def stretches(areas, rings, cut):
-    """What is looked at, from when to when, and whether the controller writes there too; of a ring that is named at `cut` nothing."""
+    """What is looked at, from when on, and of which area or use of a ring; of a ring that is named at `cut` nothing."""
     for area in areas.fixed:
-        yield area.start, area.length, area.named, area.ended, area.what.startswith('device context')
+        yield area.start, area.length, area.named, area
     for ring in rings:
         for use in ring.uses:
             if cut is None or use.named < cut:
                 for start, count in ring.segments:
-                    yield start, 16 * count, ring.has_since(start, use), use.ended, ring.kind == 'evt'
+                    yield start, 16 * count, ring.has_since(start, use), use
 
 
-def collected(run, registers, areas, rings, memory, cut):
-    """All rows in order, up to the row that stops the controller or the one at `cut`."""
-    rows = [Row(row.key, 'reg', (row.name, row.value)) for row in registers]
-    rows += [Row(item.key, 'db', (item.slot, item.target)) for item in run.items if isinstance(item, Bell)]
-    rows += [Row(item.key, 'ev', item.words) for item in run.items if isinstance(item, Seen)]
-    end = min(run.end, cut or run.end)
+def collected(parts, areas, rings, memory, end, cut):
+    """All rows in order, up to the row that stops the controller, where that is the last one, or the one at `cut`."""
+    items = [item for part in parts for item in part.items]
+    early = before_event_rings(parts, rings)
+    rows = [Row(row.key, 'reg', (row.name, row.value)) for part in parts for row in part.written if row not in early]
+    rows += [Row(item.key, 'rd', ('usbsts', item.value)) for part in parts for item in part.reads]
+    rows += [Row(item.key, 'db', (item.slot, item.target)) for item in items if isinstance(item, Bell)]
+    rows += [Row(item.key, 'ev', item.words) for item in items if isinstance(item, Seen)]
+    end = min(end, cut or end)
     rows = [row for row in coming_and_going(rings) + rows + writes(areas, rings, memory, cut) if row.key <= end]
     rows.sort(key=lambda row: (row.key, row.rank))
-    return needed(rows, [area for area in areas.fixed if area.what.startswith('device context') and area.ended])
+    return needed(rows, left_behind(areas, rings))
+
+
+def before_event_rings(parts, rings):
+    """What is written of an event ring before the one of this run comes, and written anew behind that: before the start it says nothing."""
+    comes = {use.part: ring.comes for ring in rings if ring.kind == 'evt' and ring.comes is not None for use in ring.uses}
+    return {row for number, part in enumerate(parts) for row in part.written
+            if row.name in EVENT_RING_REGISTERS and row.key < comes.get(number, BEFORE_ALL)}
 
 
 def coming_and_going(rings):
-    """A row directly behind the one that lets a ring go, and one directly before the first that needs a ring."""
+    """A row directly behind the one that lets a ring go, and one directly before the first that needs a ring, but behind that by which one goes."""
+    gone = [ring.goes for ring in rings if ring.goes is not None]
     rows = [Row(ring.goes, 'free', (ring,), rank=1) for ring in rings if ring.goes is not None]
-    return rows + [Row(ring.comes, 'ring', (ring,), rank=-1) for ring in rings if ring.comes is not None]
+    return rows + [Row(ring.comes, 'ring', (ring,), rank=2 if ring.comes in gone else -1) for ring in rings if ring.comes is not None]
+
+
+def other_use(areas, rings, memory):
+    """When memory was first used for something else that a halted controller still has; None where it never was. The driver may clear its
+    command ring."""
+    idle = [(area.start, area.length, area) for area in areas.fixed if area.idle]
+    idle += [(start, 16 * count, use) for ring in rings if ring.kind != 'cmd' for use in ring.uses if use.idle for start, count in ring.segments]
+    keys = [memory.other_use(start, length, *area.idle, area.is_written()) for start, length, area in idle]
+    return min((key for key in keys if key is not None), default=None)
+
+
+def left_behind(areas, rings):
+    """Memory in which the controller wrote, and when it was let go."""
+    contexts = [(area.start, area.length, area.ended) for area in areas.fixed if area.is_written() and area.ended]
+    return contexts + [(start, 16 * count, ring.goes) for ring in rings if ring.kind == 'evt' and ring.goes for start, count in ring.segments]
 
 
 def needed(rows, left):
-    """Stores of 0 from before an area was named count only where something else may stand: `left` are old device contexts."""
+    """Stores of 0 from before an area was named count only where something else may stand: `left` is memory in which the controller wrote."""
     memory, kept = {}, []
     for row in rows:
         if row.kind == 'w':
             at, word = row.fields
             if row.if_set and not memory.get(at) and not any(
-                    area.ended < row.key and area.start <= at < area.start + area.length for area in left):
+                    ended < row.key and start <= at < start + length for start, length, ended in left):
                 continue
             memory[at] = word
         kept.append(row)

@@ -1,10 +1,13 @@
-"""The recorded controller's own steps as a schedule: a look for each block fetched, a post for each event, beside the rows.
+"""The recorded controller's own steps as a schedule: a look for each block fetched, a post for each event, beside the rows. It halts directly
+before the driver sees that, which is later than QEMU's does.
 
 A fetch of QEMU's main loop is only known to lie between two stores to registers: it is put where memory first has its words.
 """
 import blocks
 from commands import placed_by
 from qemu_log import Fetch, Post
+from registers import RESET, STOP_OR_ABORT
+from runs import Phase
 
 MOST_LINES = 1 << 22  # of a schedule
 
@@ -14,17 +17,19 @@ class Schedule:
         self.rows = rows
         self.owner = {}
         for ring in rings:
-            if ring.kind != 'evt' and ring.comes is None:
+            if ring.comes is None:
                 self.come(ring)
         self.items = [item for item in items if isinstance(item, (Fetch, Post))]
         self.next = 0            # the first item whose step isn't written yet
         self.lines = []
         self.memory = {}
+        self.phase = Phase()
         self.cycle = 1           # the command ring's
         self.taken = {}          # by ring: (line, address) of the looks of its transfers
         self.given_back = {}     # by ring: the addresses of the looks that were given back when it stopped last
         self.rung = set()        # slots and DCIs of the endpoints whose doorbell was rung since they stopped or began
         self.unasked = []        # where in `lines` there are looks at rings of other endpoints, and such an endpoint
+        self.late = None         # where in `lines` the first step stands of a controller that is known to have halted
         self.fetched = self.other_words = self.not_followed = 0
         for row in rows:
             self.before(row)
@@ -36,20 +41,33 @@ class Schedule:
 
     def before(self, row):
         """The steps before this row. A store to a register, or an event that is read, waits for all of them."""
-        if row.kind in ('w', 'reg', 'db', 'ev'):
+        if row.kind in ('w', 'reg', 'rd', 'db', 'ev'):
             self.write_until(row.key, row.kind != 'w')
 
     def follow(self, row):
-        """The rings that are there."""
+        """The rings that are there, and the phase of the run."""
         if row.kind == 'ring':
             self.come(*row.fields)
+        elif row.kind == 'reg':
+            self.register(*row.fields)
+        elif row.kind == 'rd' and self.phase.sees_halt(row.fields[1]):
+            self.lines.append('halt')
         elif row.kind == 'db':
             self.rung.add(row.fields)
         elif row.kind == 'free':
             self.owner = {at: ring for at, ring in self.owner.items() if ring is not row.fields[0]}
 
     def come(self, ring):
-        self.owner.update((at, ring) for at in ring.data + ring.links)
+        if ring.kind != 'evt':
+            self.owner.update((at, ring) for at in ring.data + ring.links)
+
+    def register(self, name, value):
+        if name == 'crcr' and not value & STOP_OR_ABORT:
+            self.cycle = value & 1
+        elif name == 'usbcmd' and value & RESET:
+            self.phase, self.taken, self.given_back, self.rung = Phase(), {}, {}, set()
+        elif name == 'usbcmd':
+            self.phase.write(value)
 
     def write_until(self, key, all_of_them):
         while self.next < len(self.items) and (key is None or self.items[self.next].key < key):
@@ -80,8 +98,13 @@ class Schedule:
             self.go_on(ring, item.at)
             self.see_unasked(ring)
             self.taken.setdefault(ring.number, []).append((len(self.lines), item.at))
-        self.lines.append(f'look {ring.number:02x}')
+        self.step(f'look {ring.number:02x}')
         return True
+
+    def step(self, line):
+        if self.phase.halted and self.late is None:
+            self.late = len(self.lines)
+        self.lines.append(line)
 
     def see_unasked(self, ring):
         """QEMU looks at a ring of an endpoint that was stopped, has halted or is new, with no doorbell since."""
@@ -110,7 +133,7 @@ class Schedule:
             if blocks.code(item.words) == blocks.SUCCESS:
                 self.stop(command)
         name = {blocks.TRANSFER_EVENT: 'report', blocks.COMMAND_COMPLETION: 'finish'}.get(kind, 'other')
-        self.lines.append(name + ' %08x %08x %08x %08x' % item.words)
+        self.step(name + ' %08x %08x %08x %08x' % item.words)
 
     def is_isochronous(self, words, at):
         """Whether an event that names this block is an isochronous endpoint's."""
@@ -141,8 +164,15 @@ class Schedule:
 
     def not_possible(self):
         """The first look that no doorbell asked for: its step's number, the ring's and the endpoint; or None."""
-        steps = [(sum(map(bool, self.lines[:place + 1])), *what) for place, *what in self.unasked if self.lines[place]]
+        steps = [(self.number_of(place), *what) for place, *what in self.unasked if self.lines[place]]
         return steps[0] if steps else None
+
+    def while_halted(self):
+        """The number of the first step of a controller that is known to have halted; or None."""
+        return None if self.late is None else self.number_of(self.late)
+
+    def number_of(self, place):
+        return sum(map(bool, self.lines[:place + 1]))
 
     def text(self):
         lines = ['xsched 1'] + [line for line in self.lines if line]

@@ -3,7 +3,8 @@
 In 6.12 an event `xhci_queue_trb` doesn't say where its TRB lies: the `xhci_inc_enq` that follows it does, under the driver's one lock. In
 7.2 its `dma` does, and an `xhci_inc_enq` or `xhci_inc_deq` comes only where a segment ends; `xhci_address_ctx` has no `ctx_data`. What
 no event tells is made up here: the registers' set-up, the DCBAA, the segment table, Links, ERDP, when a TD's first TRB, which
-Linux stores with the other Cycle bit, is given: at the doorbell; and without `ctx_data` the Input Context of Address Device.
+Linux stores with the other Cycle bit, is given: at the doorbell; that the controller halts, is reset and starts again, where Linux has freed
+its command ring and makes another one, or begins that anew; and without `ctx_data` the Input Context of Address Device.
 """
 import re
 
@@ -26,6 +27,9 @@ INPUT_CONTEXT = 2
 SLOTS = 255
 NOT_JUDGED = ('rules 10 to 14, 17 and 22 are not judged: the set-up of registers, ERDP, the DCBAA, the segment table and Links are made up, '
               'and so is when the first TRB of a TD is given; stores into TRBs that are withdrawn are missing')
+MADE_RUNS = ('%d runs of the controller: that it halts and is reset between them, and that all rings go there, and memory of theirs and of device '
+             'contexts is cleared, is made up')
+MADE_HALT = 'the command ring begins anew: that the controller halts and goes on is made up'
 MADE_CONTEXTS = ('the Input Contexts of Address Device are made up, since xhci_address_ctx has no ctx_data: rule 19 is not judged of that '
                  'command')
 CONTROL = 4 << 3 | 3 << 1                         # word 1 of an Endpoint Context: EP Type Control, CErr 3
@@ -38,7 +42,7 @@ class TraceRing:
     def __init__(self, kind, start, cycle):
         self.kind, self.start, self.enqueue, self.cycle = kind, start, start, cycle
         self.segments, self.held, self.index, self.is_gone = [start], [], None, False
-        self.last = (0, 0, 0, 0)
+        self.last, self.pointer, self.run = (0, 0, 0, 0), None, 1
 
     def what(self):
         return {COMMAND_RING: 'cmd', EVENT_RING: 'evt'}.get(self.kind, 'xfer')
@@ -70,11 +74,11 @@ def events_of(lines):
 
 class Follower:
     """Makes rows of events in order. `indices`: the endpoint of each ring, by its number of allocation, as doorbells tell it; `slots`: the
-    slot context behind each Address Device. From version 3 on a ring in memory of an earlier one comes where it is made, and the earlier one
-    goes there."""
+    slot context behind each Address Device; `pages`: those that a later run than the first uses, where that is known. From version 3 on a ring
+    in memory of an earlier one comes where it is made, and the earlier one goes there. From version 4 on the controller runs again."""
 
-    def __init__(self, events, version, indices=(), slots=()):
-        self.indices, self.version, self.slots = dict(indices), version, list(slots)
+    def __init__(self, events, version, indices=(), slots=(), pages=None):
+        self.indices, self.version, self.slots, self.pages = dict(indices), version, list(slots), pages
         self.rows, self.commands, self.notes = [], [], []
         self.rings, self.by_pointer, self.image, self.contexts = [], {}, {}, {}
         self.queued = self.command = self.last_held = None
@@ -83,6 +87,7 @@ class Follower:
         self.control = self.slot_context = None
         self.added, self.device = [], {}
         self.size, self.started, self.over = 32, False, False
+        self.runs, self.goes_on, self.is_freed, self.tables, self.later = 1, False, False, [], set()
         events = list(events)
         self.made_up = self.free_memory(events)
         for name, fields in events:
@@ -116,7 +121,9 @@ class Follower:
     def xhci_ring_alloc(self, fields):
         start = fields['enq']
         ring = TraceRing(fields['type'], start, fields['cycle_state'])
-        if ring.kind in (COMMAND_RING, EVENT_RING) and any(other.kind == ring.kind for other in self.rings):
+        if ring.kind == COMMAND_RING and self.is_freed and self.version >= 4:
+            self.reset()
+        if ring.kind in (COMMAND_RING, EVENT_RING) and self.ring_of(ring.kind):
             return self.end('a second command ring or event ring is made: another controller, or a new run')
         if len(self.rings) == MOST_RINGS:
             return self.end(f'a trace may have {MOST_RINGS} rings')
@@ -127,28 +134,90 @@ class Follower:
             raise Unsupported('the events begin after the command ring was made: enable them before xhci-pci is loaded')
         for other in earlier:
             self.let_go(other)
-        if earlier:
+        self.add_ring(ring, fields['ring'], earlier or self.runs > 1)
+        if ring.kind == EVENT_RING:
+            self.set_up(ring)
+
+    def add_ring(self, ring, pointer, comes):
+        """`comes`: between the rows."""
+        if comes:
             self.row('ring', ring)
         self.rings.append(ring)
-        self.by_pointer[fields['ring']] = ring
-        if ring.kind == EVENT_RING:
-            self.set_up(self.rings[0], ring)
+        ring.pointer, ring.run, self.by_pointer[pointer] = pointer, self.runs, ring
+
+    def ring_of(self, kind):
+        """The command ring, or the event ring, that is there."""
+        return next((ring for ring in self.rings if ring.kind == kind and not ring.is_gone), None)
+
+    def xhci_ring_free(self, fields):
+        ring = self.by_pointer.get(fields['ring'])
+        self.is_freed |= ring is not None and ring.kind == COMMAND_RING
+
+    def reset(self):
+        """The run is over, and another one begins."""
+        for row in (('reg', 'usbcmd', 0), ('rd', 'usbsts', 1), ('reg', 'usbcmd', 2)):
+            self.row(*row)
+        there = [ring for ring in self.rings if not ring.is_gone]
+        for ring in there:
+            ring.is_gone = True
+            self.row('free', ring)
+        for ring in there:
+            self.clear(ring)
+        for context in self.device.values():
+            self.clear_all(context, 32 * self.size)
+        self.runs += 1
+        self.is_freed = False
+        self.queued = self.command = self.last_held = self.erdp = None
+
+    def is_begun_anew(self, ring, at):
+        """Whether a command goes to the beginning of its ring, which isn't due."""
+        return ring.kind == COMMAND_RING and at == ring.start and ring.enqueue not in (ring.start, ring.start + SEGMENT - 16)
+
+    def begin_anew(self, ring):
+        """The command ring is cleared where the controller has halted, which then goes on."""
+        if self.version < 4:
+            return self.end('the command ring begins anew')
+        self.row('reg', 'usbcmd', 0)
+        self.row('rd', 'usbsts', 1)
+        self.let_go(ring)
+        self.add_ring(TraceRing(COMMAND_RING, ring.start, 1), ring.pointer, True)
+        self.row('reg', 'crcr', ring.start | 1)
+        self.row('reg', 'usbcmd', 1)
+        self.goes_on = True
+        self.note(MADE_HALT)
 
     def let_go(self, ring):
-        """A ring is gone, and its memory is cleared, which no event tells: the control words that show the first lap's Cycle bit are."""
+        """A ring is gone, and its memory is cleared, which no event tells."""
         ring.is_gone = True
         self.row('free', ring)
+        self.clear(ring)
+
+    def clear(self, ring):
+        """The control words that show the first lap's Cycle bit; of an event ring, which the controller writes, all words."""
         for start in ring.segments:
+            if ring.kind == EVENT_RING:
+                self.clear_all(start, SEGMENT)
+                continue
             for at in range(start + 12, start + SEGMENT, 16):
                 if self.image.get(at, 0) & 1:
                     self.store(at, 0)
 
-    def set_up(self, command_ring, event_ring):
+    def clear_all(self, start, length):
+        """Where that memory is used again."""
+        if self.pages is None or start - start % SEGMENT in self.pages:
+            for at in range(start, start + length, 4):
+                self.store(at, 0)
+
+    def later_pages(self):
+        """Those that rings and contexts of later runs than the first have."""
+        return {start for ring in self.rings if ring.run > 1 for start in ring.segments} | self.later
+
+    def set_up(self, event_ring):
         """All of it is made up, but for both rings."""
-        self.command_ring, table = command_ring, self.made_up + SEGMENT
-        for name, value in (('config', SLOTS), ('dcbaap', self.made_up), ('crcr', command_ring.start | 1)):
+        table = self.made_up + SEGMENT
+        for name, value in (('config', SLOTS), ('dcbaap', self.made_up), ('crcr', self.ring_of(COMMAND_RING).start | 1)):
             self.row('reg', name, value)
-        self.table = len(self.rows)  # the segment table is filled in when all segments are known
+        self.tables.append((len(self.rows), event_ring))  # the segment table is filled in when all segments are known
         for name, value in (('erstsz', 1), ('erdp', event_ring.start), ('erstba', table), ('usbcmd', 1)):
             self.row('reg', name, value)
         self.started = True
@@ -177,7 +246,7 @@ class Follower:
             return
         ring = self.ring_at(fields['dma'])
         if ring:
-            self.put(ring, fields['dma'], words)
+            self.queue(ring, fields['dma'], words)
 
     def ring_at(self, at):
         return next((ring for ring in self.rings if not ring.is_gone and at - at % SEGMENT in ring.segments), None)
@@ -190,9 +259,19 @@ class Follower:
         if words is not None:
             if ring.enqueue % SEGMENT == SEGMENT - 16:
                 self.cross(ring, fields['enq'] - fields['enq'] % SEGMENT, 0)
-            self.put(ring, ring.enqueue, words)
+            at = fields['enq'] - 16
+            ring = self.queue(ring, at if self.is_begun_anew(ring, at) else ring.enqueue, words)
         if ring.enqueue != fields['enq'] and fields['enq'] % SEGMENT == 0:
             self.cross(ring, fields['enq'], blocks.chained(ring.last))
+
+    def queue(self, ring, at, words):
+        """A TRB goes to this place, on the ring that is then there."""
+        if self.is_begun_anew(ring, at):
+            self.begin_anew(ring)
+            ring = self.by_pointer[ring.pointer]
+        if not self.over:
+            self.put(ring, at, words)
+        return ring
 
     def put(self, ring, at, words):
         """A TRB is stored here."""
@@ -271,8 +350,9 @@ class Follower:
     def prepare(self, words):
         """Before a command: its input context and the DCBAA's entry, as far as events tell them."""
         kind, at = blocks.kind(words), blocks.target(words)
+        context = self.device.get(at, 0)
+        self.later.update([at - at % SEGMENT, context - context % SEGMENT] * (self.runs > 1))
         if kind == blocks.ADDRESS_DEVICE:
-            context = self.device.get(at, 0)
             self.store_new(self.made_up + 8 * blocks.slot(words), (context & 0xffffffff, context >> 32))
             self.store_new(at, self.contexts.get(at) or self.made_context(at))
         elif kind in (blocks.CONFIGURE_ENDPOINT, blocks.EVALUATE_CONTEXT) and not blocks.drops_all(words) and self.control:
@@ -326,11 +406,11 @@ class Follower:
 
     def ring_of_events(self, at):
         """The Event Ring, where an event tells its own place."""
-        return next((ring for ring in self.rings if at is not None and ring.kind == EVENT_RING), None)
+        return None if at is None else self.ring_of(EVENT_RING)
 
 
 class Tracepoints:
-    """The rows and rings of one run, made of the text of its events."""
+    """The rows and rings that are made of the text of events."""
 
     def __init__(self, lines, version):
         events = list(events_of(lines))
@@ -338,7 +418,7 @@ class Tracepoints:
             raise Unsupported('no xhci_queue_trb with its fields: set options/fields to 1 before the events are enabled')
         first = Follower(events, version)
         indices = {number: ring.index for number, ring in enumerate(first.rings) if ring.index}
-        self.follower = Follower(events, version, indices, first.addressed)
+        self.follower = Follower(events, version, indices, first.addressed, first.later_pages())
         if not self.follower.started:
             raise Unsupported('the events begin after the rings of commands and events were made: enable them before xhci-pci is loaded')
         if not any(ring.last[3] for ring in self.follower.rings):
@@ -347,7 +427,7 @@ class Tracepoints:
         self.rings = [self.laid(ring) for ring in self.follower.rings]
         for number, ring in enumerate(self.rings):
             ring.number = number
-        self.rows = [self.of_ring(row) if row.kind in ('ring', 'free') else row for row in self.with_table()]
+        self.rows = [self.of_ring(row) if row.kind in ('ring', 'free') else row for row in self.with_tables()]
 
     def of_ring(self, row):
         """A row by which a ring comes or goes, with the ring as it is in the trace."""
@@ -361,16 +441,21 @@ class Tracepoints:
         laid.lay([(start, SEGMENT // 16) for start in ring.segments])
         return laid
 
-    def with_table(self):
-        """The rows with the event ring's segment table, which is made up."""
-        table = self.follower.made_up + SEGMENT
-        segments = next(ring.segments for ring in self.rings if ring.kind == 'evt')
-        stores = []
-        for i, (start, count) in enumerate(segments):
-            stores += [(table + 16 * i, start & 0xffffffff), (table + 16 * i + 4, start >> 32), (table + 16 * i + 8, count)]
-        rows, place = self.follower.rows, self.follower.table
-        made = [Row(0, 'w', store) for store in stores if store[1]] + [Row(0, 'reg', ('erstsz', len(segments)))]
-        return rows[:place] + made + rows[place + 1:]
+    def with_tables(self):
+        """The rows with the segment tables of the event rings, which are made up."""
+        rows, begin = [], 0
+        for place, ring in self.follower.tables:
+            rows += self.follower.rows[begin:place] + self.table(ring)
+            begin = place + 1
+        return rows + self.follower.rows[begin:]
+
+    def table(self, ring):
+        """The stores of an event ring's segment table, and ERSTSZ."""
+        at, stores = self.follower.made_up + SEGMENT, []
+        for start in ring.segments:
+            stores += [(at, start & 0xffffffff), (at + 4, start >> 32), (at + 8, SEGMENT // 16)]
+            at += 16
+        return [Row(0, 'w', store) for store in stores if store[1]] + [Row(0, 'reg', ('erstsz', len(ring.segments)))]
 
 
 def converted(lines, version=4):
@@ -381,9 +466,10 @@ def converted(lines, version=4):
     commands = [command._replace(read=moved[command.read]) for command in run.commands]
     producers = descriptors.follow(plain, run.rings, commands)
     rows, cut = descriptors.declared(plain, producers, version)
-    header = row_list.head(version, rows, run.size, run.rings)
+    follower = run.follower
+    header = row_list.head(version, rows, run.size, run.rings, follower.runs > 1 or follower.goes_on)
     text = [row_list.text(row) for row in rows]
-    notes = [NOT_JUDGED] + run.follower.notes + of_cut(plain, cut)
+    notes = [NOT_JUDGED] + [MADE_RUNS % follower.runs] * (follower.runs > 1) + follower.notes + of_cut(plain, cut)
     text, full = limited(text, len(header), version)
     notes += full
     lines = [''.join(line + '\n' for line in part) for part in (header + text, notes)]

@@ -6,7 +6,7 @@ use Rattle.line_text.specs.Numbers.{digits_of}
 use Rattle.trb.specs.declared.block.Block.{Block}
 use Rattle.world_state.specs.Harm.{number_of}
 use Rattle.controller_model.specs.declared.seen.Seen.{Seen}
-use Rattle.controller_model.specs.declared.seen.Seen.TheVariants.{Row, Waited, Crossed, Took, Posted, Scribbled}
+use Rattle.controller_model.specs.declared.seen.Seen.TheVariants.{Row, Waited, Crossed, Took, Posted, Scribbled, Halted}
 use Rattle.answers.specs.declared.answer.Status.{Status}
 use Rattle.answers.specs.declared.answer.Status.TheVariants.{Clean, Unclean}
 use Rattle.answers.specs.declared.replay_lines.ReplayEnd.{ReplayEnd}
@@ -33,6 +33,7 @@ take_text Waited = []
 take_text Crossed = []
 take_text (Posted at) = []
 take_text Scribbled = []
+take_text Halted = []
 
 abbrev pub takes_text : List Seen → List ℕ
 takes_text seen = flat_map take_text seen

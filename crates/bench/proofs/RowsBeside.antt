@@ -1,5 +1,5 @@
 -- A run beside rows is a run beside these rows and more
-use Rattle.bench.proofs.Words.{◌≡◌, ◌++◌, ◌∙◌, ℕ, Bool, true, false, List, [], ◌∷◌, Option, Some, None, Ok, Err, refl, ap, sym, subst, if◌then◌else◌, none-some, option_map, option_and_then, Header, Ring, Row, Sub, Write, Reg, Bell, Read, RingRow, FreeRow, NopRow, Step, NextRow, Look, Report, Finish, Other, Scribble, World, row_done, may_come, counted, made, IsBeside, IsStep, Controller, NotPossible, Seen, with_row, Scene, row_made, row_next, scene_reached, step_made, with_coming, with_left, with_world}
+use Rattle.bench.proofs.Words.{◌≡◌, ◌++◌, ◌∙◌, ℕ, Bool, true, false, List, [], ◌∷◌, Option, Some, None, Ok, Err, refl, ap, sym, subst, if◌then◌else◌, none-some, option_map, option_and_then, Header, Ring, Row, Sub, Write, Reg, Bell, Read, RegRead, RingRow, FreeRow, NopRow, Step, NextRow, Look, Report, Finish, Other, Scribble, Halt, World, row_done, may_come, counted, made, IsBeside, IsStep, Controller, NotPossible, Seen, with_row, Scene, row_made, row_next, scene_reached, step_made, with_coming, with_left, with_world}
 
 abbrev pub more : List Row → Scene → Scene
 more rest x = record x { rows = x.rows ++ rest }
@@ -22,6 +22,7 @@ module _ (rest : List Row) where
   row_more x (Reg g v) = done_more x (row_done x.header x.world (Reg g v))
   row_more x (Bell s t) = done_more x (row_done x.header x.world (Bell s t))
   row_more x (Read b) = done_more x (row_done x.header x.world (Read b))
+  row_more x (RegRead g v) = done_more x (row_done x.header x.world (RegRead g v))
 
   left_more : (left : List Row) (o : Option Scene) (y : Scene) → option_map (with_left left) o ≡ Some y → option_map (with_left (left ++ rest)) (option_map (more rest) o) ≡ Some (more rest y)
   left_more left None y at = absurd (none-some _ at)
@@ -44,6 +45,7 @@ module _ (rest : List Row) where
   step_more x y (Finish b) at = world_more x y (made x.header x.live x.world (Finish b)) at
   step_more x y (Other b) at = world_more x y (made x.header x.live x.world (Other b)) at
   step_more x y (Scribble a w) at = world_more x y (made x.header x.live x.world (Scribble a w)) at
+  step_more x y Halt at = world_more x y (made x.header x.live x.world Halt) at
 
   then_more : (s : Step) (x : Scene) (o p : Option Scene) → ((y : Scene) → o ≡ Some y → p ≡ Some (more rest y)) → option_and_then (λ y. step_made y s) o ≡ Some x →
       option_and_then (λ y. step_made y s) p ≡ Some (more rest x)
@@ -72,6 +74,7 @@ none_left x y (Report b) none at = kept_rows x y (made x.header x.live x.world (
 none_left x y (Finish b) none at = kept_rows x y (made x.header x.live x.world (Finish b)) at ∙ none
 none_left x y (Other b) none at = kept_rows x y (made x.header x.live x.world (Other b)) at ∙ none
 none_left x y (Scribble a w) none at = kept_rows x y (made x.header x.live x.world (Scribble a w)) at ∙ none
+none_left x y Halt none at = kept_rows x y (made x.header x.live x.world Halt) at ∙ none
 
 left_none : (o : Option Scene) (y : Scene) → option_map (with_left []) o ≡ Some y → y.rows ≡ []
 left_none None y at = absurd (none-some _ at)

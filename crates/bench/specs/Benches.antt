@@ -7,7 +7,7 @@ use Rattle.traces.specs.Header.{event_shape}
 use Rattle.traces.specs.declared.header.Header.{Header}
 use Rattle.traces.specs.declared.row.Row.{Row}
 use Rattle.traces.specs.declared.step.Step.{Step}
-use Rattle.traces.specs.declared.step.Step.TheVariants.{NextRow, Look, Report, Finish, Other, Scribble}
+use Rattle.traces.specs.declared.step.Step.TheVariants.{NextRow, Look, Report, Finish, Other, Scribble, Halt}
 use Rattle.world_state.specs.Scenes.{Scene, scene_reached}
 use Rattle.controller_model.specs.Controllers.{IsBeside}
 use Rattle.ring_knowledge.specs.Histories.{header_now, known_now}
@@ -34,6 +34,7 @@ words_told x (Finish b) = words_at (next_event x) b
 words_told x (Other b) = words_at (next_event x) b
 words_told x (Scribble a w) = (record { at = a; word = w }) ∷ []
 words_told x (Look r) = []
+words_told x Halt = []
 words_told x NextRow = []
 
 -- the rows that were made, the newest first, and the steps, the newest first, lead from before the first row to this scene, in which no row is

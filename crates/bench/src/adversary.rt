@@ -9,10 +9,13 @@ use crate::events::transfer_event;
 use commands::{Command, EndpointState};
 use controller_model::{Controller, Seen};
 use guest_memory::WordMemory;
-use traces::Step;
+use traces::{Register, Row, Step};
 
 /// How often a random controller tries to do something before all that it may do is gone through.
 const MOST_DRAWS: u32 = 64;
+
+/// A controller that was told to halt has halted where USBSTS is read for this time, at the latest.
+const MOST_READS: u32 = 8;
 
 /// Babble, USB Transaction Error, Stall, Split Transaction Error and TRB Error (xHCI 6.4.5).
 const BREAKING: [u8; 5] = [3, 4, 6, 36, 5];
@@ -23,7 +26,7 @@ const PASSING: [u8; 8] = [2, 3, 4, 18, 20, 31, 36, 5];
 /// When a controller does what it may do.
 #[derive(Clone, Copy, Debug, PartialEq, Eq)]
 pub enum Policy {
-    /// Behind rows, and where the driver looks or waits, as it is drawn.
+    /// Behind rows, and where the driver asks, as it is drawn.
     Random,
     /// All that it can, as soon as it can.
     Eager,
@@ -50,6 +53,8 @@ pub enum Moment {
     Look,
     /// The driver waits for an event.
     Wait,
+    /// The driver reads USBSTS.
+    Status,
 }
 
 /// What it is about to do.
@@ -87,6 +92,8 @@ pub struct Adversary {
     fails: bool,
     /// By slot: a command has enabled it.
     enabled: [bool; 256],
+    /// How often USBSTS was read since the controller was told to halt.
+    reads: u32,
 }
 
 impl Adversary {
@@ -105,6 +112,7 @@ impl Adversary {
             was_finish: false,
             fails: false,
             enabled: [false; 256],
+            reads: 0,
         }
     }
 
@@ -116,15 +124,18 @@ impl Adversary {
     /// It is asked for steps: what it is about to do.
     pub fn begin(&mut self, moment: Moment) {
         let waits = moment != Moment::BehindRow;
+        if moment == Moment::Status {
+            self.reads = self.reads.saturating_add(1);
+        }
         self.plan = match (self.profile.policy, moment) {
-            (Policy::Lazy, Moment::BehindRow) => Plan::Nothing,
+            (Policy::Lazy, Moment::BehindRow | Moment::Status) => Plan::Nothing,
             (Policy::Lazy, _) => sweep(true),
             (Policy::Eager, _) => sweep(false),
             (Policy::Random, Moment::Wait) => Plan::Draws {
                 left: MOST_DRAWS,
                 waits,
             },
-            (Policy::Random, Moment::Look) => Plan::Draws {
+            (Policy::Random, Moment::Look | Moment::Status) => Plan::Draws {
                 left: self.dice.below(self.polls),
                 waits: false,
             },
@@ -136,14 +147,38 @@ impl Adversary {
         };
     }
 
+    /// The driver has made a row: once the controller is reset no slot is enabled, and no command is under way (xHCI 4.2).
+    pub fn hear<M: WordMemory + Drop>(&mut self, row: &Row, controller: &Controller<M>) {
+        if is_reset(row) && !controller.is_running() {
+            self.enabled = [false; 256];
+            self.fails = false;
+        }
+    }
+
     /// The next step that it would make, if it would make one. It may turn out not to be possible.
     pub fn next<M: WordMemory + Drop>(&mut self, controller: &Controller<M>) -> Option<Step> {
+        if self.is_to_halt(controller) {
+            return Some(Step::Halt);
+        }
         if self.made >= self.profile.steps || !controller.is_running() {
             return None;
         }
         let step = self.next_planned(controller);
         self.was_finish = matches!(step, Some(Step::Finish { .. }));
         step
+    }
+
+    /// Whether it halts now: as soon as it may, or as late, or as it is drawn; but it does while USBSTS is read again and again.
+    fn is_to_halt<M: WordMemory + Drop>(&mut self, controller: &Controller<M>) -> bool {
+        if !controller.is_halting() {
+            self.reads = 0;
+            return false;
+        }
+        match self.profile.policy {
+            Policy::Eager => true,
+            Policy::Lazy => self.reads > 1,
+            Policy::Random => self.reads >= MOST_READS || self.dice.below(8) == 0,
+        }
     }
 
     fn next_planned<M: WordMemory + Drop>(&mut self, controller: &Controller<M>) -> Option<Step> {
@@ -421,6 +456,17 @@ impl Adversary {
             self.note_success(command, slot);
         }
         Some(step)
+    }
+}
+
+/// USBCMD is written with HCRST 1 (xHCI 5.4.1).
+fn is_reset(row: &Row) -> bool {
+    match row {
+        Row::Reg {
+            register: Register::Usbcmd,
+            value,
+        } => value & 2 != 0,
+        _ => false,
     }
 }
 

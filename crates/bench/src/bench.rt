@@ -122,7 +122,7 @@ fn add_words(written: &mut Vec<Written>, step: &Step, seen: Seen) -> Result<(), 
             })?;
             Ok(())
         }
-        Step::NextRow | Step::Look { .. } => Ok(()),
+        Step::NextRow | Step::Look { .. } | Step::Halt => Ok(()),
     }
 }
 

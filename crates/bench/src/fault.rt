@@ -5,8 +5,8 @@ use thiserror::Error;
 /// Why a row or a step isn't made.
 #[derive(Clone, Copy, Debug, Error, PartialEq, Eq)]
 pub enum BenchFault {
-    /// No controller may make this step now, or the row reads an event that wasn't posted; where the rows so far broke no rule, the one that
-    /// the row breaks. The controller is as it was, and no row is judged any more.
+    /// No controller may make this step now, or the row reads an event that wasn't posted or a value that the register hasn't; where the rows
+    /// so far broke no rule, the one that the row breaks. The controller is as it was, and no row is judged any more.
     #[error("this isn't possible beside the controller")]
     NotPossible { refusal: Option<Refusal> },
     /// More rows than a trace has.

@@ -16,7 +16,8 @@ use world_state::Harm;
 pub enum LiveFault {
     /// The line, by its number from 1, says no row.
     Line { line: u32, fault: LineFault },
-    /// The row reads an event that the controller hasn't posted; where the rows before it broke no rule, the one that it breaks.
+    /// The row reads an event that the controller hasn't posted, or a value that the register hasn't; where the rows before it broke no rule,
+    /// the one that it breaks.
     NotPossible { row: u32, refusal: Option<Refusal> },
     /// Memory is wanted.
     Memory,
@@ -37,12 +38,12 @@ pub struct Live<M: WordMemory> {
     bench: Bench<M>,
     adversary: Adversary,
     reader: RowReader,
-    /// How many events were told.
+    /// How many events were there when the driver looked or waited last.
     told: u64,
 }
 
 impl<M: WordMemory + Drop> Live<M> {
-    ghost use Rattle.std.specs.Prelude.{◌≡◌, ◌≢◌, ℕ, List, [], None, IfErr, IfOk, IfSome, OnOk, length, reverse};
+    ghost use Rattle.std.specs.Prelude.{◌≡◌, ◌≢◌, ◌&&◌, ℕ, List, [], None, IfErr, IfOk, IfSome, OnOk, length, not, reverse};
     ghost use Rattle.std.specs.Result.{result_err};
     ghost use Rattle.traces.specs.declared.header.Header.{Header as HeaderValue};
     ghost use Rattle.traces.specs.declared.row.Row.{Row as RowValue};
@@ -92,10 +93,13 @@ impl<M: WordMemory + Drop> Live<M> {
             });
         };
         match self.bench.row(&row) {
-            Ok(refusal) => match self.let_go_on(Moment::BehindRow) {
-                Ok(()) => Ok((number, refusal)),
-                Err(_) => Err(LiveFault::Memory),
-            },
+            Ok(refusal) => {
+                self.adversary.hear(&row, self.bench.controller());
+                match self.let_go_on(Moment::BehindRow) {
+                    Ok(()) => Ok((number, refusal)),
+                    Err(_) => Err(LiveFault::Memory),
+                }
+            }
             Err(BenchFault::NotPossible { refusal }) => Err(LiveFault::NotPossible {
                 row: number,
                 refusal,
@@ -104,17 +108,29 @@ impl<M: WordMemory + Drop> Live<M> {
         }
     }
 
-    /// The driver looks at memory, or waits for an event: what the controller wrote since it was told last, and whether an event is among it.
-    pub fn words(&mut self, waits: bool) -> Result<(Vec<Written>, bool), LiveFault>
+    /// The driver looks at memory, waits for an event or reads USBSTS: what the controller wrote since it was told last, and whether an event
+    /// has come since the driver looked or waited last.
+    pub fn words(&mut self, moment: Moment) -> Result<(Vec<Written>, bool), LiveFault>
         requires so_far { IsLive M.words self.old }
         ensures rows { (h : HeaderValue) (past : List RowValue) → IsLiveOf M.words h past self.old → OnOk result (IsLiveOf M.words h past self.new) }
         ensures judging { JudgesNext self.old → OnOk result (JudgesNext self.new) }
     {
-        self.let_go_on(if waits { Moment::Wait } else { Moment::Look })?;
+        self.let_go_on(moment)?;
         let posted = self.adversary.posted();
         let has_event = posted != self.told;
-        self.told = posted;
+        self.told = match moment {
+            Moment::Status => self.told,
+            _ => posted,
+        };
         Ok((self.bench.drain(), has_event))
+    }
+
+    /// HCHalted of USBSTS: the controller wasn't started, or has halted (xHCI 5.4.2).
+    pub fn is_halted(&self) -> bool
+        ensures { (h : HeaderValue) (past : List RowValue) (steps : List StepValue) (told : List WrittenValue) (x : Scene) → IsBench M.words h past steps told x self.now.bench →
+            result ≡ not (x.world.started && not x.world.stopped && not x.world.halted) }
+    {
+        !self.bench.controller().is_running()
     }
 
     /// The controller does what its adversary chooses.

@@ -44,6 +44,7 @@ fn is_step(step: &Step) -> bool
         Step::Finish { event } => is_event(event),
         Step::Other { event } => is_event(event),
         Step::Scribble { at, word } => at.get() % 4 == 0 && u64::from(*word) < 1 << 32,
+        Step::Halt => true,
     }
 }
 

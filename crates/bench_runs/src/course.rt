@@ -12,6 +12,7 @@ ghost use Rattle.bench_runs.specs.Runs.{IsCourse, IsOver, IsRun, end_of, ended_w
 
 use crate::end::{Ended, RefusedRow, refused_line};
 use crate::lines::say;
+use crate::question::Question;
 use crate::run::Left;
 use bench::{Live, LiveFault, Written};
 use guest_memory::WordMemory;
@@ -54,7 +55,7 @@ impl Course {
         self.ended.is_some()
     }
 
-    /// The driver says a line: a row, or that it looks or waits.
+    /// The driver says a line: a row, or what it asks.
     pub fn hear<M: WordMemory + Drop, O: Write, E: Write>(
         &mut self,
         live: &mut Live<M>,
@@ -68,8 +69,8 @@ impl Course {
         if self.is_over() {
             return Ok(());
         }
-        if is_question(line) {
-            return self.answer(live, line == b"wait\n".as_slice(), out);
+        if let Some(question) = Question::of(line) {
+            return self.answer(live, question, out);
         }
         self.said.extend_from_slice(line)?;
         self.hear_row(live, line, err)
@@ -98,31 +99,32 @@ impl Course {
         }
     }
 
-    /// The words that the controller wrote since it was told last; `.` ends them, or `idle` where the driver waits for an event and none comes.
+    /// The words that the controller wrote since it was told last; `.` ends them, `idle` where the driver waits for an event and none comes, or
+    /// `halted` where it reads USBSTS and HCHalted is 1.
     fn answer<M: WordMemory + Drop, O: Write>(
         &mut self,
         live: &mut Live<M>,
-        waits: bool,
+        question: Question,
         out: &mut O,
     ) -> io::Result<()>
         requires so_far { IsCourse M.words self.old live.old }
         requires going { self.old.ended ≡ None }
         ensures so_far { OnOk result (IsCourse M.words self.new live.new) }
     {
-        match live.words(waits) {
+        match live.words(question.moment()) {
             Ok((words, has_event)) => {
                 self.note_harm(live);
-                self.tell(&words, waits && !has_event, out)
+                self.tell(&words, question.end(has_event, live.is_halted()), out)
             }
             Err(_) => Err(ErrorKind::OutOfMemory.into()),
         }
     }
 
     /// Tells words that the controller wrote, and how the answer ends, unless the run is over.
-    fn tell<O: Write>(&self, words: &[Written], is_idle: bool, out: &mut O) -> io::Result<()> {
+    fn tell<O: Write>(&self, words: &[Written], end: &str, out: &mut O) -> io::Result<()> {
         let mut text = self.told(words)?;
         if !self.is_over() {
-            text.push_str(if is_idle { "idle\n" } else { ".\n" })?;
+            text.push_str(end)?;
         }
         say(&text, out)
     }
@@ -223,9 +225,4 @@ fn tell_refusal<E: Write>(
     let line = refused_line(alloc, row, refusal)?;
     err.write_all(line.as_bytes())?;
     err.flush()
-}
-
-/// The driver looks at memory, or waits for an event.
-pub fn is_question(line: &[u8]) -> bool {
-    line == b"?\n".as_slice() || line == b"wait\n".as_slice()
 }

@@ -21,7 +21,7 @@ pub enum Ended {
     Refused(RefusedRow),
     /// Behind this step, from 1, there is harm.
     Harm { harm: Harm, step: usize },
-    /// The row that would be this step reads an event that the controller hasn't posted.
+    /// The row that would be this step reads an event that the controller hasn't posted, or a value that the register hasn't.
     NotPossible { step: usize },
     /// A line, from 1, says no row.
     BadLine { line: u32, fault: LineFault },

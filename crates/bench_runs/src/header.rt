@@ -1,5 +1,6 @@
 //! The lines of a header, and what a driver may ask between them.
 use crate::lines::{Lines, say};
+use crate::question::Question;
 use std::alloc::Global;
 use std::io::{self, Read, Write};
 
@@ -13,7 +14,7 @@ pub struct HeaderText {
 /// The words with which a line of a header begins.
 const WORDS: [&[u8]; 3] = [b"xtrace ", b"ctx ", b"ring "];
 
-/// Reads the lines of a header. Before the rows no controller runs, so nothing was written and no event comes.
+/// Reads the lines of a header. Before the rows no controller runs, so nothing was written, no event comes, and HCHalted is 1.
 pub fn read_header<R: Read + Drop, O: Write>(
     alloc: Global,
     lines: &mut Lines<R>,
@@ -27,10 +28,8 @@ pub fn read_header<R: Read + Drop, O: Write>(
         let Some(line) = lines.next_line()? else {
             return Ok(header);
         };
-        if line.as_slice() == b"?\n".as_slice() {
-            say(".\n", out)?;
-        } else if line.as_slice() == b"wait\n".as_slice() {
-            say("idle\n", out)?;
+        if let Some(question) = Question::of(&line) {
+            say(question.end(false, true), out)?;
         } else {
             header.text.extend_from_slice(&line)?;
             if !is_of_header(&line) {

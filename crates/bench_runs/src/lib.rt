@@ -5,6 +5,7 @@ mod course;
 mod end;
 mod header;
 mod lines;
+mod question;
 mod run;
 
 pub use end::{Ended, RefusedRow};

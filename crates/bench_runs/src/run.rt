@@ -1,10 +1,11 @@
 ghost use Rattle.std.specs.Prelude.{IfOk, OnOk};
 ghost use Rattle.bench_runs.specs.Runs.{IsCourse, IsRun};
 
-use crate::course::{Course, is_question};
+use crate::course::Course;
 use crate::end::Ended;
 use crate::header::{HeaderText, read_header};
 use crate::lines::{Lines, say};
+use crate::question::Question;
 use answers::Status;
 use bench::{Adversary, Live, Profile};
 use guest_memory::{SparseMemory, WordMemory};
@@ -96,7 +97,7 @@ fn hear_rest<R: Read + Drop, M: WordMemory + Drop, O: Write, E: Write>(
             return Ok(());
         };
         course.hear(live, &line, out, err)?;
-        if course.is_over() && is_question(&line) {
+        if course.is_over() && Question::of(&line).is_some() {
             return Ok(());
         }
     }

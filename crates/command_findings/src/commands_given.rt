@@ -1,9 +1,11 @@
 //! Commands that their slot, their endpoint or their Input Context doesn't allow.
 use commands::{Command, EndpointState, SlotState};
 use row_history::{
-    Beside, Case, NoArea, Shown, SoiledWord, clash, command_at, command_name, endpoint_state_name,
-    last_write, line_of, note_dropped, soiled_word,
+    Beside, Case, NoArea, Shown, SoiledWord, Taker, clash, command_at, command_name,
+    endpoint_state_name, given_back_by, last_write, line_of, mark_reset, mark_taken, note_dropped,
+    soiled_word,
 };
+use traces::Register;
 
 /// A command that its slot, its endpoint or its Input Context doesn't allow; the first cause is told. Whether one is found.
 pub fn bad_command(case: &mut Case, address: u64, word: u32) -> bool {
@@ -34,8 +36,13 @@ pub fn bad_command(case: &mut Case, address: u64, word: u32) -> bool {
 /// Notes that the slot, or the endpoint that the command names, is Disabled. Whether it is so.
 fn note_states(case: &mut Case, command: Command, slot: u8) -> bool {
     if case.known.devices.slot_state(slot) == SlotState::Disabled {
+        mark_reset(case);
         case.note(
-            "slot {} is Disabled: no Enable Slot has completed with it, or Disable Slot since",
+            if case.known.controller.reset.is_some() {
+                "slot {} is Disabled: no Enable Slot has completed with it since the reset, or Disable Slot since"
+            } else {
+                "slot {} is Disabled: no Enable Slot has completed with it, or Disable Slot since"
+            },
             &[Shown::Small(slot)],
         );
         case.advise("name the Slot ID of Enable Slot's Command Completion Event");
@@ -102,29 +109,29 @@ fn note_place(case: &mut Case, command: Command) -> bool {
 
 /// Notes that the driver reads a word as its own that the controller may have written. Whether it is so.
 fn note_soiled(case: &mut Case, what: &'static str, from: u64, bytes: u64) -> bool {
-    let Some(SoiledWord { address, device }) = soiled_word(case, from, bytes) else {
+    let Some(SoiledWord { address, taken }) = soiled_word(case, from, bytes) else {
         return false;
     };
-    let (what, slot) = (Shown::Name(what), Shown::Small(device.slot));
-    case.mark(
-        Some(device.row),
-        "hands the Device Context of slot {} to the controller",
-        &[slot],
-    );
-    let line = Shown::Line(line_of(case.first, device.row));
-    case.note(
-        "{} at {} has words that were the Device Context of slot {}, from row {} on: the controller may have written them",
-        &[what, Shown::Address(from), slot, line],
-    );
+    mark_taken(case, taken);
+    let (what, from_there) = (Shown::Name(what), Shown::Address(from));
+    let line = Shown::Line(line_of(case.first, taken.row));
+    match taken.by {
+        Taker::Device(slot) => case.note(
+            "{} at {} has words that were the Device Context of slot {}, from row {} on: the controller may have written them",
+            &[what, from_there, Shown::Small(slot), line],
+        ),
+        Taker::EventRing(id) => case.note(
+            "{} at {} has words that were ring {}, the Event Ring, up to row {}: the controller may have written them",
+            &[what, from_there, Shown::Id(id), line],
+        ),
+    }
     let offset = Shown::Number(address.saturating_sub(from));
     case.note(
         "the word at {}, its byte {}, is the first that the driver has not written since",
         &[Shown::Address(address), offset],
     );
-    case.help(
-        "write every word of {} after Disable Slot, zeros too",
-        &[what],
-    );
+    let back = Shown::Name(given_back_by(case, taken));
+    case.help("write every word of {} after {}, zeros too", &[what, back]);
     true
 }
 
@@ -253,7 +260,8 @@ fn note_added(case: &mut Case, slot: u8, context: u64, endpoint: u8) -> bool {
 
 /// Notes that the slot's DCBAA entry or its Device Context may not lie where it does. Whether it is so.
 fn note_device(case: &mut Case, slot: u8, context: u64) -> bool {
-    if case.known.array.is_none() {
+    if case.register(Register::Dcbaap).is_none() {
+        mark_reset(case);
         case.say(
             "DCBAAP wasn't written, and Address Device takes the slot's Device Context from its array (xHCI 4.6.5)",
         );

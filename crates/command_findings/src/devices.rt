@@ -3,8 +3,9 @@ use commands::{Command, EndpointState};
 use guest_memory::Addr;
 use ring_knowledge::RingGiving;
 use row_history::{
-    Case, Shown, Unfinished, binds_ring, command_at, command_name, endpoint_state_name,
-    name_two_endpoints, note_dropped, ring_at, start, unfinished_beside, unfinished_on,
+    Case, Shown, Unfinished, binds_ring, command_at, command_name, endpoint_state_name, line_of,
+    mark_reset, mark_stop, name_two_endpoints, note_dropped, ring_at, unfinished_beside,
+    unfinished_on,
 };
 use traces::Ring;
 
@@ -16,9 +17,18 @@ pub fn bad_doorbell(case: &mut Case, slot: u8, target: u8) {
     } else {
         case.here("{}", &[Shown::Endpoint(slot, target)]);
     }
-    if start(case.before).is_none() {
+    let controller = &case.known.controller;
+    if controller.start.is_none() {
+        mark_reset(case);
         case.say("the controller isn't started (xHCI 4.2)");
         case.advise("write USBCMD with Run/Stop 1 first");
+    } else if let Some(stop) = controller.stop {
+        mark_stop(case);
+        case.note(
+            "Run/Stop is 0 from row {} on: the controller halts, and takes nothing up before Run/Stop is 1 again (xHCI 5.4.1.1)",
+            &[Shown::Line(line_of(case.first, stop))],
+        );
+        case.advise("ring behind the row by which Run/Stop becomes 1 again");
     } else if slot == 0 {
         case.say("doorbell 0 is the Command Ring's, and its DB Target is 0");
         case.advise("log `db 00 00` for a command");

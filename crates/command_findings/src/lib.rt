@@ -6,8 +6,10 @@ mod commands_given;
 mod devices;
 mod profile;
 mod registers;
+mod runs;
 
 pub use commands_given::bad_command;
 pub use devices::{bad_doorbell, busy};
 pub use profile::{not_in_profile, note_left_out};
 pub use registers::{after_stop, bad_erdp, bad_register};
+pub use runs::impossible_read;

@@ -2,9 +2,9 @@
 use commands::{Command, EndpointState};
 use ring_knowledge::RingRecord;
 use row_history::{
-    Case, Shown, code_name, command_name, endpoint_state_name, given_back, is_handed_over,
-    last_event, last_register, last_write, line_of, mark_adding, note_dropped, position_at, reads,
-    register_value, ring_at, ring_known, ring_of_kind, slot_state_name, start, submission,
+    Case, Shown, code_name, command_name, endpoint_state_name, events_read, given_back,
+    is_handed_over, last_event, last_write, line_of, mark_adding, mark_reset, note_dropped,
+    note_no_ring, position_at, ring_at, ring_known, ring_of_kind, slot_state_name, submission,
     trb_named, type_name,
 };
 use segments::Place;
@@ -19,8 +19,9 @@ pub fn impossible_event(case: &mut Case, event: Block) {
     );
     let (kind, code) = (type_name(event.kind()), code_name(event.code()));
     case.here("{}, {}", &[Shown::Name(kind), Shown::Name(code)]);
-    if start(case.before).is_none() {
+    if case.known.controller.start.is_none() {
         case.say("the controller isn't started: USBCMD with Run/Stop 1 comes first");
+        note_lost(case);
     } else if !note_event_ring(case, event) {
         match event.kind() {
             BlockKind::CommandCompletion => note_completion(case, event),
@@ -35,16 +36,27 @@ pub fn impossible_event(case: &mut Case, event: Block) {
     }
 }
 
+/// Notes that a reset loses events, and points at the last one.
+fn note_lost(case: &mut Case) {
+    if let Some(reset) = case.known.controller.reset {
+        mark_reset(case);
+        case.note(
+            "the reset of row {} loses the events that weren't read before it (xHCI 5.4.1)",
+            &[Shown::Line(line_of(case.first, reset))],
+        );
+    }
+}
+
 /// Notes that the event has no place in the Event Ring: another Cycle bit, or no room. Whether it is so.
 fn note_event_ring(case: &mut Case, event: Block) -> bool {
     let Some(ring) = ring_of_kind(case.header.rings.as_slice(), RingKind::Evt) else {
-        case.say("the header has no `evt` ring");
+        note_no_ring(case, RingKind::Evt);
         return true;
     };
     if note_full(case, ring) {
         return true;
     }
-    let count = reads(case.before) as u64;
+    let count = events_read(case);
     let (have, want) = (event.cycle(), ring.shape.cycle(count));
     if have == want {
         return false;
@@ -66,7 +78,7 @@ fn note_event_ring(case: &mut Case, event: Block) -> bool {
 /// Notes that the Event Ring had no room for one more event. Whether it is so.
 fn note_full(case: &mut Case, ring: &Ring) -> bool {
     let most = u64::from(ring.shape.places()).saturating_sub(1);
-    let unread = (reads(case.before) as u64).saturating_sub(given_back(case, ring));
+    let unread = events_read(case).saturating_sub(given_back(case, ring));
     if unread < most {
         return false;
     }
@@ -75,7 +87,7 @@ fn note_full(case: &mut Case, ring: &Ring) -> bool {
         &[Shown::Number(unread), Shown::Number(most)],
     );
     case.mark(
-        last_register(case.before, Register::Erdp),
+        case.register_row(Register::Erdp),
         "ERDP is written here",
         &[],
     );
@@ -86,8 +98,7 @@ fn note_full(case: &mut Case, ring: &Ring) -> bool {
 /// What is wrong with a Command Completion Event.
 fn note_completion(case: &mut Case, event: Block) {
     let Some(commands) = ring_of_kind(case.header.rings.as_slice(), RingKind::Cmd) else {
-        case.say("the header has no `cmd` ring");
-        return;
+        return note_no_ring(case, RingKind::Cmd);
     };
     let Some((ring, known)) = ring_known(case, commands.id) else {
         return;
@@ -130,7 +141,7 @@ fn note_other_command(case: &mut Case, ring: &Ring, found: u64, wanted: u64) {
             Shown::Address(wanted),
         ],
     );
-    let last = last_event(case.before, BlockKind::CommandCompletion, found);
+    let last = case.since_reset(last_event(case.before, BlockKind::CommandCompletion, found));
     if last.is_some() {
         case.mark(last, "the last completion that named it", &[]);
         note_breach(case);
@@ -193,7 +204,7 @@ fn note_answer(case: &mut Case, event: Block) {
 
 /// Notes that CONFIG doesn't enable the slot that an Enable Slot answers. Whether it is so.
 fn note_slot(case: &mut Case, slot: u8) -> bool {
-    let slots = register_value(case.before, Register::Config).unwrap_or(0) % 256;
+    let slots = case.register(Register::Config).unwrap_or(0) % 256;
     if slot > 0 && u64::from(slot) <= slots {
         return false;
     }
@@ -393,7 +404,7 @@ fn note_unsubmitted(case: &mut Case, ring: &Ring, position: u64, pointer: u64) {
         );
         return;
     };
-    let named = last_event(case.before, BlockKind::TransferEvent, pointer);
+    let named = case.since_reset(last_event(case.before, BlockKind::TransferEvent, pointer));
     case.mark(named, "the last event that named it", &[]);
     let text = match named {
         Some(_) =>
@@ -479,7 +490,7 @@ fn note_stopped(case: &mut Case, event: Block, ring: &Ring, known: &RingRecord) 
     }
     let pointer = event.pointer();
     if has_come_back(ring, known, pointer) {
-        let last = last_event(case.before, BlockKind::TransferEvent, pointer);
+        let last = case.since_reset(last_event(case.before, BlockKind::TransferEvent, pointer));
         case.mark(last, "the last event that named it", &[]);
         case.note(
             "it names {}, which came back before, and isn't submitted since",

@@ -1,6 +1,7 @@
 pub mod WorkedReplays
 pub mod WorkedShowing
 pub mod WorkedScenes
+pub mod WorkedRuns
 pub mod WorkedIsochronous
 pub mod HeldLemmas
 pub mod Borders
@@ -11,6 +12,8 @@ pub mod NamedPlaces
 pub mod RowLemmas
 pub mod RingLemmas
 pub mod RingSteps
+pub mod IdleRings
+pub mod ResetLemmas
 pub mod RingRowLemmas
 pub mod LookLemmas
 pub mod LookBranches

@@ -1,12 +1,12 @@
 -- Steps by which nothing is taken, and which harms they leave
-use Rattle.controller_model.proofs.Words.{common_steps, ◌≡◌, ◌≢◌, ◌+◌, ◌==◌, ◌&&◌, ◌∷◌, ◌∙◌, ◌++◌, ℕ, zero, suc, List, [], Bool, true, false, Option, Some, None, refl, sym, ap, subst, arith, rules, option_map, unwrap_or, if◌then◌else◌, not, length, option_and_then, inl, inr, eqb-true, cases_Bool, code, erdp_address, Shape, put, Block, Header, Step, Look, Report, Finish, Other, Scribble, NextRow, Row, Command, EndpointState, Change, SlotGoesOn, DeviceLeft, Disables, Places, Stops, Resets, World, RingEvent, Took, Placed, UnderWay, Sub, Write, Reg, Bell, Read, RingRow, FreeRow, NopRow, Register, Usbcmd, Usbsts, Dnctrl, Crcr, Dcbaap, Config, Iman, Imod, Erstsz, Erstba, Erdp, same_Some, Scene, row_made, row_next, step_made, with_coming, with_left, with_world, AddsNone, BringsNone, HasRingHarms, TakesNothing, is_coming, may_be_inside, RingHarms, Ring, fun_ext, slice_get, or_from, list_any}
+use Rattle.controller_model.proofs.Words.{common_steps, ◌≡◌, ◌≢◌, ◌+◌, ◌==◌, ◌&&◌, ◌∷◌, ◌∙◌, ◌++◌, ℕ, zero, suc, List, [], Bool, true, false, Option, Some, None, refl, sym, ap, subst, arith, rules, option_map, unwrap_or, if◌then◌else◌, not, length, option_and_then, inl, inr, eqb-true, cases_Bool, code, erdp_address, Shape, put, Block, Header, Step, Look, Report, Finish, Other, Scribble, Halt, NextRow, Row, Command, EndpointState, Change, SlotGoesOn, DeviceLeft, Disables, Places, Stops, Resets, World, RingEvent, Took, Placed, UnderWay, Sub, Write, Reg, Bell, Read, RegRead, RingRow, FreeRow, NopRow, Register, Usbcmd, Usbsts, Dnctrl, Crcr, Dcbaap, Config, Iman, Imod, Erstsz, Erstba, Erdp, same_Some, Scene, row_made, row_next, step_made, with_coming, with_left, with_world, AddsNone, BringsNone, HasRingHarms, TakesNothing, is_coming, may_be_inside, RingHarms, Ring, fun_ext, slice_get, or_from, list_any}
 unfoldable use Rattle.world_state.specs.World.{stored, stored_block}
 unfoldable use Rattle.world_state.specs.Harms.{is_out_of_order, has_other_words, is_inside_descriptor}
 unfoldable use Rattle.world_state.specs.Posts.{posted, reported, reported_on, report_code, report_success, report_error, report_stop, with_reported, stopped_with, other_posted}
 unfoldable use Rattle.world_state.specs.Bindings.{is_had_by_another, changed_by, changed_by_all, placed, placed_on, disabled, typed, in_state, inactive, effect}
 unfoldable use Rattle.world_state.specs.Finishes.{finished, finished_as, ended, ended_with, succeeded}
-unfoldable use Rattle.world_state.specs.Steps.{made, stepped, counted, scribbled, while_running}
-unfoldable use Rattle.world_state.specs.DriverRows.{activated, bell_row, declared, endpoint_bell, event_read, register_row, row_done, run_or_stop, started_with, valued, with_dequeue}
+unfoldable use Rattle.world_state.specs.Steps.{made, stepped, counted, halts, noting_post, scribbled, until_halted, while_running}
+unfoldable use Rattle.world_state.specs.DriverRows.{activated, bell_row, command_placed, declared, endpoint_bell, event_read, register_row, reset, resets, row_done, run_or_stop, runs_again, runs_once, valued, with_command_ring, with_dequeue}
 unfoldable use Rattle.world_state.specs.RingRows.{without_descriptor}
 unfoldable use Rattle.traces.specs.Header.{shape_of, some_ring}
 unfoldable use Rattle.world_state.specs.Harms.{waits}
@@ -110,20 +110,38 @@ finished_nothing h live w v b e = finished_as_nothing h live w v b _ (if_some _ 
 
 -- ---- each step but a look
 
+-- a post is noted that is made while no event ring is there, and no controller makes one that has halted
+noted_nothing : (h live : Header) (w v : World) (o : Option World) → ((u : World) → o ≡ Some u → TakesNothing w u) →
+    until_halted h w (option_map (noting_post live) o) ≡ Some v → TakesNothing w v
+unfolding until_halted while_running noting_post
+noted_nothing h live w v o nothing e =
+    let (u, is, same) = mapped_some (noting_post live) o v (if_none _ _ v (if_none _ _ v e)) in
+    then_nothing w u v (nothing u is) (events_same u v (ap (λ y. y.events) (sym same)))
+
+halted_events : (h : Header) (w v : World) → halts h w ≡ Some v → v.events ≡ w.events
+unfolding halts
+halted_events h w v e = of_some w (record w { halted = true }) v refl (if_some _ _ v e)
+
 pub made_nothing : (h live : Header) (w v : World) (s : Step) → ((r : ℕ) → s ≢ Look r) → made h live w s ≡ Some v → TakesNothing w v
 unfolding made while_running
 made_nothing h live w v NextRow apart e = absurd (cc)
 made_nothing h live w v (Look r) apart e = absurd (apart r refl)
-made_nothing h live w v (Report b) apart e = events_same w v (reported_events h w v b (if_none _ _ v e))
-made_nothing h live w v (Finish b) apart e = finished_nothing h live w v b (if_none _ _ v e)
-made_nothing h live w v (Other b) apart e = events_same w v (other_events h w v b (if_none _ _ v e))
+made_nothing h live w v (Report b) apart e =
+    noted_nothing h live w v (reported h w b) (λ u is. events_same w u (reported_events h w u b is)) e
+made_nothing h live w v (Finish b) apart e = noted_nothing h live w v (finished h live w b) (λ u is. finished_nothing h live w u b is) e
+made_nothing h live w v (Other b) apart e = noted_nothing h live w v (other_posted h w b) (λ u is. events_same w u (other_events h w u b is)) e
 made_nothing h live w v (Scribble a x) apart e = events_same w v (scribbled_events h w v a x (if_none _ _ v e))
+made_nothing h live w v Halt apart e = events_same w v (halted_events h w v (if_none _ _ v e))
 
 -- ---- rows
 
 started_events : (h : Header) (w : World) (v : ℕ) → (run_or_stop h w v).events ≡ w.events
-unfolding run_or_stop started_with
+unfolding run_or_stop runs_again runs_once
 started_events h w v = grind (arith, common_steps)
+
+placed_events : (h : Header) (w : World) (v : ℕ) → (with_command_ring h w v).events ≡ w.events
+unfolding with_command_ring command_placed
+placed_events h w v = grind (arith, common_steps)
 
 dequeue_events : (h : Header) (w : World) (a : ℕ) → (with_dequeue h w a).events ≡ w.events
 unfolding with_dequeue
@@ -131,7 +149,11 @@ dequeue_events h w a = grind (arith, common_steps)
 
 register_events : (h : Header) (w : World) (r : Register) (v : ℕ) → (register_row h w r v).events ≡ w.events
 unfolding register_row valued
-register_events h w x2 v = search (rules, started_events, dequeue_events)
+register_events h w x2 v = search (rules, started_events, placed_events, dequeue_events)
+
+written_events : (h : Header) (w : World) (r : Register) (v : ℕ) → (if resets w r v then reset w else register_row h w r v).events ≡ w.events
+unfolding reset
+written_events h w r v = grind (arith, common_steps, register_events)
 
 endpoint_events : (h : Header) (w : World) (s t : ℕ) (o : Option ℕ) → (endpoint_bell h w s t o).events ≡ w.events
 unfolding endpoint_bell activated
@@ -147,7 +169,7 @@ read_events h w v b e = of_some w (record w { reads = w.reads + 1 }) v refl (if_
 
 done_events : (h : Header) (w v : World) (row : Row) → row_done h w row ≡ Some v → v.events ≡ w.events
 unfolding row_done declared stored
-done_events h w v x3 e = search (rules, of_some, register_events, bell_events, read_events)
+done_events h w v x3 e = search (rules, of_some, written_events, bell_events, read_events, if_some)
 
 -- ---- scenes
 

@@ -1,5 +1,5 @@
 -- What a written register does
-use Rattle.controller_model.proofs.LowerLaws.{arith, rules, ◌&&◌, ◌||◌, ◌≡◌, ◌≢◌, ◌%◌, ◌==◌, if◌then◌else◌, Bool, not, ℕ, Option, eq-eqb, ne_eqb, cond-true, cond-false, Register, Usbcmd, Erdp, with_register, base_address, ring_cycle_state, Header, register_row, valued, World, Registers, FollowsRegisters, ring_held, noted, pointed, put_same, put_other}
+use Rattle.controller_model.proofs.LowerLaws.{beq, run_bit, reset_bit, runs_again, true, false, arith, rules, ◌&&◌, ◌||◌, ◌≡◌, ◌≢◌, ◌%◌, ◌==◌, if◌then◌else◌, Bool, not, ℕ, Option, eq-eqb, ne_eqb, cond-true, cond-false, Register, Usbcmd, Crcr, Erdp, with_register, base_address, ring_cycle_state, Header, register_row, valued, World, Registers, FollowsRegisters, ring_held, noted, pointed, put_same, put_other}
 
 pub registers_noted : (k : Registers) (values : Register → Option ℕ) (r : Register) (v : ℕ) → FollowsRegisters k values → FollowsRegisters (noted k r v) (with_register values r v)
 registers_noted k values r v f = grind arith
@@ -18,6 +18,14 @@ pub stops_unless_runs : (a b : Bool) → (not a || b) ≡ not (a && not b)
 stops_unless_runs a b = grind arith
 
 -- the other registers are kept, and do no more
-pub other_register : (h : Header) (w : World) (r : Register) (v : ℕ) → r ≢ Usbcmd → r ≢ Erdp → register_row h w r v ≡ valued w r v
+pub other_register : (h : Header) (w : World) (r : Register) (v : ℕ) → r ≢ Usbcmd → r ≢ Crcr → r ≢ Erdp → register_row h w r v ≡ valued w r v
 unfolding register_row
-other_register h w r v a b = grind arith
+other_register h w r v a b c = grind arith
+
+-- R/S 0 in a run
+pub told_to_halt : (h : Header) (w : World) (v : ℕ) → reset_bit v ≡ false → run_bit v ≡ false → w.started ≡ true → runs_again h w v ≡ record w { halting = true }
+unfolding runs_again
+told_to_halt h w v no_reset no_run runs = grind arith
+
+pub is_one_of : (a b c : Bool) → beq a (b || not c) ≡ (if a then b || not c else c && not b)
+is_one_of a b c = grind arith

@@ -1,5 +1,5 @@
 -- What a step at one ring does to the rings' harms
-use Rattle.controller_model.proofs.MiddleLaws.{rules, Scene, step_made, ◌≡◌, ◌≢◌, ◌==◌, ◌&&◌, ◌||◌, ◌∙◌, if◌then◌else◌, ◌∷◌, ℕ, zero, suc, not, Bool, true, false, List, [], Option, Some, None, option_map, ap, sym, subst, refl, inl, inr, IsSome, find, eq-eqb, arith, list_any, slice_get, cases_Bool, cases_eq, cond-false, cond-true, cond_both, Block, block_at, cycle, Header, command_id, Ring, Look, ring_with, shape_of, some_ring, World, has_other_words, is_inside_descriptor, is_out_of_order, waits, RingHarms, command_begun, crossed, looked, looked_at, seen_by_look, taken, taken_on, counted, made, stepped, while_running, same_Some, RingHeld, ring_held, ChangesOnly, HasRingHarms, may_be_inside, with_world, none_any, crossed_other, taken_other}
+use Rattle.controller_model.proofs.MiddleLaws.{rules, Scene, step_made, ◌≡◌, ◌≢◌, ◌==◌, ◌&&◌, ◌||◌, ◌∙◌, if◌then◌else◌, ◌∷◌, ℕ, zero, suc, not, Bool, true, false, List, [], Option, Some, None, option_map, ap, sym, subst, refl, inl, inr, IsSome, find, eq-eqb, arith, list_any, slice_get, cases_Bool, cases_eq, cond-false, cond-true, cond_both, Block, block_at, cycle, Header, command_id, Ring, Look, ring_with, shape_of, some_ring, World, has_other_words, is_inside_descriptor, is_out_of_order, waits, RingHarms, command_begun, crossed, looked, looked_at, seen_by_look, taken, taken_on, counted, made, stepped, until_halted, while_running, same_Some, RingHeld, ring_held, ChangesOnly, HasRingHarms, may_be_inside, with_world, none_any, crossed_other, taken_other}
 
 first_false : (a b : Bool) → (a || b) ≡ false → a ≡ false
 first_false a b e = grind arith
@@ -94,17 +94,17 @@ looked_is h live w v r e = elim (cases_Bool (w.is_active r)) [
 ]
 
 -- a step that is possible was made, and counted
-counts : (h : Header) (P : World → Type 0) → ((u : World) → P u → P (counted h u)) → (stopped : Bool) (o : Option World) (v : World) → ((u : World) → o ≡ Some u → P u) →
-    option_map (counted h) (if stopped then None else o) ≡ Some v → P v
-counts h P more stopped o v each e = grind (arith, option_map)
+counts : (h : Header) (P : World → Type 0) → ((u : World) → P u → P (counted h u)) → (halted stopped : Bool) (o : Option World) (v : World) → ((u : World) → o ≡ Some u → P u) →
+    option_map (counted h) (if halted then None else if stopped then None else o) ≡ Some v → P v
+counts h P more halted stopped o v each e = grind (arith, option_map)
 
 counted_at : (h : Header) (r : ℕ) (w u : World) → IsAt r w u → IsAt r w (counted h u)
 unfolding counted
 counted_at h r w u f = (record { memory = f.0.memory; others = f.0.others }, f.1)
 
 pub look_is : (h live : Header) (w v : World) (r : ℕ) → stepped h live w (Look r) ≡ Some v → IsAt r w v
-unfolding stepped made while_running
-look_is h live w v r e = counts h (IsAt r w) (counted_at h r w) w.stopped (looked h live w r) v (λ u made. looked_is h live w u r made) e
+unfolding stepped made until_halted while_running
+look_is h live w v r e = counts h (IsAt r w) (counted_at h r w) w.halted w.stopped (looked h live w r) v (λ u made. looked_is h live w u r made) e
 
 -- what a step of the controller leads to
 pub came_from : (x : Scene) (o : Option World) (y : Scene) →

@@ -1,5 +1,6 @@
 -- Rings that come and go: what is kept of the others
-use Rattle.controller_model.proofs.LowerLaws.{rules, remove, position-Some, fails_before_first, emptied, with_ring, without_descriptor, without_ring, length_from, no_ops, split_at, ◌≡◌, ◌≢◌, ◌==◌, ◌∷◌, ◌++◌, ◌<◌, ◌∙◌, if◌then◌else◌, ℕ, zero, suc, true, false, [], List, Some, None, not, find, filter, get_or, length, position, arith, ap, sym, refl, cases_eq, cond-true, cond-false, eq-eqb, ne_eqb, Header, Ring, ring_with, World, ring_held, put_same, put_other, inl, inr, listed}
+unfoldable use Rattle.controller_model.proofs.Words.{emptied, resting, may_come}
+use Rattle.controller_model.proofs.LowerLaws.{is_in_way, list_any, rules, remove, position-Some, fails_before_first, with_ring, without_descriptor, without_ring, length_from, no_ops, split_at, ◌≡◌, ◌≢◌, ◌==◌, ◌∷◌, ◌++◌, ◌<◌, ◌∙◌, if◌then◌else◌, ℕ, zero, suc, true, false, cases_Bool, is_transfer_kind, [], List, Some, None, not, find, filter, get_or, length, position, arith, ap, sym, refl, cases_eq, cond-true, cond-false, eq-eqb, ne_eqb, Header, Ring, ring_with, World, ring_held, put_same, put_other, inl, inr, listed}
 
 -- ---- the rings that are there
 
@@ -39,19 +40,50 @@ found_last : (rings : List Ring) (x : Ring) → find (λ r. r.id == x.id) (filte
 found_last [] x = cond-true (x.id == x.id) (Some x) None (eq-eqb x.id x.id refl)
 found_last (y ∷ ys) x = grind (arith, cases_eq, cond-false, eq-eqb, ne_eqb, cond-true, found_last ys x)
 
+-- the newest command or event ring stands before all others
+abbrev newest_first : Header → Ring → Header
+newest_first h ring = record (without_ring h ring.id) { rings = ring ∷ (without_ring h ring.id).rings }
+
+module _ (h : Header) (ring : Ring) where
+  pub listed_last : is_transfer_kind ring.shape.kind ≡ true → listed h ring ≡ with_ring (without_ring h ring.id) ring
+  unfolding listed
+  listed_last transfer = cond-true (is_transfer_kind ring.shape.kind) (with_ring (without_ring h ring.id) ring) _ transfer
+
+  pub listed_first : is_transfer_kind ring.shape.kind ≡ false → listed h ring ≡ newest_first h ring
+  unfolding listed without_ring
+  listed_first newest = cond-false (is_transfer_kind ring.shape.kind) (with_ring (without_ring h ring.id) ring) (newest_first h ring) newest
+
 pub listed_here : (h : Header) (ring : Ring) → ring_with (listed h ring) ring.id ≡ Some ring
-unfolding listed with_ring without_ring
-listed_here h ring = found_last h.rings ring
+unfolding with_ring without_ring
+listed_here h ring = elim (cases_Bool (is_transfer_kind ring.shape.kind)) [
+  | inl transfer ↦ ap (λ g. ring_with g ring.id) (listed_last h ring transfer) ∙ found_last h.rings ring
+  | inr newest ↦ ap (λ g. ring_with g ring.id) (listed_first h ring newest) ∙ cond-true (ring.id == ring.id) (Some ring) _ (eq-eqb ring.id ring.id refl)
+]
 
 pub listed_alike : (h : Header) (ring : Ring) (r : ℕ) → r ≢ ring.id → ring_with (listed h ring) r ≡ ring_with h r
-unfolding listed
-listed_alike h ring r apart = with_alike (without_ring h ring.id) ring r apart ∙ without_alike h ring.id r apart
+listed_alike h ring r apart = elim (cases_Bool (is_transfer_kind ring.shape.kind)) [
+  | inl transfer ↦ ap (λ g. ring_with g r) (listed_last h ring transfer) ∙ with_alike (without_ring h ring.id) ring r apart ∙ without_alike h ring.id r apart
+  | inr newest ↦
+      ap (λ g. ring_with g r) (listed_first h ring newest)
+      ∙ cond-false (ring.id == r) (Some ring) (ring_with (without_ring h ring.id) r) (ne_eqb ring.id r (λ e. apart (sym e))) ∙ without_alike h ring.id r apart
+]
 
-pub listed_lists : (h live : Header) (ring : Ring) → ((r : ℕ) (q : Ring) → ring_with live r ≡ Some q → ring_with h r ≡ Some q) →
-    (r : ℕ) (q : Ring) → ring_with (listed live ring) r ≡ Some q → ring_with (listed h ring) r ≡ Some q
-listed_lists h live ring lists r q found = elim (cases_eq r ring.id) [
-  | inl same ↦ ap (λ n. ring_with (listed h ring) n) same ∙ listed_here h ring ∙ sym (listed_here live ring) ∙ sym (ap (λ n. ring_with (listed live ring) n) same) ∙ found
-  | inr apart ↦ listed_alike h ring r apart ∙ lists r q (sym (listed_alike live ring r apart) ∙ found)
+-- a ring that may come has an ID that none has which lives
+found_newest : (rings : List Ring) (x : Ring) → list_any (is_in_way x) rings ≡ false → find (λ r. r.id == x.id) (rings ++ x ∷ []) ≡ Some x
+found_newest [] x none = cond-true (x.id == x.id) (Some x) None (eq-eqb x.id x.id refl)
+found_newest (y ∷ ys) x none = grind (arith, cond-false, found_newest ys x)
+
+pub coming_here : (live : Header) (ring : Ring) → may_come live ring ≡ true → ring_with (with_ring live ring) ring.id ≡ Some ring
+unfolding may_come with_ring
+coming_here live ring may = found_newest live.rings ring (grind arith)
+
+pub coming_lists : (h live : Header) (ring : Ring) → may_come live ring ≡ true → ((r : ℕ) (q : Ring) → ring_with live r ≡ Some q → ring_with h r ≡ Some q) →
+    (r : ℕ) (q : Ring) → ring_with (with_ring live ring) r ≡ Some q → ring_with (listed h ring) r ≡ Some q
+coming_lists h live ring may lists r q found = elim (cases_eq r ring.id) [
+  | inl same ↦
+      ap (λ n. ring_with (listed h ring) n) same ∙ listed_here h ring
+      ∙ sym (coming_here live ring may) ∙ sym (ap (λ n. ring_with (with_ring live ring) n) same) ∙ found
+  | inr apart ↦ listed_alike h ring r apart ∙ lists r q (sym (with_alike live ring r apart) ∙ found)
 ]
 
 -- rings with an ID are taken out one by one
@@ -87,13 +119,13 @@ without_is h id rings same = (λ i. record h { rings = same i })
 
 -- ---- the world
 
-pub emptied_here : (w : World) (r : ℕ) → ring_held (emptied w r) r ≡ record (ring_held w r) { queue = []; lengths = []; events = []; reported = 0 }
-unfolding emptied
-emptied_here w r = search (rules, put_same)
+pub resting_here : (w : World) (r : ℕ) → ring_held (resting w r) r ≡ record (ring_held w r) { queue = []; lengths = []; is_active = false; events = []; reported = 0 }
+unfolding resting emptied
+resting_here w r = search (rules, put_same)
 
-pub emptied_other : (w : World) (r q : ℕ) → q ≢ r → ring_held (emptied w r) q ≡ ring_held w q
-unfolding emptied
-emptied_other w r q apart = search (rules, put_other)
+pub resting_other : (w : World) (r q : ℕ) → q ≢ r → ring_held (resting w r) q ≡ ring_held w q
+unfolding resting emptied
+resting_other w r q apart = search (rules, put_other)
 
 pub withdrawn_here : (w : World) (r p : ℕ) → ring_held (without_descriptor w r p) r
     ≡ record (ring_held w r) { queue = no_ops (w.queue r) p (length_from (w.lengths r) 0 p); lengths = split_at (w.lengths r) 0 p }

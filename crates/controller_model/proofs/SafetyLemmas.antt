@@ -19,14 +19,17 @@ module _ (h : Header) (r : ℕ) (w : World) (x : RingState) (f : FollowsRing h r
   unfolding waits
   waits_so words b agrees same active inside block turn = search (rules, and_true)
 
-pub posts_nowhere : (h : Header) (w : World) → None ≡ event_ring h → false ≡ (nat_lt 0 (event_size h) && nat_le (event_size h) (w.posted - w.reads))
+-- there is no event ring whose events the driver hasn't read
+pub posts_nowhere : (h : Header) (w : World) → w.posted_nowhere ≡ false → None ≡ event_ring h →
+    false ≡ (w.posted_nowhere || (nat_lt 0 (event_size h) && nat_le (event_size h) (w.posted - w.reads)))
 unfolding event_size event_shape
-posts_nowhere h w none = (λ i. nat_lt 0 (place_count (shape_or Evt (none i))) && nat_le (place_count (shape_or Evt (none i))) (w.posted - w.reads))
+posts_nowhere h w there none = (λ i. sym there i || (nat_lt 0 (place_count (shape_or Evt (none i))) && nat_le (place_count (shape_or Evt (none i))) (w.posted - w.reads)))
 
-pub posts_there : (h : Header) (w : World) (shape : Shape) (n posted reads : ℕ) → shape ≡ event_shape h → n ≡ place_count shape → 2 ≤ n → w.posted ≡ posted → w.reads ≡ reads →
-    nat_le n (posted - reads) ≡ (nat_lt 0 (event_size h) && nat_le (event_size h) (w.posted - w.reads))
+pub posts_there : (h : Header) (w : World) (shape : Shape) (n posted reads : ℕ) → w.posted_nowhere ≡ false → shape ≡ event_shape h → n ≡ place_count shape → 2 ≤ n →
+    w.posted ≡ posted → w.reads ≡ reads →
+    nat_le n (posted - reads) ≡ (w.posted_nowhere || (nat_lt 0 (event_size h) && nat_le (event_size h) (w.posted - w.reads)))
 unfolding event_size
-posts_there h w shape n posted reads same count several at seen = grind (arith, lt-ltb, nat_le, nat_lt)
+posts_there h w shape n posted reads there same count several at seen = grind (arith, lt-ltb, nat_le, nat_lt)
 
 module _ (h : Header) (w : World) (o : Option Pending) (e : w.under_way ≡ option_map under_way_of o) where
   pub context_idle : o ≡ None → false ≡ has_changed_context h w w.under_way
@@ -74,7 +77,7 @@ module _ (h : Header) (w : World) where
   waits_harm = some_ring h (λ r. waits w r && is_inside_descriptor (w.events r))
 
   abbrev pub posts_harm : Bool
-  posts_harm = nat_lt 0 (event_size h) && nat_le (event_size h) (w.posted - w.reads)
+  posts_harm = w.posted_nowhere || (nat_lt 0 (event_size h) && nat_le (event_size h) (w.posted - w.reads))
 
   abbrev pub context_harm : Bool
   context_harm = has_changed_context h w w.under_way

@@ -9,13 +9,14 @@ pub use Rattle.commands.specs.declared.command.Command.TheVariants.{AddressDevic
 pub use Rattle.commands.specs.declared.state.EndpointState.{EndpointState}
 pub use Rattle.commands.specs.declared.state.EndpointState.TheVariants.{Disabled as Off, Running, Stopped}
 pub use Rattle.commands.specs.declared.state.SlotState.{SlotState}
+pub use Rattle.commands.specs.declared.state.SlotState.TheVariants.{Disabled}
 pub use Rattle.contexts.specs.Contexts.{context_cycle, context_pointer, has_flag, has_isochronous, input_add_flag, input_context_bytes, is_dropped}
 unfoldable pub use Rattle.contexts.specs.Contexts.{added_endpoints}
 pub use Rattle.contexts.specs.declared.size.ContextSize.{ContextSize}
 pub use Rattle.contexts.specs.declared.size.ContextSize.TheVariants.{Bytes32}
 pub use Rattle.controller_model.specs.Completions.{IsPart, completed}
 pub use Rattle.controller_model.specs.Declarations.{Declares, as_declared, blocks_of, entries, lone_no_op, withdrawn, withdrawn_from}
-pub use Rattle.controller_model.specs.Following.{Follows, FollowsEndpoints, FollowsHolder, FollowsRegisters, FollowsRing, FollowsRings, FollowsSlots, GoesOn, IsChange, IsEndpoint, IsStep, KeepsRun, Lists, RingHeld, addressed, bound, freed, is_endpoint, is_holder, is_it, is_other, may_get, named_by, noted, noted_held, pointed, released, ring_held, taken_held, told, turned_off, under_way_of}
+pub use Rattle.controller_model.specs.Following.{AreLeft, Follows, FollowsEndpoints, FollowsHolder, FollowsRegisters, FollowsRing, FollowsRings, FollowsSlots, GoesOn, IsChange, IsEndpoint, IsLeft, IsStep, KeepsRun, Lists, RingHeld, acts, addressed, bound, freed, idle, is_endpoint, is_holder, is_it, is_other, left_alone, may_get, named_by, noted, noted_held, pointed, released, ring_held, taken_held, told, turned_off, under_way_of}
 pub use Rattle.controller_model.specs.Held.{Held, changed_at, held, held_block, held_by, held_stored, written_at}
 pub use Rattle.controller_model.specs.Histories.{Keeps, ShowsHarms}
 unfoldable pub use Rattle.controller_model.specs.OnLiterals.{model_on_literals}
@@ -58,7 +59,7 @@ pub use Rattle.std.proofs.Math.Nat.{add-mod_right, div-add-mod'}
 pub use Rattle.std.proofs.Math.Path.{fun_ext}
 pub use Rattle.std.proofs.lemmas.Bool.{cond_both}
 pub use Rattle.std.proofs.lemmas.Grind.{common_steps, take_at_read}
-pub use Rattle.std.proofs.lemmas.List.{drop-append-le, drop_all, take_all}
+pub use Rattle.std.proofs.lemmas.List.{drop-append-le, drop_all, take-append-le, take_all}
 pub use Rattle.std.proofs.lemmas.List.Edits.{length-remove}
 pub use Rattle.std.proofs.lemmas.List.Elements.{All-head, All-tail}
 pub use Rattle.std.proofs.lemmas.List.Folds.{list_any_more}
@@ -69,24 +70,23 @@ pub use Rattle.std.proofs.lemmas.Option.{get_or_from_slice_get}
 pub use Rattle.std.proofs.lemmas.Result.{err_from_is_err_and}
 pub use Rattle.std.specs.List.{remove}
 pub use Rattle.std.specs.Option.{option_copied}
-pub use Rattle.std.specs.Prelude.{replicate}
+pub use Rattle.std.specs.Prelude.{is_none, replicate, reverse}
 pub use Rattle.std.specs.Result.{result_ok}
-pub use Rattle.traces.specs.Header.{id_of, id_or_none, is_ring, is_transfer_kind, ring_with, shape_or}
+pub use Rattle.traces.specs.Header.{id_of, id_or_none, is_command_kind, is_ring, is_transfer_kind, ring_with, shape_or}
 unfoldable pub use Rattle.traces.specs.Header.{command_id, command_ring, event_ring, event_shape, event_size, ring_having, shape_of, some_ring}
 unfoldable pub use Rattle.traces.specs.LivingRings.{with_ring, without_ring}
-pub use Rattle.traces.specs.Register.{base_address, register_or_zero, ring_cycle_state, with_register}
+pub use Rattle.traces.specs.Register.{base_address, register_or_zero, reset_bit, ring_cycle_state, run_bit, with_register}
 pub use Rattle.traces.specs.Versions.{has_isoch}
 pub use Rattle.traces.specs.declared.header.Header.{Header, Header as HeaderValue}
 pub use Rattle.traces.specs.declared.register.Register.{Register}
 pub use Rattle.traces.specs.declared.register.Register.TheVariants.{Config, Crcr, Dcbaap, Dnctrl, Erdp, Erstba, Erstsz, Iman, Imod, Usbcmd, Usbsts}
 pub use Rattle.traces.specs.declared.ring.Ring.{Ring}
 pub use Rattle.traces.specs.declared.row.Row.{Row}
-pub use Rattle.traces.specs.declared.row.Row.TheVariants.{Bell, Free as FreeRow, Nop as NopRow, Read, Reg, Ring as RingRow, Sub, Write}
+pub use Rattle.traces.specs.declared.row.Row.TheVariants.{Bell, Free as FreeRow, Nop as NopRow, Read, Reg, RegRead, Ring as RingRow, Sub, Write}
 pub use Rattle.traces.specs.declared.step.Step.{Step}
-pub use Rattle.traces.specs.declared.step.Step.TheVariants.{Finish, Look, NextRow, Other, Report, Scribble}
+pub use Rattle.traces.specs.declared.step.Step.TheVariants.{Finish, Halt, Look, NextRow, Other, Report, Scribble}
 pub use Rattle.traces.specs.declared.version.Version.{Version}
 pub use Rattle.traces.specs.declared.version.Version.TheVariants.{Four, One, Three, Two}
-pub use Rattle.trb.specs.Bits.{bits}
 pub use Rattle.trb.specs.Block.{code, endpoint, slot}
 pub use Rattle.trb.specs.CompletionCode.{counted_code}
 pub use Rattle.trb.specs.declared.ring_kind.RingKind.TheVariants.{Cmd}
@@ -97,19 +97,20 @@ pub use Rattle.world_state.proofs.Pairs.{put_pair_index, put_pair_same, put_pair
 pub use Rattle.world_state.proofs.PlacingCommands.{command_well}
 pub use Rattle.world_state.proofs.Ranges.{any_in_range, none_in_range}
 unfoldable pub use Rattle.world_state.specs.Bindings.{changed_by, changed_by_all, disabled, effect, has_one_of, in_state, inactive, is_had_by_another, placed, placed_on, typed}
-unfoldable pub use Rattle.world_state.specs.DriverRows.{activated, bell_row, declared, endpoint_bell, event_read, register_row, row_done, run_or_stop, started_with, valued, with_dequeue}
+unfoldable pub use Rattle.world_state.specs.DriverRows.{activated, bell_row, command_placed, declared, endpoint_bell, event_read, is_command_ring, register_row, reset, row_done, run_or_stop, runs_again, runs_once, valued, with_command_ring, with_dequeue}
 unfoldable pub use Rattle.world_state.specs.Finishes.{ended, ended_with, finished, finished_as, passes_end, succeeded}
 unfoldable pub use Rattle.world_state.specs.Harms.{harm_of, harms, has_changed_context, has_other_words, is_changed_since, is_context_changed, is_end, is_inside_descriptor, is_out_of_order, is_right_place, waits}
 unfoldable pub use Rattle.world_state.specs.Looks.{command_begun, crossed, looked, looked_at, may_scribble, seen_by_look, taken, taken_on}
 pub use Rattle.world_state.specs.PlacingCommands.{HasRoom, places_from}
 unfoldable pub use Rattle.world_state.specs.Posts.{can_post, code_posted, is_last, other_posted, posted, report_code, report_error, report_stop, report_success, reported, reported_on, stopped_with, with_reported, with_stopped}
 pub use Rattle.world_state.specs.RingRows.{is_in_way}
-unfoldable pub use Rattle.world_state.specs.RingRows.{emptied, listed, may_come, without_descriptor}
+unfoldable pub use Rattle.world_state.specs.RingRows.{emptied, listed, may_come, resting, without_descriptor}
 pub use Rattle.world_state.specs.Scenes.{Scene, row_made, row_next, scene_ending, scene_reached, step_made, with_coming, with_left, with_world}
 pub use Rattle.world_state.specs.Steps.{Ending, Harmful, NoHarm, NotPossible}
-unfoldable pub use Rattle.world_state.specs.Steps.{counted, is_scribbled, made, scribbled, stepped, while_running}
+unfoldable pub use Rattle.world_state.specs.Steps.{counted, halts, is_scribbled, made, noting_post, scribbled, stepped, until_halted, while_running}
 unfoldable pub use Rattle.world_state.specs.Takes.{declared_next, first_at, is_as_declared, is_place, next_take, takes_of, unreported, was_placed}
 pub use Rattle.world_state.specs.World.{Placed, RingEvent, Took, UnderWay, World}
 unfoldable pub use Rattle.world_state.specs.World.{opening, stored, stored_block}
 pub use Rattle.world_state.specs.declared.harm.Harm.{Harm}
 pub use Rattle.world_state.specs.declared.harm.Harm.TheVariants.{InputContextChanged, LooksOutside, PostsOverUnread, TakenOtherWords, TakenOutOfOrder, WaitsInsideDescriptor}
+pub use mathlib.Core.Bool.{beq}

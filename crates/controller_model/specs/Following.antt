@@ -16,7 +16,10 @@ use Rattle.traces.specs.declared.register.Register.{Register}
 use Rattle.traces.specs.declared.register.Register.TheVariants.{Usbcmd, Usbsts, Dnctrl, Crcr, Dcbaap, Config, Iman, Imod, Erstsz, Erstba, Erdp}
 use Rattle.traces.specs.Register.{register_or_zero, base_address, ring_cycle_state}
 use Rattle.guest_memory.specs.Memory.{put, put_pair}
-use Rattle.traces.specs.Header.{shape_of, ring_with, is_ring}
+use Rattle.traces.specs.declared.step.Step.{Step}
+use Rattle.traces.specs.declared.step.Step.TheVariants.{NextRow, Look, Report, Finish, Other, Scribble, Halt}
+use Rattle.traces.specs.Header.{shape_of, ring_with, is_command_kind, is_ring}
+use Rattle.std.specs.List.{list_any}
 use Rattle.traces.specs.Versions.{has_isoch}
 use Rattle.world_state.specs.World.{World, RingEvent, Took, Placed, UnderWay}
 use Rattle.world_state.specs.Takes.{next_take, takes_of}
@@ -106,13 +109,14 @@ pub record FollowsRing (h : Header) (r : ℕ) (held : RingHeld) (x : RingState) 
 pub record FollowsRings (h : Header) (held : ℕ → RingHeld) (rings : List RingState) : Type 0 where
   pub each : (r : ℕ) (x : RingState) → slice_get rings r ≡ Some x → FollowsRing h r (held r) x
 
-pub record FollowsProgress (p : Progress) (count : ℕ) (start stop : Bool) : Type 0 where
+pub record FollowsProgress (p : Progress) (count : ℕ) (start stop halts halt : Bool) : Type 0 where
   pub steps : count ≡ p.steps
   pub started : start ≡ p.started
   pub stopped : stop ≡ p.stopped
+  pub halting : halts ≡ p.halting
+  pub halted : halt ≡ p.halted
 
 pub record FollowsRegisters (k : Registers) (register : Register → Option ℕ) : Type 0 where
-  pub crcr : register_or_zero register Crcr ≡ k.crcr
   pub dcbaap : register_or_zero register Dcbaap ≡ k.dcbaap
   pub config : register_or_zero register Config ≡ k.config
 
@@ -136,7 +140,7 @@ under_way_of p = record { address = p.address; block = p.block; has_stopped = p.
 
 -- memory with these words and what is kept beside it stand for a world
 pub record Follows (h : Header) (words : ℕ → ℕ) (k : Kept) (w : World) : Type 0 where
-  pub progress : FollowsProgress k.progress w.steps w.started w.stopped
+  pub progress : FollowsProgress k.progress w.steps w.started w.stopped w.halting w.halted
   pub registers : FollowsRegisters k.registers w.register
   pub held : held_by w ≡ held words k.stamps
   -- beyond the last address there is no memory
@@ -147,6 +151,7 @@ pub record Follows (h : Header) (words : ℕ → ℕ) (k : Kept) (w : World) : T
   pub events : FollowsEvents k.events w.posted w.reads w.dequeue
   pub under_way : w.under_way ≡ option_map under_way_of k.under_way
   pub looked : w.looked_outside ≡ k.looked_outside
+  pub nowhere : w.posted_nowhere ≡ k.posted_nowhere
 
 -- an answer to a step that the definitions allow as told: it leads to a world, or a scene, of which P holds, and shows this; want of memory
 -- may come at any step, and tells nothing
@@ -181,7 +186,7 @@ is_it t (Some s) = t == s
 
 -- the registers with one more write
 abbrev pub noted : Registers → Register → ℕ → Registers
-noted k Crcr v = record k { crcr = v }
+noted k Crcr v = k
 noted k Dcbaap v = record k { dcbaap = v }
 noted k Config v = record k { config = v }
 noted k Usbcmd v = k
@@ -199,6 +204,31 @@ pointed w r crcr = record w {
   pointer_of = put w.pointer_of r (base_address crcr);
   cycle_state = put w.cycle_state r (ring_cycle_state crcr);
 }
+
+-- of these rings the command rings are inactive
+abbrev pub idle : World → List Ring → World
+idle w rings = record w { is_active = λ r. w.is_active r && not (list_any (λ q. is_command_kind q.shape.kind && q.id == r) rings) }
+
+-- no endpoint has the ring, and it is inactive
+abbrev pub left_alone : RingHeld → RingHeld
+left_alone held = record held { is_active = false; had_by = λ s i. false }
+
+-- a ring is as it was, but that
+pub record IsLeft (before after : RingState) : Type 0 where
+  pub follows : (h : Header) (r : ℕ) (held : RingHeld) → FollowsRing h r held before → FollowsRing h r (left_alone held) after
+
+pub record AreLeft (before after : List RingState) : Type 0 where
+  pub each : (i : ℕ) (x y : RingState) → slice_get before i ≡ Some x → slice_get after i ≡ Some y → IsLeft x y
+
+-- a step is a look or a post
+abbrev pub acts : Step → Bool
+acts NextRow = false
+acts (Look r) = true
+acts (Report b) = true
+acts (Finish b) = true
+acts (Other b) = true
+acts (Scribble a x) = false
+acts Halt = false
 
 -- what a Transfer Event says of an endpoint's ring, if it has one, before it is posted
 abbrev pub told : Header → World → Block → Option ℕ → Option World

@@ -7,7 +7,7 @@ use Rattle.segments.specs.Places.{address_of}
 use Rattle.traces.specs.declared.header.Header.{Header}
 use Rattle.traces.specs.declared.row.Row.{Row}
 use Rattle.traces.specs.declared.step.Step.{Step}
-use Rattle.traces.specs.declared.step.Step.TheVariants.{NextRow, Look, Report, Finish, Other, Scribble}
+use Rattle.traces.specs.declared.step.Step.TheVariants.{NextRow, Look, Report, Finish, Other, Scribble, Halt}
 use Rattle.traces.specs.Header.{event_shape}
 use Rattle.world_state.specs.World.{World}
 use Rattle.world_state.specs.Harms.{harm_of}
@@ -37,6 +37,7 @@ module _ (h : Header) where
   shows w (Finish b) = seen.Posted (address_of (event_shape h) w.posted)
   shows w (Other b) = seen.Posted (address_of (event_shape h) w.posted)
   shows w (Scribble a x) = seen.Scribbled
+  shows w Halt = seen.Halted
 
 -- what a step shows beside rows between which rings come and go, where it is possible
 unfoldable pub scene_seen_by : Scene → Step → Option Seen

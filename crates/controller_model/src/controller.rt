@@ -112,7 +112,8 @@ impl<M: WordMemory + Drop> Controller<M> {
         }
     }
 
-    /// Makes a row, where it is possible: one that reads an event is where the event was posted.
+    /// Makes a row, where it is possible: one that reads an event is where the event was posted, and one that reads USBSTS where HCHalted is as
+    /// it says.
     #[tactic(auto, unfolding(crate::specs::Showing::shows))]
     pub fn row(&mut self, row: &Row) -> Result<Seen, StepFault>
         requires { IsTraceRow row.now }

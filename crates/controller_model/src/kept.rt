@@ -12,14 +12,16 @@ pub struct Progress {
     /// How many steps were made.
     pub(crate) steps: u64,
     pub(crate) started: bool,
-    /// The controller was stopped or reset after the start.
+    /// It runs but once, and was stopped or reset after the start.
     pub(crate) stopped: bool,
+    /// R/S was cleared in a run, and the controller has halted since (xHCI 5.4.1.1, 5.4.2).
+    pub(crate) halting: bool,
+    pub(crate) halted: bool,
 }
 
 /// The registers that steps rest on; 0 where one wasn't written.
 #[derive(Clone, Copy, Debug)]
 pub struct Registers {
-    pub(crate) crcr: u64,
     pub(crate) dcbaap: u64,
     pub(crate) config: u64,
 }
@@ -97,6 +99,8 @@ pub struct Kept {
     pub(crate) under_way: Option<Pending>,
     /// A look was outside a ring's segments.
     pub(crate) looked_outside: bool,
+    /// An event was posted while no event ring was there.
+    pub(crate) posted_nowhere: bool,
     ghost rings_many: { length rings.items ≡ 256 },
     ghost slots_many: { length slots.items ≡ 256 },
     ghost endpoints_many: { length endpoints.items ≡ 256 * 32 },

@@ -6,6 +6,7 @@
 
 mod bells;
 mod bindings;
+mod command_rings;
 mod controller;
 mod declared;
 mod disabling;
@@ -24,6 +25,7 @@ mod opening;
 mod posts;
 mod registers;
 mod reports;
+mod resets;
 mod ring_rows;
 mod rings;
 mod rows;

@@ -32,7 +32,7 @@ pub(crate) fn ring_with(header: &Header, id: u8) -> Option<&Ring>
     header.rings.as_slice().iter().find(|ring| ring.id == id)
 }
 
-fn is_command_kind(kind: RingKind) -> bool
+pub(crate) fn is_command_kind(kind: RingKind) -> bool
     ensures { result ≡ is_command_kind kind }
 {
     match kind {

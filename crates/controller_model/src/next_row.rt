@@ -11,7 +11,7 @@ use crate::fault::StepFault;
 use crate::kept::Kept;
 use crate::life::Rings;
 use crate::posts::read_event;
-use crate::registers::write_register;
+use crate::registers::{read_register, write_register};
 use crate::ring_rows::{add_ring, end_life, withdraw};
 use crate::rows::{declare, write};
 use crate::rows_left::RowsLeft;
@@ -46,6 +46,7 @@ fn make_row<M: WordMemory>(
         Row::Ring { ring } => add_ring(rings, kept, ring.as_ring())?,
         Row::Free { ring: id } => end_life(rings, *id),
         Row::Nop { ring, position } => withdraw(kept, *ring, *position),
+        Row::RegRead { register, value } => return read_register(kept, *register, *value),
     }
     Ok(Seen::Row)
 }

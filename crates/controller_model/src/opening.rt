@@ -21,9 +21,10 @@ pub(crate) fn opening(alloc: Global) -> Result<Kept, AllocError>
             steps: 0,
             started: false,
             stopped: false,
+            halting: false,
+            halted: false,
         },
         registers: Registers {
-            crcr: 0,
             dcbaap: 0,
             config: 0,
         },
@@ -38,6 +39,7 @@ pub(crate) fn opening(alloc: Global) -> Result<Kept, AllocError>
         },
         under_way: None,
         looked_outside: false,
+        posted_nowhere: false,
     })
 }
 

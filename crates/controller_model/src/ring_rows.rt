@@ -3,10 +3,10 @@ ghost use Rattle.std.specs.Prelude.{◌≡◌, ◌≢◌, ◌<◌, ◌==◌, if�
 ghost use Rattle.std.specs.List.{list_any};
 ghost use Rattle.traces.specs.declared.header.Header.{Header as HeaderValue};
 ghost use Rattle.traces.specs.declared.row.Row.{Row as RowValue};
-ghost use Rattle.traces.specs.Header.{ring_with};
+ghost use Rattle.traces.specs.Header.{is_transfer_kind, ring_with};
 ghost use Rattle.world_state.specs.World.{World};
-ghost use Rattle.world_state.specs.RingRows.{emptied, is_in_way, listed, may_come, without_descriptor};
-ghost use Rattle.traces.specs.LivingRings.{without_ring};
+ghost use Rattle.world_state.specs.RingRows.{is_in_way, listed, may_come, resting, without_descriptor};
+ghost use Rattle.traces.specs.LivingRings.{with_ring, without_ring};
 ghost use Rattle.controller_model.specs.RingHarms.{FollowsScene};
 ghost use Rattle.world_state.specs.Scenes.{Scene, with_coming};
 ghost use Rattle.controller_model.specs.declared.kept.Kept.{Kept as KeptValue};
@@ -16,15 +16,17 @@ use crate::kept::Kept;
 use crate::life::Rings;
 use std::alloc::AllocError;
 use traces::{Header, Ring};
+use trb::RingKind;
 
-/// Nothing is declared on the ring with this ID any more, and nothing has happened.
+/// Nothing is declared on the ring with this ID any more, nothing has happened, and the controller doesn't look at it.
 fn empty(kept: &mut Kept, id: u8)
     ensures { (h g : HeaderValue) (words : ℕ → ℕ) (w : World) → ((r : ℕ) → r ≢ id → ring_with g r ≡ ring_with h r) →
-        Follows h words kept.old w → Follows g words kept.new (emptied w id) }
+        Follows h words kept.old w → Follows g words kept.new (resting w id) }
 {
     let state = &mut kept.rings[usize::from(id)];
     state.declared.clear();
     state.history.clear();
+    state.is_active = false;
 }
 
 /// Which ring is the first with this ID.
@@ -59,11 +61,34 @@ fn drop_ring(header: &mut Header, id: u8)
     }
 }
 
-/// The header lists the ring, in place of one that had its ID.
+fn is_transfer_kind(kind: RingKind) -> bool
+    ensures { result ≡ is_transfer_kind kind }
+{
+    match kind {
+        RingKind::Xfer => true,
+        RingKind::Cmd | RingKind::Evt => false,
+    }
+}
+
+/// The header lists the ring, in place of one that had its ID. Of command and of event rings the newest stands first: the controller
+/// uses that.
 fn list(header: &mut Header, ring: &Ring) -> Result<(), AllocError>
     ensures { OnOk result (header.new ≡ listed header.old ring.now) }
 {
     drop_ring(header, ring.id);
+    if is_transfer_kind(ring.shape.kind()) {
+        add(header, ring)?;
+        return Ok(());
+    }
+    let copy = ring.copy()?;
+    header.rings.push_first(copy)?;
+    Ok(())
+}
+
+/// The header has one ring more.
+fn add(header: &mut Header, ring: &Ring) -> Result<(), AllocError>
+    ensures { OnOk result (header.new ≡ with_ring header.old ring.now) }
+{
     let copy = ring.copy()?;
     header.rings.push(copy)?;
     Ok(())
@@ -89,7 +114,7 @@ fn may_come(live: &Header, ring: &Ring) -> bool
     !some_in_way(ring, live.rings.as_slice())
 }
 
-/// A ring comes, and nothing has happened on it; where one that lives is in its way nothing is changed (xHCI 4.9).
+/// A ring comes, nothing has happened on it, and the controller doesn't look at it; where one that lives is in its way nothing is changed (xHCI 4.9).
 pub(crate) fn add_ring(rings: &mut Rings, kept: &mut Kept, ring: &Ring) -> Result<(), AllocError>
     ensures { OnOk result ((rows : List RowValue) (words : ℕ → ℕ) (x : Scene) → FollowsScene rings.old rows words kept.old x →
         FollowsScene rings.new rows words kept.new (if may_come x.live ring.now then with_coming x ring.now else x)) }
@@ -98,7 +123,7 @@ pub(crate) fn add_ring(rings: &mut Rings, kept: &mut Kept, ring: &Ring) -> Resul
         return Ok(());
     }
     list(&mut rings.declared, ring)?;
-    list(&mut rings.live, ring)?;
+    add(&mut rings.live, ring)?;
     empty(kept, ring.id);
     Ok(())
 }

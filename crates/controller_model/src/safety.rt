@@ -108,12 +108,15 @@ fn waits_inside<M: WordMemory>(memory: &M, state: &RingState) -> bool
     !shows(memory, state.pointer, state.cycle)
 }
 
-/// Whether the controller posted over an unread event (xHCI 4.9.4).
+/// Whether the controller posted over an unread event, or where no event ring was (xHCI 4.9.4).
 #[tactic(auto, using(crate::proofs::SafetyLemmas::posts_nowhere, crate::proofs::SafetyLemmas::posts_there), unfolding(traces::specs::Header::event_shape))]
 fn posts_over_unread(header: &Header, kept: &Kept) -> bool
     ensures { (words : ℕ → ℕ) (w : World) → Follows header.now words kept.now w →
-        result ≡ (nat_lt 0 (event_size header.now) && nat_le (event_size header.now) (w.posted - w.reads)) }
+        result ≡ (w.posted_nowhere || (nat_lt 0 (event_size header.now) && nat_le (event_size header.now) (w.posted - w.reads))) }
 {
+    if kept.posted_nowhere {
+        return true;
+    }
     match event_ring(header) {
         None => false,
         Some(ring) => {

@@ -15,4 +15,6 @@ pub enum Seen {
     Posted { at: u64 },
     /// It wrote a word of a device context (xHCI 6.2.1).
     Scribbled,
+    /// It halted (xHCI 5.4.2, HCH).
+    Halted,
 }

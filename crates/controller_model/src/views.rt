@@ -37,11 +37,19 @@ impl<M: WordMemory + Drop> Controller<M> {
         &self.lists.live
     }
 
-    /// The controller was started, and not stopped or reset since: else it makes no step.
+    /// The controller was started, and hasn't stopped or halted since: else it looks at nothing and posts nothing.
     pub fn is_running(&self) -> bool
-        ensures { (x : Scene) → IsBeside M.words self.now x → result ≡ (x.world.started && not x.world.stopped) }
+        ensures { (x : Scene) → IsBeside M.words self.now x → result ≡ (x.world.started && not x.world.stopped && not x.world.halted) }
     {
-        self.kept.progress.started && !self.kept.progress.stopped
+        let progress = self.kept.progress;
+        progress.started && !progress.stopped && !progress.halted
+    }
+
+    /// R/S was cleared in a run, and the controller hasn't halted since: it may halt (xHCI 5.4.1.1).
+    pub fn is_halting(&self) -> bool
+        ensures { (x : Scene) → IsBeside M.words self.now x → result ≡ (x.world.halting && not x.world.halted) }
+    {
+        self.kept.progress.halting && !self.kept.progress.halted
     }
 
     /// The controller may look at a ring.

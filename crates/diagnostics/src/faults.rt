@@ -283,7 +283,9 @@ fn unended(alloc: Global, bytes: &[u8], line: u32, kind: TextKind) -> Result<Why
 fn unknown_word(alloc: Global, text: &[u8], line: u32, kind: TextKind) -> Result<Why, AllocError> {
     match kind {
         TextKind::Trace => {
-            let begins = if has_ring_rows(text) {
+            let begins = if has_runs(text) {
+                "rows begin with sub, w, reg, rd, db, ev, ring, free or nop"
+            } else if has_ring_rows(text) {
                 "rows begin with sub, w, reg, db, ev, ring, free or nop"
             } else {
                 "rows begin with sub, w, reg, db or ev, and `ring` lines stand before them"
@@ -306,7 +308,7 @@ fn unknown_word(alloc: Global, text: &[u8], line: u32, kind: TextKind) -> Result
         TextKind::Schedule => Why::plain(
             alloc,
             "no step begins with this word",
-            "steps begin with row, look, report, finish, other or scrib",
+            "steps begin with row, look, report, finish, other, scrib or halt",
         ),
     }
 }
@@ -328,6 +330,13 @@ fn form_fault(
     if (comes || form == Field::Free || form == Field::Nop) && !has_ring_rows(text) {
         return row_of_later_versions(alloc, form);
     }
+    if form == Field::RegRead && !has_runs(text) {
+        return Why::plain(
+            alloc,
+            "versions before 4 have no `rd` rows",
+            "begin the trace with `xtrace 4`, where the controller halts and runs again",
+        );
+    }
     if !word_count(form, bytes) {
         return Why::plain(
             alloc,
@@ -336,13 +345,14 @@ fn form_fault(
         );
     }
     if is_ring {
-        return ring_kind_fault(alloc, bytes, kind, comes);
+        return ring_kind_fault(alloc, bytes, kind, comes && !has_runs(text));
     }
-    Why::plain(
-        alloc,
-        "no register has this name",
-        "registers are usbcmd, usbsts, dnctrl, crcr, dcbaap, config, iman, imod, erstsz, erstba and erdp; leave out writes of others",
-    )
+    let help = if form == Field::RegRead {
+        "write `rd usbsts VALUE`; leave out reads of other registers"
+    } else {
+        "registers are usbcmd, usbsts, dnctrl, crcr, dcbaap, config, iman, imod, erstsz, erstba and erdp; leave out writes of others"
+    };
+    Why::plain(alloc, "no register has this name", help)
 }
 
 /// Whether the rows of a trace may have rings that come and go, and TDs that are withdrawn: its version is 2 or a later one.
@@ -353,6 +363,11 @@ fn has_ring_rows(text: &[u8]) -> bool {
 /// Whether a trace may have more lines than are kept: its version is 3 or 4.
 fn has_many_lines(text: &[u8]) -> bool {
     text.starts_with(b"xtrace 3\n") || text.starts_with(b"xtrace 4\n")
+}
+
+/// Whether a register may be read, and a Command or Event Ring come between rows: the trace's version is 4.
+fn has_runs(text: &[u8]) -> bool {
+    text.starts_with(b"xtrace 4\n")
 }
 
 /// A row of a trace of version 1 that only later versions have.
@@ -376,24 +391,24 @@ fn row_of_later_versions(alloc: Global, form: Field) -> Result<Why, AllocError> 
     }
 }
 
-/// A line of a ring with a kind that the ring can't be of.
+/// A line of a ring with a kind that the ring can't be of; it may have to be a Transfer Ring.
 fn ring_kind_fault(
     alloc: Global,
     bytes: &[u8],
     kind: TextKind,
-    comes: bool,
+    is_transfer_ring: bool,
 ) -> Result<Why, AllocError> {
     let word = bytes.split(|b| *b == b' ').nth(2).unwrap_or(&[]);
-    if comes && (word == b"cmd".as_slice() || word == b"evt".as_slice()) {
+    if is_transfer_ring && (word == b"cmd".as_slice() || word == b"evt".as_slice()) {
         return Why::plain(
             alloc,
             "only a Transfer Ring comes between rows",
-            "write the `ring` lines of cmd and evt before the first row",
+            "write the `ring` lines of cmd and evt before the first row, or begin the trace with `xtrace 4`",
         );
     }
     let help = match kind {
         TextKind::Plan => "the ring of a plan is cmd or xfer",
-        _ if comes => "a ring that comes between rows is xfer",
+        _ if is_transfer_ring => "a ring that comes between rows is xfer",
         _ => "rings are cmd, evt or xfer",
     };
     Why::plain(alloc, "no ring is of this kind", help)

@@ -24,6 +24,8 @@ pub(crate) enum Field {
     Free,
     /// A TD is withdrawn.
     Nop,
+    /// A register was read.
+    RegRead,
     /// TRBs of a plan's ring come back.
     Ret,
     /// The driver's next row.
@@ -33,6 +35,7 @@ pub(crate) enum Field {
     Post,
     /// The controller changes a word.
     Scrib,
+    Halt,
 }
 
 impl Field {
@@ -47,12 +50,14 @@ impl Field {
             Field::Event => "write `ev W W W W`",
             Field::Free => "write `free ID`",
             Field::Nop => "write `nop ID POSITION`",
+            Field::RegRead => "write `rd NAME VALUE`",
             Field::Ret => "write `ret P`",
             Field::Row => "write `row` alone",
             Field::Look => "write `look ID`",
             Field::Post =>
                 "write the four words of the event: `report W W W W`, `finish W W W W` or `other W W W W`",
             Field::Scrib => "write `scrib ADDR WORD`",
+            Field::Halt => "write `halt` alone",
         }
     }
 
@@ -60,11 +65,11 @@ impl Field {
     pub(crate) fn is_in(self, kind: TextKind) -> bool {
         match self {
             Field::Ring | Field::Sub => kind != TextKind::Schedule,
-            Field::Write | Field::Reg | Field::Bell | Field::Event | Field::Free | Field::Nop => {
-                kind == TextKind::Trace
-            }
             Field::Ret => kind == TextKind::Plan,
-            Field::Row | Field::Look | Field::Post | Field::Scrib => kind == TextKind::Schedule,
+            Field::Row | Field::Look | Field::Post | Field::Scrib | Field::Halt => {
+                kind == TextKind::Schedule
+            }
+            _ => kind == TextKind::Trace,
         }
     }
 
@@ -77,12 +82,12 @@ impl Field {
             Field::Ring => if number == 2 { 2 } else { 0 },
             Field::Sub => if number == 2 { 2 } else { 8 },
             Field::Write | Field::Scrib => if number == 2 { 16 } else { 8 },
-            Field::Reg => if number == 2 { 0 } else { 16 },
+            Field::Reg | Field::RegRead => if number == 2 { 0 } else { 16 },
             Field::Nop => if number == 2 { 2 } else { 16 },
             Field::Bell | Field::Look | Field::Free => 2,
             Field::Event | Field::Post => 8,
             Field::Ret => 16,
-            Field::Row => 0,
+            Field::Row | Field::Halt => 0,
         }
     }
 }
@@ -99,11 +104,13 @@ pub(crate) fn first_field(line: &[u8]) -> Option<Field> {
         "ev" => Some(Field::Event),
         "free" => Some(Field::Free),
         "nop" => Some(Field::Nop),
+        "rd" => Some(Field::RegRead),
         "ret" => Some(Field::Ret),
         "row" => Some(Field::Row),
         "look" => Some(Field::Look),
         "report" | "finish" | "other" => Some(Field::Post),
         "scrib" => Some(Field::Scrib),
+        "halt" => Some(Field::Halt),
         _ => None,
     }
 }
@@ -114,10 +121,11 @@ pub(crate) fn word_count(form: Field, line: &[u8]) -> bool {
     match form {
         Field::Ring => count > 3,
         Field::Sub => count > 5 && count % 4 == 2,
-        Field::Write | Field::Reg | Field::Bell | Field::Scrib | Field::Nop => count == 3,
+        Field::Write | Field::Reg | Field::RegRead | Field::Bell | Field::Scrib | Field::Nop =>
+            count == 3,
         Field::Event | Field::Post => count == 5,
         Field::Ret | Field::Look | Field::Free => count == 2,
-        Field::Row => count == 1,
+        Field::Row | Field::Halt => count == 1,
     }
 }
 

@@ -93,7 +93,7 @@ fn harm_note(harm: Harm) -> &'static str {
         Harm::LooksOutside =>
             "a Link TRB, or a TR Dequeue Pointer, led there, or the ring was taken away (xHCI 4.9.2.1)",
         Harm::PostsOverUnread =>
-            "ERDP let it go on over events that the driver has not read (xHCI 4.9.4)",
+            "ERDP let it go on over events that the driver has not read, or no Event Ring was there (xHCI 4.9.4)",
         Harm::InputContextChanged =>
             "it was written before the Command Completion Event, by the driver or by the controller as a Device Context (xHCI 4.6, 6.2.5)",
     }
@@ -113,15 +113,17 @@ fn step_help(step: &[u8]) -> &'static str {
     let word = step.split(|b| *b == b' ').next().unwrap_or(&[]);
     match from_utf8(word).unwrap_or("") {
         "row" =>
-            "an `ev` row reads the oldest event that is posted and unread, word for word: put the controller's step before it; behind the trace's last row there is none",
+            "an `ev` row reads the oldest event that is posted and unread, word for word, and an `rd usbsts` row HCHalted as it is: put the controller's step before it; behind the trace's last row there is none",
         "look" =>
-            "a controller fetches from a ring whose doorbell rang since it was bound, moved, stopped or halted, and takes no command while one is under way",
+            "a controller that runs fetches from a ring whose doorbell rang since it was bound, moved, stopped or halted, and takes no command while one is under way",
         "report" =>
             "a Transfer Event names a TRB that was taken and isn't reported (a Stopped event also the one that is fetched next; in `xtrace 4` one with code 14, 15 or 23 anything), with a code that its endpoint's state and type allow and the Cycle bit of its place, where the Event Ring has room",
         "finish" =>
             "a Command Completion Event names the command that was taken and isn't completed, with a code and a slot that it allows and the Cycle bit of its place, where the Event Ring has room",
         "other" =>
             "an event that is neither Transfer Event nor Command Completion Event is posted where the controller runs and the Event Ring has room, with the Cycle bit of its place",
+        "halt" =>
+            "a controller halts where Run/Stop is 0 behind its start, and it hasn't halted since; in `xtrace 1` to `3` never",
         _ =>
             "a controller changes words of the Device Contexts alone that it has, from its fetch of Address Device on to the success of Disable Slot",
     }

@@ -1,3 +1,4 @@
 pub mod RegisterTests
 pub mod StartRules
 pub mod RegisterRows
+pub mod RegisterReads

@@ -1,5 +1,5 @@
 pub mod NamedRings
-pub mod OtherRecords
+pub mod OtherCommands
 pub mod Lists
 pub mod Came
 pub mod Went

@@ -6,6 +6,7 @@ mod bindings;
 mod context_rules;
 mod declarations;
 mod doorbells;
+mod register_reads;
 mod registers;
 mod rings;
 mod write_effects;
@@ -15,6 +16,7 @@ pub use bindings::{forget_bound, note_bound};
 pub use context_rules::{is_bad_command, is_soiled};
 pub use declarations::check_declaration;
 pub use doorbells::{endpoint_ring, is_bad_doorbell, ring_doorbell};
+pub use register_reads::check_register_read;
 pub use registers::check_register;
 pub use rings::{
     check_coming, check_going, check_withdrawing, is_left, restore_ring, ring_restored, some_flips,

@@ -1,5 +1,5 @@
-//! A row of a register: xHCI 4.2, 4.9.4, 5.4, 5.5.2.3, 6.5.
-ghost use Rattle.std.specs.Prelude.{◌≡◌, ◌-◌, ◌%◌, ◌/◌, ◌*◌, ◌==◌, ◌&&◌, ◌||◌, is_none, is_some, [], ◌∷◌, true, false, not, ℕ, IfOk, IfErr};
+//! A row of a register that is written: xHCI 4.2, 4.9.4, 4.23.2, 5.4, 5.5.2.3, 6.5.
+ghost use Rattle.std.specs.Prelude.{◌≡◌, ◌-◌, ◌%◌, ◌/◌, ◌*◌, ◌==◌, ◌&&◌, ◌||◌, if◌then◌else◌, is_none, is_some, [], ◌∷◌, true, false, not, ℕ, length, IfOk, IfErr};
 ghost use Rattle.std.specs.List.{list_any};
 ghost use Rattle.segments.specs.Places.{address_of};
 ghost use Rattle.segments.specs.Shape.{IsShape};
@@ -11,9 +11,11 @@ ghost use Rattle.event_ring.specs.EventRing.{erdp_address, is_event_place, is_re
 ghost use Rattle.ring_knowledge.specs.Known.{Known};
 ghost use Rattle.ring_knowledge.specs.RegisterRecords.{FollowsRegisters};
 ghost use Rattle.ring_knowledge.specs.Registers.{register_written};
-ghost use Rattle.ownership_rules.specs.Registers.{is_bad_crcr, is_bad_erdp, is_bad_register, is_bad_size, is_bad_table, is_unwritten, is_written, is_wrong_size};
+ghost use Rattle.ring_knowledge.specs.Resets.{resets};
+ghost use Rattle.ownership_rules.specs.Registers.{is_bad_command_register, is_bad_crcr, is_bad_erdp, is_bad_register, is_bad_size, is_bad_table, is_early_start, is_late_reset, is_restored, is_unwritten, is_written, is_wrong_size, is_wrong_start};
 ghost use Rattle.ownership_rules.specs.Older.{stricter};
 ghost use Rattle.ownership_rules.specs.declared.refusal.Refusal.TheVariants.{BadErdp, BadRegister};
+ghost use Rattle.safety.specs.Keeps.{DriverKeeps};
 ghost use Rattle.trace_record.specs.RingFinder.Finding.{IsFinder};
 ghost use Rattle.trace_record.specs.FollowsTrace.{FollowsEvents, FollowsTrace};
 ghost use Rattle.trace_record.specs.Fresh.{IsWithin};
@@ -30,7 +32,7 @@ use segments::{Place, RingShape};
 use trace_record::{Finder, StepFault, TraceRecord};
 use traces::{Header, Register};
 
-/// Checks a register write before the stop, and notes it.
+/// Checks a register write before the stop, and notes it: rules 17 and 22 (xHCI 4.2, 5.4, 5.5.2). The driver has kept the rules so far.
 #[inline(always)]
 pub fn check_register<M: WordMemory>(
     header: &Header,
@@ -42,14 +44,19 @@ pub fn check_register<M: WordMemory>(
 ) -> Result<(), StepFault>
     requires headed { IsHeader header.now }
     requires found { IsFinder header.now.rings finder.now }
-    ensures ok { IfOk result (λ u. (k : Known) → FollowsTrace header.now k t.old (M.words memory.now) → IsSetUp header.now k → k.stopped ≡ false →
+    requires as_many { length t.now.rings.items ≡ length header.now.rings }
+    ensures ok { IfOk result (λ u. (k : Known) → FollowsTrace header.now k t.old (M.words memory.now) → DriverKeeps header.now k → IsSetUp header.now k → k.stopped ≡ false →
         IsRowStep header.now k (Reg register value) t.new (M.words memory.now)) }
-    ensures refused { IfErr result (λ e. IfRefused e (λ c. (k : Known) → FollowsTrace header.now k t.old (M.words memory.now) → IsSetUp header.now k → k.stopped ≡ false →
+    ensures refused { IfErr result (λ e. IfRefused e (λ c. (k : Known) → FollowsTrace header.now k t.old (M.words memory.now) → DriverKeeps header.now k → IsSetUp header.now k → k.stopped ≡ false →
         IsLeast header.now k (Reg register value) c)) }
     ensures reads { (n : ℕ) → IsWithin t.old.events n → IsWithin t.new.events n }
 {
     if is_bad_register(header, finder, t, memory, register, value) {
         return Err(StepFault::Refused(Refusal::BadRegister));
+    }
+    if resets(&t.registers, register, value) {
+        t.reset(header)?;
+        return Ok(());
     }
     if !note_dequeue(
         header,
@@ -60,12 +67,22 @@ pub fn check_register<M: WordMemory>(
     ) {
         return Err(StepFault::Refused(Refusal::BadErdp));
     }
-    t.registers.write(register, value);
+    t.registers.write(header.version, register, value);
     Ok(())
 }
 
-/// Whether a set-up register is written too late, too early, with a wrong value or, before version 3, twice, or the start or a
-/// reset comes too early or too late.
+/// Whether the write resets a controller that was seen to have halted.
+fn resets(registers: &RegisterRecord, register: Register, value: u64) -> bool
+    ensures { (k : Known) → FollowsRegisters k registers.now → result ≡ resets k register value }
+{
+    match register {
+        Register::Usbcmd => registers.halt().is_done() && value / 2 % 2 == 1,
+        _ => false,
+    }
+}
+
+/// Whether a register is written too late, too early, with a wrong value or, before version 3, twice; or the controller starts, goes on or
+/// is reset too early or too late.
 #[inline(always)]
 fn is_bad_register<M: WordMemory>(
     header: &Header,
@@ -80,45 +97,39 @@ fn is_bad_register<M: WordMemory>(
     ensures { (k : Known) → FollowsTrace header.now k t.now (M.words memory.now) → IsSetUp header.now k →
         result ≡ (stricter header.now k (Reg register value) BadRegister || is_bad_register header.now k register value) }
 {
-    let registers = &t.registers;
     match register {
-        Register::Usbcmd => is_bad_start(t, value),
-        Register::Crcr => is_too_late(registers, is_bad_crcr(header, finder, value)),
-        Register::Dcbaap => is_too_late(registers, false),
-        Register::Config => is_too_late(registers, false),
+        Register::Usbcmd => is_bad_command(header, finder, t, value),
+        Register::Crcr => t.is_in_run() || is_bad_crcr(header, finder, t, value),
+        Register::Dcbaap => is_too_late(t, Register::Dcbaap, value),
+        Register::Config => is_too_late(t, Register::Config, value),
         Register::Erstsz => is_bad_sizing(header, t, value),
-        Register::Erstba => is_again(
-            registers,
-            Register::Erstba,
-            is_bad_table(header, finder, t, memory, value / 64 * 64),
-        ),
+        Register::Erstba => is_bad_base(header, finder, t, memory, value),
         _ => false,
     }
 }
 
-/// Whether a set-up register is written after the start, or with a wrong value.
-fn is_too_late(registers: &RegisterRecord, is_wrong: bool) -> bool
-    ensures { (k : Known) → FollowsRegisters k registers.now → result ≡ (k.started || is_wrong) }
+/// Whether a set-up register is written after the start: a controller that halts may be given the value that stands.
+fn is_too_late(t: &TraceRecord, register: Register, value: u64) -> bool
+    ensures { (k : Known) → FollowsRegisters k t.now.registers → result ≡ (k.started && not (is_restored k register value)) }
 {
-    registers.is_started() || is_wrong
+    t.registers.is_started() && !t.is_restored(register, value)
 }
 
-/// Whether a register that is set up once is written after the start, again, or with a wrong value.
-fn is_again(registers: &RegisterRecord, register: Register, is_wrong: bool) -> bool
-    ensures { (k : Known) → FollowsRegisters k registers.now → result ≡ (k.started || (is_written k register || is_wrong)) }
-{
-    registers.is_started() || (is_written(registers, register) || is_wrong)
-}
-
-/// Whether ERSTSZ is written after the start or without an event ring or, before version 3, again or with a wrong value.
+/// Whether ERSTSZ is written after the start with another value than stands or, before it, without an event ring or, before version 3,
+/// again or with a wrong value.
 fn is_bad_sizing(header: &Header, t: &TraceRecord, value: u64) -> bool
     ensures { (k : Known) (m : ℕ → ℕ) → FollowsTrace header.now k t.now m →
-        result ≡ (((is_written k Register.Erstsz || is_bad_size header.now value) && not (is_lenient header.now.version)) || (k.started || is_none (event_ring header.now))) }
+        result ≡ (((is_written k Register.Erstsz || is_bad_size header.now value) && not (is_lenient header.now.version))
+        || (if k.started then not (is_restored k Register.Erstsz value) else is_none (event_ring header.now))) }
 {
     if is_refused_size(header, t, value) {
         return true;
     }
-    t.registers.is_started() || t.events.is_none()
+    if t.registers.is_started() {
+        !t.is_restored(Register::Erstsz, value)
+    } else {
+        t.events.is_none()
+    }
 }
 
 /// Whether ERSTSZ is written again or with a wrong value, which versions 1 and 2 refuse.
@@ -131,6 +142,26 @@ fn is_refused_size(header: &Header, t: &TraceRecord, value: u64) -> bool
     is_written(&t.registers, Register::Erstsz) || is_bad_size(t, value)
 }
 
+/// Whether ERSTBA is written after the start with another value than stands or, before it, again or with a wrong value.
+fn is_bad_base<M: WordMemory>(
+    header: &Header,
+    finder: &Finder,
+    t: &TraceRecord,
+    memory: &M,
+    value: u64,
+) -> bool
+    requires headed { IsHeader header.now }
+    requires found { IsFinder header.now.rings finder.now }
+    ensures { (k : Known) → FollowsTrace header.now k t.now (M.words memory.now) → IsSetUp header.now k →
+        result ≡ is_bad_register header.now k Register.Erstba value }
+{
+    if t.registers.is_started() {
+        return !t.is_restored(Register::Erstba, value);
+    }
+    is_written(&t.registers, Register::Erstba)
+        || is_bad_table(header, finder, t, memory, value / 64 * 64)
+}
+
 /// Whether the register was written.
 fn is_written(registers: &RegisterRecord, register: Register) -> bool
     ensures { (k : Known) → FollowsRegisters k registers.now → result ≡ is_written k register }
@@ -138,18 +169,28 @@ fn is_written(registers: &RegisterRecord, register: Register) -> bool
     registers.value(register).is_some()
 }
 
+/// Whether a value of USBCMD breaks the rule of a controller that was started, or of one that wasn't (xHCI 4.2, 5.4.1).
+fn is_bad_command(header: &Header, finder: &Finder, t: &TraceRecord, value: u64) -> bool
+    requires headed { IsHeader header.now }
+    requires found { IsFinder header.now.rings finder.now }
+    ensures { (k : Known) (m : ℕ → ℕ) → FollowsTrace header.now k t.now m → IsSetUp header.now k → result ≡ is_bad_command_register header.now k value }
+{
+    if t.registers.is_started() {
+        t.is_early_reset(header, finder, value) || t.is_early_resume(header, finder, value)
+    } else {
+        is_bad_start(t, value)
+    }
+}
+
 /// Whether a value of USBCMD starts the controller before the rings are set up, or resets it after one is (xHCI 4.2).
 fn is_bad_start(t: &TraceRecord, value: u64) -> bool
-    ensures { (h : Header) (k : Known) (m : ℕ → ℕ) → FollowsTrace h k t.now m → result ≡ is_bad_register h k Register.Usbcmd value }
+    ensures { (h : Header) (k : Known) (m : ℕ → ℕ) → FollowsTrace h k t.now m →
+        result ≡ (is_late_reset k value || is_early_start k value || is_wrong_start h k value) }
 {
-    let registers = &t.registers;
-    if registers.is_started() {
-        return false;
-    }
     let resets = value / 2 % 2 == 1;
     let runs = value % 2 == 1;
     if resets {
-        is_set_up_begun(registers)
+        is_set_up_begun(&t.registers)
     } else {
         runs && lacks_set_up(t)
     }
@@ -206,18 +247,18 @@ fn is_unwritten(registers: &RegisterRecord, register: Register) -> bool
     !is_written(registers, register)
 }
 
-/// Whether a value of CRCR names another place than the command ring's first block, doesn't begin with cycle 1, or stops
-/// or aborts a command (xHCI 5.4.5).
-fn is_bad_crcr(header: &Header, finder: &Finder, value: u64) -> bool
+/// Whether a value of CRCR names another place than the first block of a command ring that wasn't started, doesn't begin with cycle 1, or
+/// stops or aborts a command (xHCI 5.4.5).
+fn is_bad_crcr(header: &Header, finder: &Finder, t: &TraceRecord, value: u64) -> bool
     requires headed { IsHeader header.now }
     requires found { IsFinder header.now.rings finder.now }
-    ensures { result ≡ is_bad_crcr header.now value }
+    ensures { (k : Known) (m : ℕ → ℕ) → FollowsTrace header.now k t.now m → IsSetUp header.now k → result ≡ is_bad_crcr header.now k value }
 {
     let Some(number) = finder.commands else {
         return true;
     };
     let rings = header.rings.as_slice();
-    is_bad_begin(&rings[number].shape, value)
+    is_bad_begin(&rings[number].shape, value) || t.is_used(header, finder)
 }
 
 /// Whether a value of CRCR names another place than the first block of a ring, doesn't begin with cycle 1, or stops or aborts

@@ -4,7 +4,8 @@ ghost use Rattle.diagnostics.specs.Layout.{IsToldOf};
 
 use crate::reading::trace_in;
 use command_findings::{
-    after_stop, bad_command, bad_doorbell, bad_erdp, bad_register, busy, not_in_profile,
+    after_stop, bad_command, bad_doorbell, bad_erdp, bad_register, busy, impossible_read,
+    not_in_profile,
 };
 use commands::Command;
 use controller_findings::impossible_event;
@@ -168,6 +169,9 @@ fn tell_driver(case: &mut Case, row: &Row, refusal: Refusal) {
             bad_register(case, *register, *value);
         }
         (Refusal::BadErdp, Row::Reg { value, .. }) => bad_erdp(case, *value),
+        (Refusal::ImpossibleRead, Row::RegRead { register, value }) => {
+            impossible_read(case, *register, *value);
+        }
         (Refusal::BadDoorbell, Row::Bell { slot, target }) => bad_doorbell(case, *slot, *target),
         (Refusal::ImpossibleEvent, Row::Read { event }) => impossible_event(case, *event),
         (Refusal::NotRestored, Row::Bell { slot, target }) => {

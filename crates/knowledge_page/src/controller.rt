@@ -2,20 +2,14 @@
 use crate::words::register_name;
 use ring_knowledge::RegisterRecord;
 use std::alloc::AllocError;
-use traces::Register;
+use traces::{Halt, Register};
 
 /// Whether the controller runs, and the last value written to each register.
 pub(crate) fn write_controller(
     page: &mut String,
     registers: &RegisterRecord,
 ) -> Result<(), AllocError> {
-    let state = if registers.is_stopped() {
-        "was stopped or reset"
-    } else if registers.is_started() {
-        "runs"
-    } else {
-        "isn't started"
-    };
+    let state = state_name(registers);
     writeln!(page, "controller: {state}")?;
     let mut count = 0u32;
     for register in Register::ALL {
@@ -28,6 +22,19 @@ pub(crate) fn write_controller(
         writeln!(page, "registers: none is written")
     } else {
         writeln!(page)
+    }
+}
+
+/// Whether the controller runs. It halts from Run/Stop 0 on, and is halted once that was read (HCHalted).
+fn state_name(registers: &RegisterRecord) -> &'static str {
+    if registers.is_stopped() {
+        return "was stopped or reset";
+    }
+    match registers.halt() {
+        Halt::Not if registers.is_started() => "runs",
+        Halt::Not => "isn't started",
+        Halt::Asked => "halts",
+        Halt::Done => "is halted",
     }
 }
 

@@ -132,16 +132,33 @@ fn write_range(
     let address = range.pos;
     let bytes = range.ring;
     write!(page, "  {address:016x}, {bytes} bytes")?;
-    if range.from == 0 {
-        return page.push_str(" (from the beginning): segment of the Event Ring\n");
+    match range.from {
+        0 => page.push_str(" (from the beginning): ")?,
+        row => write!(page, " (row {row}): ")?,
     }
-    let row = range.from;
-    write!(page, " (row {row}): ")?;
-    write_purpose(page, header, kept, range)?;
+    if is_event_segment(header, range) {
+        page.push_str("segment of the Event Ring")?;
+    } else {
+        write_purpose(page, header, kept, range)?;
+    }
     page.push_str("\n")
 }
 
-/// What a range of bytes is that a row gave.
+/// Whether a range of bytes is a segment of the Event Ring.
+fn is_event_segment(header: &Header, range: &Lease) -> bool {
+    header.rings.as_slice().iter().any(|ring| ring.shape.kind() == RingKind::Evt
+        && has_segment(ring, range.pos))
+}
+
+/// Whether a segment of a ring begins at an address.
+fn has_segment(ring: &Ring, address: u64) -> bool {
+    ring.shape
+        .segments()
+        .iter()
+        .any(|segment| segment.base == address)
+}
+
+/// What a range of bytes is that a row gave, and that is no ring's.
 fn write_purpose(
     page: &mut String,
     header: &Header,

@@ -113,7 +113,8 @@ pub fn left_waiting(
 ) -> Result<Vec<Waiting>, AllocError> {
     let mut found = Vec::new(alloc);
     let registers = &shown.standing.kept.registers;
-    if shown.place != Place::End || !registers.is_started() || registers.is_stopped() {
+    let runs = registers.is_started() && !registers.is_stopped() && !registers.halt().is_asked();
+    if shown.place != Place::End || !runs {
         return Ok(found);
     }
     let past = Past {

@@ -17,7 +17,9 @@ pub mod FreePlaces
 pub mod FreeLinks
 pub mod EndingRange
 pub mod RangePlaces
+pub mod SegmentRanges
 pub mod FirstRanges
+pub mod SegmentLeases
 pub mod FreeRanges
 pub mod Narrowing
 pub mod Transferring

@@ -1,6 +1,8 @@
 pub mod EventSegments
 pub mod OtherRows
 pub mod TakenRanges
+pub mod NumberedRanges
+pub mod ResetRows
 pub mod GivenHere
 pub mod RowWrites
 pub mod TransferRows

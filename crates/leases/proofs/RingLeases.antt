@@ -1,10 +1,13 @@
 pub mod NothingRestored
-pub mod RangesStay
 pub mod RingsLeft
+pub mod OpenParts
 pub mod OpenBehind
+pub mod OpenComing
+pub mod HeldBehind
+pub mod SegmentsStand
+pub mod Going
 pub mod LentBehind
 pub mod WithinALap
-pub mod HeldBehind
 pub mod Filtered
 pub mod OpenFree
 pub mod TwoSteps

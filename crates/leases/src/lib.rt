@@ -9,5 +9,5 @@ mod rows;
 
 pub use book::{Indexes, LeaseBook, LeaseLog, RangeIndexes, opening_leases};
 pub use log::CertificateLog;
-pub use rings::{note_going, note_moving, note_restoring, note_withdrawing};
+pub use rings::{note_coming, note_going, note_moving, note_restoring, note_withdrawing};
 pub use rows::note_row;

@@ -27,6 +27,8 @@ mod ring_rows;
 #[cfg(test)]
 mod ring_shapes;
 #[cfg(test)]
+mod second_runs;
+#[cfg(test)]
 mod sinks;
 #[cfg(test)]
 mod sources;

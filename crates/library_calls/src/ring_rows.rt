@@ -47,7 +47,7 @@ const COMMANDS_FREED: &str =
     "sub 00 00000000 00000000 00000000 00005c00\nw 000000000001002c 00005c01\ndb 00 00\nsub 00 00000000 00000000 00000000 00005c00\nw 000000000001003c 00005c01\nfree 00\n";
 
 /// A run beside the rows by which the slot is addressed.
-const ADDRESSED_RUN: &str =
+pub const ADDRESSED_RUN: &str =
     "xsched 1\nrow\nrow\nrow\nrow\nrow\nrow\nrow\nrow\nrow\nrow\nrow\nrow\nlook 00\nfinish 00010000 00000000 01000000 01008401\nrow\nrow\nrow\nrow\nrow\nrow\nrow\nrow\nrow\nlook 00\nfinish 00010010 00000000 01000000 01008401\n";
 
 /// On with the slot that is disabled.
@@ -62,9 +62,9 @@ const WITHDRAWN_RUN: &str =
 const COMMANDS_FREED_RUN: &str = "row\nrow\nrow\nrow\nrow\nrow\nrow\nlook 00\n";
 
 /// A lease without end.
-const NEVER: u32 = u32::MAX;
+pub const NEVER: u32 = u32::MAX;
 
-fn lease(kind: u32, ring: u32, pos: u64, from: u32, to: u32) -> Lease {
+pub fn lease(kind: u32, ring: u32, pos: u64, from: u32, to: u32) -> Lease {
     Lease {
         kind,
         ring,
@@ -75,14 +75,14 @@ fn lease(kind: u32, ring: u32, pos: u64, from: u32, to: u32) -> Lease {
 }
 
 /// The text of a trace: the rings, ring 2 with so many TRBs and a Link TRB, the rows by which the slot is addressed, and these.
-fn text(alloc: Global, version: u8, trbs: &str, rows: &str) -> Result<String, AllocError> {
+pub fn text(alloc: Global, version: u8, trbs: &str, rows: &str) -> Result<String, AllocError> {
     format!(in alloc;
         "xtrace {version}\nctx 20\nring 00 cmd 0000000000010000:0010\nring 01 evt 0000000000020000:0010\nring 02 xfer 0000000000030000:{trbs}\n{ADDRESSED}{rows}"
     )
 }
 
 /// The trace of a text.
-fn trace_of(alloc: Global, text: &str) -> Result<Trace, Fail>
+pub fn trace_of(alloc: Global, text: &str) -> Result<Trace, Fail>
     ensures { IfOk result (λ trace. trace.first + length trace.rows ≤ most_lines + 1) }
 {
     Ok(read_trace(alloc, text.as_bytes())?)
@@ -103,7 +103,7 @@ fn stopped(alloc: Global, version: u8, rows: &str) -> Result<Trace, Fail>
 }
 
 /// The leases of the trace by both checks, which a verifier finds to be its own, and none fewer.
-fn leases_of(rt: &impl Abort, alloc: Global, trace: &Trace) -> Result<Vec<Lease>, Fail> {
+pub fn leases_of(rt: &impl Abort, alloc: Global, trace: &Trace) -> Result<Vec<Lease>, Fail> {
     let leases = check(alloc, trace)?.leases;
     let again = check_in(alloc, trace, SparseMemory::new(alloc))?.leases;
     assert_eq!(rt; again.as_slice(), leases.as_slice());

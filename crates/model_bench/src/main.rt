@@ -1,5 +1,6 @@
 //! An example: the controller's model as a test bench (xHCI 4.9.2). Beside the rows of the trace on standard input an eager
-//! controller looks at each ring behind each row, as often as it may; printed is each TRB that it takes, and the first harm.
+//! controller looks at each ring behind each row, as often as it may, and halts once a row tells of it; printed is each TRB that it takes, and the
+//! first harm.
 #![tactic(auto)]
 
 ghost use Rattle.std.specs.Prelude.{◌≡◌, IfErr, Some};
@@ -53,13 +54,21 @@ fn look_around<M: WordMemory + Drop>(
     Ok(Ok(()))
 }
 
+/// Makes the next row, if it is possible. The controller halts directly before a row that needs it: one that reads HCHalted as 1.
+fn make_row<M: WordMemory + Drop>(world: &mut World<'_, M>) -> bool {
+    if world.step(&Step::NextRow).is_ok() {
+        return true;
+    }
+    world.step(&Step::Halt).is_ok() && world.step(&Step::NextRow).is_ok()
+}
+
 /// Makes the rows, and looks at the rings behind each.
 fn run(rt: &HostRuntime, trace: &Trace) -> io::Result<()> {
     let memory = SparseMemory::new(rt.alloc());
     let mut world = World::new(rt.alloc(), trace, memory)?;
     for (index, _) in trace.rows.as_slice().iter().enumerate() {
         let line = u64::from(trace.first).saturating_add(index as u64);
-        if world.step(&Step::NextRow).is_err() {
+        if !make_row(&mut world) {
             println!(rt; "row {line} can't be made here")?;
             return Ok(());
         }

@@ -4,7 +4,7 @@ use ring_knowledge::RingRecord;
 use row_history::Shown::{Address, Dequeue, Id, Line, Name, Number, Small};
 use row_history::{
     Binding, Case, Shown, begun_with_0, command_at, endpoint_state_name, has_block, is_handed_over,
-    line_of, ring_at, ring_known, submission, unfinished_binding,
+    line_of, reset_behind, ring_at, ring_known, submission, unfinished_binding,
 };
 use segments::{Place, Spot};
 use traces::Ring;
@@ -382,6 +382,21 @@ fn owner(case: &Case, id: u8) -> Option<Binding> {
     }
 }
 
+/// Notes that a reset came before the events that say how far the controller has come, which may be up to a position.
+fn note_lost(case: &mut Case, ring: &Ring, last: u64) {
+    let Some(reset) = reset_behind(case, ring.shape.address(last) | 12) else {
+        return;
+    };
+    case.note(
+        "no event tells of what was handed over before the reset of row {}",
+        &[Line(line_of(case.first, reset))],
+    );
+    case.help(
+        "free ring {}, and declare a ring anew by a `ring` line, or bind another ring",
+        &[Id(ring.id)],
+    );
+}
+
 /// Where a ring stands, and what is wrong with another place.
 fn note_standing(case: &mut Case, ring: &Ring, known: &RingRecord, bound: Bound) {
     let id = Id(ring.id);
@@ -395,6 +410,7 @@ fn note_standing(case: &mut Case, ring: &Ring, known: &RingRecord, bound: Bound)
             "read the events of all TDs that were handed over on the ring, or bind another ring",
             &[],
         );
+        note_lost(case, ring, ceiling.saturating_sub(1));
     } else if known.may_be_bound(&ring.shape, bound.pointer, !bound.cycle) {
         case.note(
             "the ring stands there, with DCS {}: it is the Cycle bit with which the TRB there is handed over",

@@ -1,5 +1,5 @@
 -- What a pass over the rows of a trace says of it, by the log of their leases
-use Rattle.ownership_checker.proofs.Words.{arith, ◌≡◌, ◌+◌, ◌∷◌, ◌++◌, ◌∙◌, ℕ, Bool, List, [], Option, Err, ap, sym, length, map, reverse, length-append, length-map, TraceText, Header, Row, Lease, Leased, Lent, ended_where, with_begun, lents, StreamFault, Line, Device, IsOpened, IfBadLine, IsBadLine, IsWholeLog, joined_behind, calls_say_the_text, IsSound, IsBehindAll, IsRingLogged, RingPass, header_now, leases_of}
+use Rattle.ownership_checker.proofs.Words.{ended_where, arith, ◌≡◌, ◌+◌, ◌∷◌, ◌++◌, ◌∙◌, ℕ, Bool, List, [], Option, Err, ap, sym, length, map, reverse, length-append, length-map, TraceText, Header, Row, Lease, Leased, Lent, with_begun, lents, StreamFault, Line, Device, IsOpened, IfBadLine, IsBadLine, IsWholeLog, joined_behind, calls_say_the_text, IsSound, IsBehindAll, IsRingLogged, RingPass, header_now, leases_of}
 use Rattle.trace_reader.specs.declared.row_reader.fault.StreamFault.TheVariants.{Memory}
 unfoldable use Rattle.trace_reader.specs.Streaming.WholeTexts.{read_by_calls}
 

@@ -13,9 +13,9 @@ use leases::LeaseBook;
 use std::alloc::Global;
 use traces::Trace;
 
-/// Checks a trace in one pass: its leases, or the first row that breaks a rule and the least of the rules that it breaks. Rings may come
-/// and go between its rows, and descriptors be withdrawn. A trace that is accepted is harmless: in each run of the controller's model
-/// beside its rows every world is safe. `Memory` is answered only where a growth was refused.
+/// Checks a trace in one pass: its leases, or the first row that breaks a rule and the least of the rules that it breaks. Between its rows
+/// rings may come and go, descriptors be withdrawn, and the controller halt, be reset and run again. A trace that is accepted is harmless: in
+/// each run of the controller's model beside its rows every world is safe. `Memory` is answered only where a growth was refused.
 pub fn check(alloc: Global, trace: &Trace) -> Result<Certificate, CheckFault>
     ensures accepted { IfOk result (λ certificate. IsSound (text_of trace.now) certificate.leases.items) }
     ensures refused { IfErr result (λ e. IfRefusedAt e (λ row c. trace_verdict trace.now.header trace.now.first trace.now.rows ≡ Some (row, c))) }

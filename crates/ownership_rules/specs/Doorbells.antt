@@ -5,6 +5,7 @@ use Rattle.commands.specs.declared.command.Command.{Command}
 use Rattle.commands.specs.Changes.{changes, touches}
 use Rattle.commands.specs.States.{is_running, is_stopped}
 use Rattle.traces.specs.declared.header.Header.{Header}
+use Rattle.traces.specs.Halts.{is_asked}
 use Rattle.ring_knowledge.specs.Known.{Known}
 use Rattle.ring_knowledge.specs.Rings.{unfinished}
 use Rattle.ownership_rules.specs.Refusal.{Test}
@@ -23,8 +24,9 @@ module _ (h : Header) where
   is_bad_bell k s i =
       i == 0 || nat_lt 31 i || not (is_running (k.endpoint_state s i) || is_stopped (k.endpoint_state s i)) || k.must_move s i || is_touched k s i
 
+  -- before the start, while the controller halts, or where it may not be rung
   unfoldable pub is_bad_doorbell : Known → ℕ → ℕ → Bool
-  is_bad_doorbell k s t = not k.started || (if s == 0 then not (t == 0) else is_bad_bell k s t)
+  is_bad_doorbell k s t = not k.started || is_asked k.halt || (if s == 0 then not (t == 0) else is_bad_bell k s t)
 
   unfoldable pub doorbell_tests : Known → ℕ → ℕ → List Test
   doorbell_tests k s t = (BadDoorbell, is_bad_doorbell k s t) ∷ []

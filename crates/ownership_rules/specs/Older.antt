@@ -1,12 +1,12 @@
--- What versions 1 and 2 refuse besides: the rules that came first are stricter than any harm asks for
+-- What the versions before refuse besides: the rules that came first are stricter than any harm asks for
 use Rattle.std.specs.Prelude.{ℕ, ◌&&◌, ◌||◌, Bool, false, not}
 use Rattle.commands.specs.declared.command.Command.{Command}
 use Rattle.traces.specs.declared.header.Header.{Header}
 use Rattle.traces.specs.declared.row.Row.{Row}
 use Rattle.traces.specs.declared.register.Register.TheVariants.{Erstsz, Erdp}
-use Rattle.traces.specs.declared.row.Row.TheVariants.{Write, Reg, Nop as NopRow}
-use Rattle.traces.specs.Header.{shape_of}
-use Rattle.traces.specs.Versions.{is_lenient}
+use Rattle.traces.specs.declared.row.Row.TheVariants.{Write, Reg, Free as FreeRow, Nop as NopRow}
+use Rattle.traces.specs.Header.{ring_with, shape_of}
+use Rattle.traces.specs.Versions.{has_runs, is_lenient}
 use Rattle.ring_knowledge.specs.Known.{Known}
 use Rattle.ownership_rules.specs.declared.refusal.Refusal.{Refusal}
 use Rattle.ownership_rules.specs.declared.refusal.Refusal.TheVariants.{WriteToOwned, BadRegister, BadErdp, Busy, NotInProfile, BadMove}
@@ -14,6 +14,7 @@ use Rattle.ownership_rules.specs.OpenLeases.{is_leased}
 use Rattle.ownership_rules.specs.Commands as commands
 use Rattle.ownership_rules.specs.Moves as moves
 use Rattle.ownership_rules.specs.Registers as registers
+use Rattle.ownership_rules.specs.Rings.{is_transfer_ring}
 use Rattle.ownership_rules.specs.Writes as writes
 use Rattle.ownership_rules.specs.Withdrawals.{is_passed}
 
@@ -32,6 +33,7 @@ module _ (h : Header) where
   -- what the trace's version refuses besides, by this rule
   unfoldable pub stricter : Known → Row → Refusal → Bool
   stricter k (NopRow r p) rule = is_passed h (shape_of h r) (k.ring r) p
+  stricter k (FreeRow id) rule = not (is_transfer_ring (ring_with h id)) && not (has_runs h.version)
   stricter k row rule = older k row rule && not (is_lenient h.version)
 
   -- the write breaks WriteToOwned, by the trace's version

@@ -1,7 +1,7 @@
 -- The rules by their numbers and names
 use Rattle.std.specs.Prelude.{ℕ, Bool, if◌then◌else◌, List, [], ◌∷◌, map, filter, Option, Some, None, codes}
 use Rattle.ownership_rules.specs.declared.refusal.Refusal.{Refusal}
-use Rattle.ownership_rules.specs.declared.refusal.Refusal.TheVariants.{WriteToOwned, NotAsSubmitted, NotDeclared, NotWhole, LinkFault, RingFull, BadDescriptor, BadRegister, BadDoorbell, BadCommand, Busy, ImpossibleEvent, BadErdp, NotInProfile, AfterStop, BadMove, BadWithdraw, NotRestored, BadFree, BadRing}
+use Rattle.ownership_rules.specs.declared.refusal.Refusal.TheVariants.{WriteToOwned, NotAsSubmitted, NotDeclared, NotWhole, LinkFault, RingFull, BadDescriptor, BadRegister, BadDoorbell, BadCommand, Busy, ImpossibleEvent, BadErdp, NotInProfile, AfterStop, BadMove, BadWithdraw, NotRestored, BadFree, BadRing, ImpossibleRead}
 
 abbrev pub number_of : Refusal → ℕ
 number_of WriteToOwned = 10
@@ -24,6 +24,7 @@ number_of BadWithdraw = 32
 number_of NotRestored = 33
 number_of BadFree = 34
 number_of BadRing = 35
+number_of ImpossibleRead = 36
 
 -- the name that is printed
 abbrev pub name_of : Refusal → List ℕ
@@ -47,6 +48,7 @@ name_of BadWithdraw = codes "BadWithdraw"
 name_of NotRestored = codes "NotRestored"
 name_of BadFree = codes "BadFree"
 name_of BadRing = codes "BadRing"
+name_of ImpossibleRead = codes "ImpossibleRead"
 
 -- a rule, and whether a row breaks it
 abbrev pub Test : Type 0

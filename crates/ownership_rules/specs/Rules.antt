@@ -2,7 +2,7 @@
 use Rattle.std.specs.Prelude.{ℕ, ◌+◌, ◌++◌, ◌||◌, if◌then◌else◌, List, [], ◌∷◌, map, Option, Some, None}
 use Rattle.traces.specs.declared.header.Header.{Header}
 use Rattle.traces.specs.declared.row.Row.{Row}
-use Rattle.traces.specs.declared.row.Row.TheVariants.{Sub, Write, Reg, Bell, Read, Ring as RingRow, Free as FreeRow, Nop as NopRow}
+use Rattle.traces.specs.declared.row.Row.TheVariants.{Sub, Write, Reg, Bell, Read, Ring as RingRow, Free as FreeRow, Nop as NopRow, RegRead}
 use Rattle.traces.specs.LivingRings.{header_after}
 use Rattle.ring_knowledge.specs.Known.{Known, nothing}
 use Rattle.ring_knowledge.specs.Histories.{known_after, restored, ring_restored}
@@ -11,7 +11,7 @@ use Rattle.ownership_rules.specs.declared.refusal.Refusal.{Refusal}
 use Rattle.ownership_rules.specs.declared.refusal.Refusal.TheVariants.{AfterStop, BadFree, BadRing, BadWithdraw, NotRestored, WriteToOwned}
 use Rattle.ownership_rules.specs.Declarations.{declaration_tests}
 use Rattle.ownership_rules.specs.Writes.{write_tests}
-use Rattle.ownership_rules.specs.Registers.{register_tests}
+use Rattle.ownership_rules.specs.Registers.{read_tests, register_tests}
 use Rattle.ownership_rules.specs.Doorbells.{doorbell_tests}
 use Rattle.ownership_rules.specs.Events.{event_tests}
 use Rattle.ownership_rules.specs.Rings.{is_bad_free, is_bad_ring}
@@ -33,6 +33,7 @@ module _ (h : Header) where
   lenient_tests k (RingRow ring) = (BadRing, is_bad_ring h k ring) ∷ []
   lenient_tests k (FreeRow id) = (BadFree, is_bad_free h k id) ∷ []
   lenient_tests k (NopRow r p) = (BadWithdraw, is_bad_withdraw h k r p) ∷ []
+  lenient_tests k (RegRead r v) = read_tests h k r v
 
   -- the rules of the trace's version
   unfoldable pub tests : Known → Row → List Test

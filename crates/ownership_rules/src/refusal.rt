@@ -48,10 +48,12 @@ pub enum Refusal {
     BadFree,
     /// A ring comes whose ID another has, or whose memory isn't the driver's or shows the first lap's Cycle bit (xHCI 4.9, 4.9.2).
     BadRing,
+    /// A register was read with a value that it can't have had then (xHCI 5.4.2).
+    ImpossibleRead,
 }
 
 impl Refusal {
-    /// The number that is printed: 10 to 25, and 32 to 35.
+    /// The number that is printed: 10 to 25, and 32 to 36.
     pub fn number(self) -> u8
         ensures { result ≡ number_of self }
     {
@@ -76,6 +78,7 @@ impl Refusal {
             Refusal::NotRestored => 33,
             Refusal::BadFree => 34,
             Refusal::BadRing => 35,
+            Refusal::ImpossibleRead => 36,
         }
     }
 
@@ -104,6 +107,7 @@ impl Refusal {
             Refusal::NotRestored => "NotRestored",
             Refusal::BadFree => "BadFree",
             Refusal::BadRing => "BadRing",
+            Refusal::ImpossibleRead => "ImpossibleRead",
         }
     }
 }

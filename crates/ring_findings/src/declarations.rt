@@ -1,7 +1,10 @@
 //! Rows that submit TRBs: no room, and TRBs that make no TD.
 use ring_knowledge::RingRecord;
 use row_history::Shown::{Id, Line, Name, Nth, Number, Types};
-use row_history::{Case, Endpoint, endpoint_with, last_bell, line_of, ring_known, ring_with};
+use row_history::{
+    Case, Endpoint, endpoint_with, last_bell, line_of, mark_reset, reset_behind, ring_known,
+    ring_with,
+};
 use traces::Ring;
 use trb::{Block, BlockFlags, BlockKind, Flags, RingKind};
 
@@ -50,9 +53,13 @@ fn note_no_bell(case: &mut Case, ring: &Ring, known: &RingRecord) {
     if last < known.floor_number() {
         return;
     }
-    let Some(gave) = case.known.last_writer(ring.shape.address(last) | 12) else {
+    let control = ring.shape.address(last) | 12;
+    let Some(gave) = case.known.last_writer(control) else {
         return;
     };
+    if let Some(reset) = reset_behind(case, control) {
+        return note_lost(case, ring, reset);
+    }
     let Some(Endpoint { slot, endpoint }) = bell_of(case, ring) else {
         case.note(
             "no endpoint has ring {}: no Address Device or Configure Endpoint that names it has completed",
@@ -71,6 +78,19 @@ fn note_no_bell(case: &mut Case, ring: &Ring, known: &RingRecord) {
     case.help(
         "ring `db {} {}` behind what you hand over, and read its events before you submit more",
         &[Id(slot), Id(endpoint)],
+    );
+}
+
+/// Notes that a reset came before the events that give TRBs of a full ring back.
+fn note_lost(case: &mut Case, ring: &Ring, reset: usize) {
+    mark_reset(case);
+    case.note(
+        "no event gives back what was handed over before the reset of row {}",
+        &[Line(line_of(case.first, reset))],
+    );
+    case.help(
+        "free ring {}, and declare a ring anew by a `ring` line",
+        &[Id(ring.id)],
     );
 }
 

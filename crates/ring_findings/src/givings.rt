@@ -5,8 +5,9 @@ use guest_memory::Addr;
 use ring_knowledge::{RingGiving, RingRecord};
 use row_history::Shown::{Address, Id, Line, Name, Number, Pointer, Small, Word};
 use row_history::{
-    Case, Shown, code_name, declared_now, endpoint_with, going, last_event, line_of,
-    note_unchanged, position_at, ring_at, ring_with, submission, trb_at, write_to_area,
+    Case, Shown, code_name, coming, declared_now, endpoint_with, going, last_event, line_of,
+    note_unchanged, position_at, reset_behind, ring_at, ring_with, submission, trb_at,
+    write_to_area,
 };
 use segments::{Place, Segment};
 use traces::{Ring, Row};
@@ -23,8 +24,14 @@ pub fn write_to_owned(case: &mut Case, address: u64, word: u32) {
             "ring {} is the Event Ring, which the controller alone writes",
             &[Id(ring.id)],
         );
+        let came = coming(case.before, ring.id);
+        case.mark(came, "the ring comes here", &[]);
         case.help(
-            "clear it before the trace begins, and leave it to the controller from then on",
+            if came.is_some() {
+                "clear it before the ring comes, and leave it to the controller from then on"
+            } else {
+                "clear it before the trace begins, and leave it to the controller from then on"
+            },
             &[],
         );
     } else if !flips_withdrawn(case, ring, known, address, word) {
@@ -42,6 +49,7 @@ fn write_to_ring(case: &mut Case, ring: &Ring, known: &RingRecord, address: u64,
         Some(Place::Link { segment, word }) => tell_link(case, ring, segment, word),
         None => {}
     }
+    tell_lost(case, ring, address | 12);
     case.mark(
         case.known.last_writer(address | 12),
         "the Cycle bit written here hands it to the controller",
@@ -101,6 +109,23 @@ fn tell_link(case: &mut Case, ring: &Ring, segment: u32, word: u8) {
     case.help(
         "write a Link TRB's words 0 to 2 first and word 3, with the Cycle bit, last and once",
         &[],
+    );
+}
+
+/// Of what was handed over before a reset: says that no event gives it back any more, and what does.
+fn tell_lost(case: &mut Case, ring: &Ring, control: u64) {
+    let Some(reset) = reset_behind(case, control) else {
+        return;
+    };
+    let id = Id(ring.id);
+    case.forget_notes();
+    case.note(
+        "no event gives it back behind the reset of row {}: it comes back as the ring goes (`free {}`)",
+        &[Line(line_of(case.first, reset)), id],
+    );
+    case.help(
+        "free ring {} before you write there, and declare a ring anew by a `ring` line",
+        &[id],
     );
 }
 

@@ -2,12 +2,13 @@
 use commands::Command;
 use row_history::Shown::{Address, Id, Line, Name, Small, Word};
 use row_history::{
-    Case, Endpoint, Shown, SoiledWord, command_name, endpoint_state_name, endpoint_with, going,
-    is_in_area, line_of, note_area, ring_with, shown_first_lap, soiled_word, unfinished_binding,
-    unfinished_on,
+    Case, Endpoint, Shown, SoiledWord, Taker, coming, command_name, endpoint_state_name,
+    endpoint_with, given_back_by, going, is_in_area, line_of, mark_run, mark_taken, note_area,
+    note_running, note_unfinished, ring_of_kind, ring_with, shown_first_lap, soiled_word,
+    unfinished_binding, unfinished_on,
 };
 use segments::Segment;
-use traces::Ring;
+use traces::{Register, Ring};
 use trb::RingKind;
 
 /// What a ring is, in the standard's words.
@@ -25,16 +26,17 @@ pub fn bad_free(case: &mut Case, id: u8) {
         case.head("a ring is freed that is not there", &[]);
         case.here("no ring has the ID {} now", &[Id(id)]);
         case.mark(going(case.before, id), "this row took the ring away", &[]);
-        return case.help("name a Transfer Ring that is there; a ring goes once", &[]);
+        let which = if case.header.version.has_runs() {
+            "name a ring that is there; a ring goes once"
+        } else {
+            "name a Transfer Ring that is there; a ring goes once"
+        };
+        return case.help(which, &[]);
     };
     case.here("ring {}", &[Id(id)]);
     if ring.shape.kind() != RingKind::Xfer {
-        case.head("a ring is freed that is no Transfer Ring", &[]);
         case.here("ring {} is {}", &[Id(id), Name(kind_name(ring))]);
-        case.help(
-            "leave the row out: the Command Ring and the Event Ring stay as long as the controller runs",
-            &[],
-        );
+        tell_kept(case, ring);
     } else if let Some(had) = endpoint_with(&case.known.devices, id) {
         tell_had(case, id, had);
     } else if let Some(given) = unfinished_binding(case, ring) {
@@ -54,6 +56,94 @@ pub fn bad_free(case: &mut Case, id: u8) {
     } else {
         case.head("a ring is freed that is not the driver's to free", &[]);
     }
+}
+
+/// A Command or Event Ring that may not go now, or never.
+fn tell_kept(case: &mut Case, ring: &Ring) {
+    if !case.header.version.has_runs() {
+        case.head("a ring is freed that is no Transfer Ring", &[]);
+        case.help(
+            "leave the row out: the Command Ring and the Event Ring stay as long as the controller runs",
+            &[],
+        );
+    } else if ring.shape.kind() == RingKind::Evt {
+        tell_event_ring(case);
+    } else if case.known.controller.halt.is_none() {
+        tell_running(case);
+    } else {
+        tell_unfinished(case);
+    }
+}
+
+/// The Command Ring of a controller that may run.
+fn tell_running(case: &mut Case) {
+    case.head(
+        "the Command Ring is freed while the controller may run",
+        &[],
+    );
+    let runs = note_running(case);
+    case.note(
+        "the controller may fetch commands until it has halted (xHCI 5.4.1.1)",
+        &[],
+    );
+    case.help(
+        if runs {
+            "write Run/Stop 0, and read USBSTS until HCHalted is 1 (`rd usbsts`), before the ring goes"
+        } else {
+            "read USBSTS until HCHalted is 1, and log that as an `rd usbsts` row, before the ring goes"
+        },
+        &[],
+    );
+}
+
+/// The Command Ring of a controller that has halted, with unfinished commands.
+fn tell_unfinished(case: &mut Case) {
+    case.head(
+        "the Command Ring is freed with commands that aren't finished",
+        &[],
+    );
+    note_unfinished(case);
+    case.help(
+        "read the Command Completion Event of each command before the ring goes, or reset the controller first",
+        &[],
+    );
+}
+
+/// The Event Ring of a controller that was set up.
+fn tell_event_ring(case: &mut Case) {
+    case.head("the Event Ring is freed while the controller has it", &[]);
+    let controller = &case.known.controller;
+    if controller.start.is_none() {
+        case.mark(
+            case.register_row(Register::Erstsz),
+            "ERSTSZ is written here",
+            &[],
+        );
+        case.note("the Event Ring is set up from ERSTSZ on (xHCI 4.9.4)", &[]);
+        case.not_judged();
+        return case.help(
+            "let the ring go before ERSTSZ is written, or behind the next reset of a controller that has halted",
+            &[],
+        );
+    }
+    if controller.halt.is_some() {
+        mark_run(case);
+        case.note(
+            "the controller goes on to post events there once Run/Stop is 1 again (xHCI 4.9.4)",
+            &[],
+        );
+        case.not_judged();
+    } else {
+        note_running(case);
+        case.note(
+            "the controller may post an event there at any moment (xHCI 4.9.4)",
+            &[],
+        );
+    }
+    case.help(
+        "reset the controller before the ring goes: Run/Stop 0, `rd usbsts` with HCHalted 1, then HCRST",
+        &[],
+    );
 }
 
 /// A ring that an endpoint has: how it came to it, or which unfinished command is to take it away.
@@ -119,6 +209,9 @@ pub fn bad_ring(case: &mut Case, ring: &Ring) {
             &[],
         );
     }
+    if tell_second(case, ring.shape.kind()) {
+        return;
+    }
     for segment in ring.shape.segments() {
         if bad_segment(case, *segment) {
             return;
@@ -127,6 +220,39 @@ pub fn bad_ring(case: &mut Case, ring: &Ring) {
     case.head("a ring comes in memory that is not free for it", &[]);
     case.here("ring {}", &[Id(ring.id)]);
     case.help("use memory that nothing else has, with zeros in it", &[]);
+}
+
+/// A second Command or Event Ring. Whether it is one.
+fn tell_second(case: &mut Case, kind: RingKind) -> bool {
+    let rings = case.header.rings.as_slice();
+    let (Some(other), true) = (ring_of_kind(rings, kind), kind != RingKind::Xfer) else {
+        return false;
+    };
+    let id = Id(other.id);
+    case.here("ring {} is {}", &[id, Name(kind_name(other))]);
+    case.mark(coming(case.before, other.id), "ring {} comes here", &[id]);
+    if kind == RingKind::Cmd {
+        case.head("a second Command Ring comes", &[]);
+        case.note(
+            "the controller has one pointer into Command Rings, which CRCR sets (xHCI 4.9.3, 5.4.5)",
+            &[],
+        );
+        case.help(
+            "free ring {} first: before the start, or behind an `rd usbsts` row with HCHalted 1",
+            &[id],
+        );
+    } else {
+        case.head("a second Event Ring comes", &[]);
+        case.note(
+            "an interrupter has one Event Ring, and a trace is one interrupter's (xHCI 4.9.4)",
+            &[],
+        );
+        case.help(
+            "free ring {} first: before ERSTSZ is written, or behind a reset of a controller that has halted",
+            &[id],
+        );
+    }
+    true
 }
 
 /// A segment that no ring may have. Whether none may.
@@ -176,24 +302,35 @@ fn tell_touched(case: &mut Case, base: u64, other: &Ring) {
 
 /// A word of a segment that the controller may have written last: from which row on.
 fn tell_soiled(case: &mut Case, word: SoiledWord) {
-    let (slot, row) = (Small(word.device.slot), word.device.row);
+    let SoiledWord { address, taken } = word;
+    let line = Line(line_of(case.first, taken.row));
     case.head("a ring comes in memory that the controller wrote last", &[]);
-    case.here(
-        "the word at {} was the Device Context's of slot {}",
-        &[Address(word.address), slot],
-    );
-    case.mark(
-        Some(row),
-        "hands the Device Context of slot {} to the controller",
-        &[slot],
-    );
-    case.note(
-        "the controller may have written it from row {} on, and the driver has not since",
-        &[Line(line_of(case.first, row))],
-    );
+    mark_taken(case, taken);
+    match taken.by {
+        Taker::Device(slot) => {
+            case.here(
+                "the word at {} was the Device Context's of slot {}",
+                &[Address(address), Small(slot)],
+            );
+            case.note(
+                "the controller may have written it from row {} on, and the driver has not since",
+                &[line],
+            );
+        }
+        Taker::EventRing(id) => {
+            case.here(
+                "the word at {} was ring {}'s, the Event Ring",
+                &[Address(address), Id(id)],
+            );
+            case.note(
+                "the controller may have written it up to row {}, and the driver has not since",
+                &[line],
+            );
+        }
+    }
     case.help(
-        "write every word of the segments behind Disable Slot, zeros too, before the ring comes",
-        &[],
+        "write every word of the segments behind {}, zeros too, before the ring comes",
+        &[Name(given_back_by(case, taken))],
     );
 }
 

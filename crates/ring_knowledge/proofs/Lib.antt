@@ -21,6 +21,7 @@ pub mod StopSpots
 pub mod Borders
 pub mod MoveTests
 pub mod PassedBlocks
+pub mod GivenUp
 pub mod FreeNumbers
 pub mod Withdrawn
 pub mod Declared

@@ -3,8 +3,10 @@ pub use Rattle.ring_knowledge.specs.Known.{Known}
 unfoldable pub use Rattle.ring_knowledge.specs.Known.{nothing}
 pub use Rattle.ring_knowledge.specs.Marks.{AreCleared}
 unfoldable pub use Rattle.ring_knowledge.specs.Marks.{is_noted}
-pub use Rattle.ring_knowledge.specs.RegisterRecords.{FollowsRegisters}
-unfoldable pub use Rattle.ring_knowledge.specs.Registers.{register_written, run_or_stop, valued}
+pub use Rattle.ring_knowledge.specs.RegisterRecords.{FollowsRegisters, FollowsRun}
+unfoldable pub use Rattle.ring_knowledge.specs.Histories.{forgotten, gone}
+unfoldable pub use Rattle.ring_knowledge.specs.Registers.{register_read, register_written, run_or_stop, runs_again, runs_once, status_read, valued}
+unfoldable pub use Rattle.ring_knowledge.specs.Resets.{behind_blocks, first_free, given_up, held_at_given, reset}
 pub use Rattle.ring_knowledge.specs.RingRecords.{ArePositive, FollowsMarks, FollowsRing, IsFromFloor, crossings_of, is_the, least_crossing, positions_of}
 pub use Rattle.ring_knowledge.specs.SpotsAt.{IsFirstAt}
 pub use Rattle.ring_knowledge.specs.declared.register_record.RegisterRecord.{RegisterRecord}
@@ -53,5 +55,7 @@ pub use Rattle.std.specs.declared.cmp.Ordering.TheVariants.{Less}
 pub use Rattle.traces.specs.Register.{ordinal, reset_bit, run_bit, with_register}
 pub use Rattle.traces.specs.declared.header.Header.{Header}
 pub use Rattle.traces.specs.declared.register.Register.{Register}
-pub use Rattle.traces.specs.declared.register.Register.TheVariants.{Usbcmd}
+pub use Rattle.traces.specs.declared.register.Register.TheVariants.{Crcr, Usbcmd}
+pub use Rattle.traces.specs.declared.halt.Halt.TheVariants.{Asked, Done, Not}
 pub use Rattle.trb.specs.Block.{block_at, same_words, with_cycle}
+unfoldable pub use Rattle.traces.specs.Header.{command_id}

@@ -5,13 +5,17 @@ use Rattle.commands.specs.declared.state.SlotState.{SlotState}
 use Rattle.commands.specs.declared.state.SlotState.TheVariants.{Disabled}
 use Rattle.commands.specs.declared.state.EndpointState.{EndpointState}
 use Rattle.commands.specs.declared.state.EndpointState.TheVariants.{Disabled as Off}
+use Rattle.traces.specs.declared.halt.Halt.{Halt}
+use Rattle.traces.specs.declared.halt.Halt.TheVariants.{Not}
 use Rattle.traces.specs.declared.register.Register.{Register}
 
 pub record Known : Type 0 where
-  -- the controller was started (R/S), and after that stopped or reset
+  -- the controller was started (R/S); and, where it runs but once, after that stopped or reset
   pub started : Bool
   pub stopped : Bool
-  -- the last value written to each register
+  -- how far it is in halting, as far as was seen
+  pub halt : Halt
+  -- the last value written to each register; to CRCR while the command ring was there that is there now
   pub register : Register → Option ℕ
   -- memory as the driver wrote it
   pub memory : ℕ → ℕ
@@ -42,6 +46,7 @@ unfoldable pub nothing : Known
 nothing = record {
   started = false;
   stopped = false;
+  halt = Not;
   register = λ r. None;
   memory = λ a. 0;
   ring = λ r. new_ring;

@@ -5,6 +5,7 @@ pub mod Registers
 pub mod Transfers
 pub mod Completions
 pub mod Learned
+pub mod Resets
 pub mod Histories
 pub mod Marks
 pub mod SpotsAt

@@ -5,9 +5,14 @@ use Rattle.traces.specs.Register.{ordinal}
 use Rattle.ring_knowledge.specs.Known.{Known}
 use Rattle.ring_knowledge.specs.declared.register_record.RegisterRecord.{RegisterRecord}
 
--- the record holds whether the controller was started and stopped, and the last value written to each register
-pub record FollowsRegisters (k : Known) (r : RegisterRecord) : Type 0 where
+-- whether the controller was started and stopped, and how far it is in halting
+pub record FollowsRun (k : Known) (r : RegisterRecord) : Type 0 where
   pub started : k.started ≡ r.started
   pub stopped : k.stopped ≡ r.stopped
+  pub halt : k.halt ≡ r.halt
+
+-- and the last value written to each register
+pub record FollowsRegisters (k : Known) (r : RegisterRecord) : Type 0 where
+  pub run : FollowsRun k r
   pub as_many : length r.values ≡ 11
   pub values : (q : Register) → k.register q ≡ slice_index_or r.values (ordinal q) None

@@ -1,23 +1,30 @@
-ghost use Rattle.std.specs.Prelude.{◌≡◌, ◌<◌, ◌||◌, ◌&&◌, not};
-ghost use Rattle.traces.specs.Register.{ordinal, run_bit, reset_bit};
+ghost use Rattle.std.specs.Prelude.{ℕ, ◌≡◌, ◌<◌, ◌==◌, ◌&&◌, if◌then◌else◌, false};
+ghost use Rattle.traces.specs.Halts.{is_asked};
+ghost use Rattle.traces.specs.declared.halt.Halt.TheVariants.{Done};
+ghost use Rattle.traces.specs.Header.{command_id};
+ghost use Rattle.traces.specs.Register.{ordinal};
 ghost use Rattle.traces.specs.declared.header.Header.{Header};
 ghost use Rattle.ring_knowledge.specs.Known.{Known, nothing};
-ghost use Rattle.ring_knowledge.specs.Registers.{register_written};
+ghost use Rattle.ring_knowledge.specs.Histories.{gone};
+ghost use Rattle.ring_knowledge.specs.Registers.{register_read, register_written, run_or_stop, runs_again, runs_once};
+ghost use Rattle.ring_knowledge.specs.Resets.{reset};
 
-use traces::Register;
+use traces::{Halt, Register, Version};
 
-/// What one pass over a trace keeps of the registers: the last value written to each, and whether the controller was started,
-/// and after that stopped or reset (xHCI 5.4.1). Contracts compare it with what is `Known`.
+/// What one pass over a trace keeps of the registers: the last value written to each, to CRCR while the command ring was there
+/// that is there now, whether the controller was started, and after that stopped, and how far it is in halting (xHCI 5.4.1,
+/// 5.4.2). Contracts compare it with what is `Known`.
 #[derive(Drop)]
 pub struct RegisterRecord {
     /// By the number of a register.
     values: [Option<u64>; 11],
     started: bool,
     stopped: bool,
+    halt: Halt,
 }
 
 impl RegisterRecord {
-    ghost use Rattle.ring_knowledge.specs.RegisterRecords.{FollowsRegisters};
+    ghost use Rattle.ring_knowledge.specs.RegisterRecords.{FollowsRegisters, FollowsRun};
 
     /// The record before any register is written.
     pub fn new() -> RegisterRecord
@@ -27,6 +34,7 @@ impl RegisterRecord {
             values: [None; 11],
             started: false,
             stopped: false,
+            halt: Halt::Not,
         }
     }
 
@@ -37,11 +45,18 @@ impl RegisterRecord {
         self.started
     }
 
-    /// Whether the controller was stopped or reset after it was started.
+    /// Whether the controller, which runs but once, was stopped or reset after it was started.
     pub fn is_stopped(&self) -> bool
         ensures { (k : Known) → FollowsRegisters k self.now → result ≡ k.stopped }
     {
         self.stopped
+    }
+
+    /// How far the controller is in halting, as far as was seen.
+    pub fn halt(&self) -> Halt
+        ensures { (k : Known) → FollowsRegisters k self.now → result ≡ k.halt }
+    {
+        self.halt
     }
 
     /// The last value written to a register.
@@ -51,22 +66,66 @@ impl RegisterRecord {
         self.values[ordinal(register)]
     }
 
-    /// Notes a write of a register.
-    pub fn write(&mut self, register: Register, value: u64)
-        ensures { (h : Header) (k : Known) → FollowsRegisters k self.old → FollowsRegisters (register_written h k register value) self.new }
+    /// Notes a write of a register, in a trace of this version.
+    pub fn write(&mut self, version: Version, register: Register, value: u64)
+        ensures { (h : Header) (k : Known) → h.version ≡ version → FollowsRegisters k self.old → FollowsRegisters (register_written h k register value) self.new }
     {
         self.values[ordinal(register)] = Some(value);
         match register {
-            Register::Usbcmd => self.run_or_stop(value),
+            Register::Usbcmd => self.run_or_stop(version, value),
             _ => {}
         }
     }
 
+    /// Notes that a register was read.
+    pub fn read(&mut self, register: Register, value: u64)
+        ensures { (k : Known) → FollowsRegisters k self.old → FollowsRegisters (register_read k register value) self.new }
+    {
+        match register {
+            Register::Usbsts => self.note_status(value % 2 == 1),
+            _ => {}
+        }
+    }
+
+    fn note_status(&mut self, has_halted: bool)
+        ensures { self.new ≡ record self.old { halt = if is_asked self.old.halt && has_halted then Done else self.old.halt } }
+    {
+        if self.halt.is_asked() && has_halted {
+            self.halt = Halt::Done;
+        }
+    }
+
+    /// Notes that the controller was reset: nothing is known of its registers.
+    pub fn reset(&mut self)
+        ensures { (h : Header) (k : Known) → FollowsRegisters k self.old → k.stopped ≡ false → FollowsRegisters (reset h k) self.new }
+    {
+        *self = RegisterRecord::new();
+    }
+
+    /// Notes that a ring goes: of CRCR nothing is known any more if it is the command ring.
+    pub fn let_ring_go(&mut self, is_command_ring: bool)
+        ensures { (h : Header) (k : Known) (id : ℕ) → is_command_ring ≡ (id == command_id h) → FollowsRegisters k self.old → FollowsRegisters (gone h k id) self.new }
+    {
+        if is_command_ring {
+            self.values[ordinal(Register::Crcr)] = None;
+        }
+    }
+
     /// Notes what a value of USBCMD starts or stops.
-    fn run_or_stop(&mut self, value: u64)
+    fn run_or_stop(&mut self, version: Version, value: u64)
         ensures values { self.new.values ≡ self.old.values }
-        ensures started { self.new.started ≡ (self.old.started || (run_bit value && not (reset_bit value))) }
-        ensures stopped { self.new.stopped ≡ (self.old.stopped || (self.old.started && (not (run_bit value) || reset_bit value))) }
+        ensures follows { (h : Header) (k : Known) → h.version ≡ version → FollowsRun k self.old → FollowsRun (run_or_stop h k value) self.new }
+    {
+        if version.has_runs() {
+            self.run_again(value)
+        } else {
+            self.run_once(value)
+        }
+    }
+
+    fn run_once(&mut self, value: u64)
+        ensures values { self.new.values ≡ self.old.values }
+        ensures follows { (k : Known) → FollowsRun k self.old → FollowsRun (runs_once k value) self.new }
     {
         let runs = value % 2 == 1;
         let resets = value / 2 % 2 == 1;
@@ -74,6 +133,24 @@ impl RegisterRecord {
             self.stopped = self.stopped || !runs || resets;
         } else {
             self.started = runs && !resets;
+        }
+    }
+
+    /// A reset is told apart.
+    fn run_again(&mut self, value: u64)
+        ensures values { self.new.values ≡ self.old.values }
+        ensures follows { (k : Known) → FollowsRun k self.old → FollowsRun (runs_again k value) self.new }
+    {
+        let runs = value % 2 == 1;
+        let resets = value / 2 % 2 == 1;
+        if resets {
+            return;
+        }
+        if runs {
+            self.started = true;
+            self.halt = Halt::Not;
+        } else if self.started && !self.halt.is_asked() {
+            self.halt = Halt::Asked;
         }
     }
 }

@@ -14,6 +14,7 @@ ghost use Rattle.ring_knowledge.specs.Marks.{AreCleared, is_noted};
 mod changes;
 mod forgetting;
 mod moves;
+mod resets;
 mod spots;
 mod withdrawals;
 

@@ -1,7 +1,7 @@
 //! What the controller has beside rings: the Event Ring Segment Table, Input Contexts, entries of the DCBAA and Device Contexts.
 use crate::finding::{Case, Shown};
 use crate::known::Known;
-use crate::rows::{last_register, last_write, register_value};
+use crate::rows::{last_register, last_write};
 use crate::unfinished::Unfinished;
 use crate::words::ring_of_kind;
 use std::alloc::{AllocError, Global};
@@ -61,7 +61,7 @@ pub(crate) fn areas(
     unfinished: &[Unfinished],
 ) -> Result<Vec<Area>, AllocError> {
     let mut found = Vec::new(alloc);
-    if let Some(table) = table(header, before) {
+    if let Some(table) = table(header, before, known) {
         found.push(table)?;
     }
     for given in unfinished {
@@ -79,8 +79,8 @@ pub(crate) fn areas(
 }
 
 /// The Event Ring Segment Table.
-fn table(header: &Header, before: &[Row]) -> Option<Area> {
-    let value = register_value(before, Register::Erstba)?;
+fn table(header: &Header, before: &[Row], known: &Known) -> Option<Area> {
+    let value = known.controller.registers.value(Register::Erstba)?;
     let ring = ring_of_kind(header.rings.as_slice(), RingKind::Evt)?;
     Some(Area {
         kind: AreaKind::Table,
@@ -144,7 +144,7 @@ pub fn write_to_area(case: &mut Case, address: u64, word: u32) {
         ],
     );
     case.mark(area.row, "this row hands it to the controller", &[]);
-    case.note(comes_back(kind), &[]);
+    note_back(case, kind);
     case.help(instead(kind), &[]);
     if !matches!(kind, AreaKind::Device(_)) {
         note_unchanged(case, address, word);
@@ -167,7 +167,7 @@ pub fn note_area(case: &mut Case, from: u64, bytes: u64) {
         &[Shown::Area(area.kind), size, Shown::Address(area.from)],
     );
     case.mark(area.row, "this row hands it to the controller", &[]);
-    case.note(comes_back(area.kind), &[]);
+    note_back(case, area.kind);
 }
 
 /// Notes that a write to memory which the controller only reads leaves the word as it is. Whether it does.
@@ -186,7 +186,17 @@ pub fn note_unchanged(case: &mut Case, address: u64, word: u32) -> bool {
     true
 }
 
-/// When an area comes back.
+/// Notes when an area comes back.
+fn note_back(case: &mut Case, kind: AreaKind) {
+    let note = if case.known.controller.halt.is_some() {
+        comes_back_in_halt(kind)
+    } else {
+        comes_back(kind)
+    };
+    case.note(note, &[]);
+}
+
+/// When an area comes back from a controller that runs.
 fn comes_back(kind: AreaKind) -> &'static str {
     match kind {
         AreaKind::Table => "it doesn't come back while the controller runs (xHCI 6.5)",
@@ -194,6 +204,17 @@ fn comes_back(kind: AreaKind) -> &'static str {
             "it comes back with the Command Completion Event of that command (xHCI 4.6)",
         AreaKind::Entry(_) | AreaKind::Device(_) =>
             "it comes back with the success of Disable Slot (xHCI 4.6.4)",
+    }
+}
+
+/// When an area comes back from a controller that has halted.
+fn comes_back_in_halt(kind: AreaKind) -> &'static str {
+    match kind {
+        AreaKind::Table => "it comes back with a reset (xHCI 5.4.1)",
+        AreaKind::InputContext =>
+            "it comes back with the Command Completion Event of that command, or with a reset (xHCI 4.6, 5.4.1)",
+        AreaKind::Entry(_) | AreaKind::Device(_) =>
+            "it comes back with the success of Disable Slot, or with a reset (xHCI 4.6.4, 5.4.1)",
     }
 }
 

@@ -1,13 +1,15 @@
 //! A refused row, what stands before it, and what was found of it, before its lines are quoted.
 use crate::areas::{Area, AreaKind, NoArea};
-use crate::known::{Behind, Known};
+use crate::known::{Behind, Dropper, Known};
+use crate::rows::last_register;
+use crate::running::mark_reset;
 use crate::unfinished::Unfinished;
 use crate::words::{NOT_JUDGED, Ordinal, command_name, endpoint_state_name, type_name};
 use ring_knowledge::RingRecord;
 use segments::Segment;
 use std::alloc::{AllocError, Global};
 use std::fmt;
-use traces::{Header, Ring, Row};
+use traces::{Header, Register, Ring, Row};
 use trb::Block;
 
 /// A number or a name that stands in a text where that has `{}`.
@@ -184,6 +186,29 @@ impl<'a> Case<'a> {
         }
     }
 
+    /// The rows behind the last reset.
+    pub fn rows_since_reset(&self) -> &'a [Row] {
+        let since = self.known.controller.since().min(self.before.len());
+        &self.before[since..]
+    }
+
+    /// A row, where the controller wasn't reset behind it.
+    pub fn since_reset(&self, row: Option<usize>) -> Option<usize> {
+        row.filter(|row| *row >= self.known.controller.since())
+    }
+
+    /// The value that was written to a register last, and counts: behind the last reset, and of CRCR behind the `ring` row of the
+    /// Command Ring that is there.
+    pub fn register(&self, register: Register) -> Option<u64> {
+        self.known.controller.registers.value(register)
+    }
+
+    /// The row that wrote that value.
+    pub fn register_row(&self, register: Register) -> Option<usize> {
+        let _value = self.register(register)?;
+        last_register(self.before, register)
+    }
+
     /// What was found.
     pub fn finding(self) -> Result<Finding, AllocError> {
         match self.failed {
@@ -289,30 +314,43 @@ impl<'a> Case<'a> {
     }
 }
 
-/// Notes which command disabled an endpoint that had a ring, and points at its completion where nothing else is pointed at. Whether
-/// there is one.
+/// Notes which command, or which reset, disabled an endpoint that had a ring, and points at its row where nothing else is pointed at.
+/// Whether there is one.
 pub fn note_dropped(case: &mut Case, slot: u8, endpoint: u8) -> bool {
     let Some(dropping) = case.known.dropping_of(slot, endpoint) else {
         return false;
     };
+    let place = Shown::Endpoint(slot, endpoint);
     let state = endpoint_state_name(case.known.devices.endpoint_state(slot, endpoint));
-    let name = Shown::Name(command_name(dropping.command));
-    let line = line_of(case.first, dropping.row);
-    case.note(
-        "{} is {}: the {} that completed at row {} disabled it",
-        &[
-            Shown::Endpoint(slot, endpoint),
-            Shown::Name(state),
-            name,
-            Shown::Line(line),
-        ],
+    let (state, line) = (
+        Shown::Name(state),
+        Shown::Line(line_of(case.first, dropping.row)),
     );
-    if !case.has_mark() {
-        case.mark(
-            Some(dropping.row),
-            "this completion of {} disabled the endpoint",
-            &[name],
-        );
+    let has_mark = case.has_mark();
+    match dropping.by {
+        Dropper::Command(command) => {
+            let name = Shown::Name(command_name(command));
+            case.note(
+                "{} is {}: the {} that completed at row {} disabled it",
+                &[place, state, name, line],
+            );
+            if !has_mark {
+                case.mark(
+                    Some(dropping.row),
+                    "this completion of {} disabled the endpoint",
+                    &[name],
+                );
+            }
+        }
+        Dropper::Reset => {
+            case.note(
+                "{} is {}: the reset of row {} disabled it",
+                &[place, state, line],
+            );
+            if !has_mark {
+                mark_reset(case);
+            }
+        }
     }
     true
 }

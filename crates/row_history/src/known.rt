@@ -4,6 +4,7 @@ ghost use Rattle.traces.specs.Header.{IsHeader};
 ghost use Rattle.trace_record.specs.RingFinder.Finding.{IsFinder};
 
 use crate::areas::{Area, areas};
+use crate::controller_past::ControllerPast;
 use crate::live_rings::{add_ring, clashes_with_one, remove_ring};
 use crate::positions::is_handed_over;
 use crate::ring_past::RingPast;
@@ -13,9 +14,9 @@ use contexts::{ContextSize, EndpointContext, InputContext};
 use guest_memory::{Addr, SparseMemory, WordMemory};
 use ring_knowledge::{RingGiving, RingRecord};
 use std::alloc::{AllocError, Global};
-use trace_record::{DeviceRecord, Finder, Named};
+use trace_record::{DeviceRecord, Finder, Named, is_command_ring, is_event_ring};
 use traces::{Header, Register, Ring, Rings, Row, Version};
-use trb::{Block, BlockKind, is_halting, is_stopping, is_success, is_trb_error};
+use trb::{Block, BlockKind, RingKind, is_halting, is_stopping, is_success, is_trb_error};
 
 /// That an endpoint got a ring.
 #[derive(Clone, Copy)]
@@ -27,24 +28,50 @@ pub struct Binding {
     pub row: usize,
 }
 
-/// That a command disabled an endpoint that had a ring.
+/// That an endpoint was disabled that had a ring.
 #[derive(Clone, Copy)]
 pub struct Dropping {
     pub slot: u8,
     pub endpoint: u8,
-    pub command: Command,
-    /// The index of the row that read the command's completion.
+    pub by: Dropper,
+    /// The index of the row that read the command's completion, or that reset the controller.
     pub row: usize,
 }
 
-/// That a slot got its Device Context.
+/// What disabled an endpoint.
+#[derive(Clone, Copy)]
+pub enum Dropper {
+    Command(Command),
+    /// The reset of the controller.
+    Reset,
+}
+
+/// That memory is the controller's to write, or was.
 #[derive(Clone, Copy)]
 pub struct Taking {
-    pub slot: u8,
+    pub by: Taker,
     /// Where it lies.
     pub from: u64,
     pub bytes: u64,
-    /// The index of the row that gave the Address Device.
+    /// The index of the row behind which the driver has to write it again: the one that gave the Address Device, or took the Event Ring away.
+    pub row: usize,
+}
+
+/// What the controller writes.
+#[derive(Clone, Copy, PartialEq, Eq)]
+pub enum Taker {
+    /// The Device Context of this slot, since its first Address Device.
+    Device(u8),
+    /// The Event Ring with this ID, until it went.
+    EventRing(u8),
+}
+
+/// That a ring went.
+#[derive(Clone, Copy)]
+pub struct Going {
+    pub ring: u8,
+    pub kind: RingKind,
+    /// The index of the row that took it away.
     pub row: usize,
 }
 
@@ -60,6 +87,7 @@ pub struct Resting {
 /// What is known after some rows.
 #[derive(Drop)]
 pub struct Known {
+    pub controller: ControllerPast,
     pub memory: SparseMemory,
     /// Of each word the row that wrote it last, by its index and one more; 0 of a word that none wrote.
     writers: SparseMemory,
@@ -78,8 +106,8 @@ pub struct Known {
     pub stops: Vec<Resting>,
     /// The Transfer Events by which an endpoint came into the state Halted or Error (xHCI 4.8.3), in the order of their rows.
     pub halts: Vec<Resting>,
-    /// Where the DCBAA lies, once DCBAAP was written.
-    pub array: Option<u64>,
+    /// The rings that went, in the order of their rows.
+    goings: Vec<Going>,
 }
 
 /// Which rings are there after some rows, what is known, which commands are unfinished, and what the controller has beside rings.
@@ -139,6 +167,7 @@ impl Known {
             pasts.push(RingPast::new(alloc))?;
         }
         Ok(Known {
+            controller: ControllerPast::new(),
             memory: SparseMemory::new(alloc),
             writers: SparseMemory::new(alloc),
             rings,
@@ -149,7 +178,7 @@ impl Known {
             takings: Vec::new(alloc),
             stops: Vec::new(alloc),
             halts: Vec::new(alloc),
-            array: None,
+            goings: Vec::new(alloc),
         })
     }
 
@@ -172,12 +201,7 @@ impl Known {
                 self.learn_declared(finder, index, *ring, blocks.as_slice())
             }
             Row::Write { at, word } => self.learn_word(header, finder, index, *at, *word),
-            Row::Reg { register, value } => {
-                if *register == Register::Dcbaap {
-                    self.array = Some(*value / 64 * 64);
-                }
-                Ok(())
-            }
+            Row::Reg { register, value } => self.learn_register(header, index, *register, *value),
             Row::Bell { slot, target } => {
                 self.learn_bell(finder, *slot, *target);
                 Ok(())
@@ -190,11 +214,59 @@ impl Known {
                 _ => Ok(()),
             },
             Row::Ring { ring } => self.learn_coming(alloc, header, finder, ring.as_ring()),
-            Row::Free { ring: id } => self.learn_going(alloc, header, finder, *id),
+            Row::Free { ring: id } => self.learn_going(alloc, header, finder, index, *id),
             Row::Nop { ring, position } => {
                 self.learn_withdrawn(header, finder, index, *ring, *position)
             }
+            Row::RegRead { register, value } => {
+                self.controller.read(index, *register, *value);
+                Ok(())
+            }
         }
+    }
+
+    /// A register is written.
+    fn learn_register(
+        &mut self,
+        header: &Header,
+        row: usize,
+        register: Register,
+        value: u64,
+    ) -> Result<(), AllocError> {
+        if self.controller.write(header.version, row, register, value) {
+            self.learn_reset(header, row)
+        } else {
+            Ok(())
+        }
+    }
+
+    /// The controller is reset: it forgets slots and endpoints. Of the Command Ring what was given is over; any other ring it may have read
+    /// as far as it is given.
+    fn learn_reset(&mut self, header: &Header, row: usize) -> Result<(), AllocError> {
+        for slot in 1..=255u8 {
+            self.note_droppings(row, Dropper::Reset, slot, Named::All)?;
+        }
+        self.devices.clear();
+        for (number, ring) in header.rings.as_slice().iter().enumerate() {
+            self.reset_ring(row, number, ring)?;
+        }
+        Ok(())
+    }
+
+    /// The controller is reset: so much of one ring.
+    fn reset_ring(&mut self, row: usize, number: usize, ring: &Ring) -> Result<(), AllocError> {
+        if let (Some(known), Some(past)) = (
+            self.rings.get_mut(number),
+            self.pasts.get_mut(number),
+        ) {
+            if is_command_ring(ring) {
+                known.give_up(&ring.shape);
+            } else {
+                known.hold_at_given();
+            }
+            past.note_passed(row, known.floor_number())?;
+        }
+        Ok(())
     }
 
     /// A ring comes.
@@ -224,6 +296,7 @@ impl Known {
         alloc: Global,
         header: &mut Header,
         finder: &mut Finder,
+        row: usize,
         id: u8,
     ) -> Result<(), AllocError>
         requires headed { IsHeader header.now }
@@ -242,7 +315,32 @@ impl Known {
         }
         self.rings.remove(number);
         self.pasts.remove(number);
+        if let Some(ring) = header.rings.as_slice().get(number) {
+            self.note_going(row, ring)?;
+        }
         remove_ring(alloc, header, finder, number)
+    }
+
+    /// Notes that a ring goes: CRCR names it no more, and what it holds of events the controller may have written.
+    fn note_going(&mut self, row: usize, ring: &Ring) -> Result<(), AllocError> {
+        self.goings.push(Going {
+            ring: ring.id,
+            kind: ring.shape.kind(),
+            row,
+        })?;
+        self.controller.registers.let_ring_go(is_command_ring(ring));
+        if !is_event_ring(ring) {
+            return Ok(());
+        }
+        for segment in ring.shape.segments() {
+            self.takings.push(Taking {
+                by: Taker::EventRing(ring.id),
+                from: segment.base,
+                bytes: 16 * u64::from(segment.count),
+                row,
+            })?;
+        }
+        Ok(())
     }
 
     /// A TD is withdrawn: what was handed over of it is the driver's until the ring is started or moved.
@@ -360,7 +458,7 @@ impl Known {
                     let address = self.device_named(slot);
                     self.devices.take_device(slot, address);
                     self.takings.push(Taking {
-                        slot,
+                        by: Taker::Device(slot),
                         from: address,
                         bytes: 32 * header.context_size.bytes(),
                         row,
@@ -379,7 +477,8 @@ impl Known {
 
     /// Where a slot's entry of the DCBAA lies; the array counts as one at 0 before DCBAAP was written.
     pub fn entry_of(&self, slot: u8) -> u64 {
-        self.array.unwrap_or(0).saturating_add(8 * u64::from(slot))
+        let array = self.controller.registers.value(Register::Dcbaap);
+        (array.unwrap_or(0) / 64 * 64).saturating_add(8 * u64::from(slot))
     }
 
     /// The address in a slot's entry of the DCBAA.
@@ -392,15 +491,15 @@ impl Known {
     pub fn taken_by(&self, slot: u8) -> Option<usize> {
         let mut last = None;
         for taking in &self.takings {
-            if taking.slot == slot {
+            if taking.by == Taker::Device(slot) {
                 last = Some(taking.row);
             }
         }
         last
     }
 
-    /// The last Device Context that had the word at an address.
-    pub fn device_over(&self, address: u64) -> Option<Taking> {
+    /// What of the controller's had the word at an address last.
+    pub fn taken_over(&self, address: u64) -> Option<Taking> {
         let mut last = None;
         for taking in &self.takings {
             if address >= taking.from && address - taking.from < taking.bytes {
@@ -552,7 +651,7 @@ impl Known {
             Command::DisableSlot { slot } => {
                 self.devices.go_on(&command, slot);
                 self.devices.leave_device(slot);
-                self.note_droppings(row, command, slot, Named::All)?;
+                self.note_droppings(row, Dropper::Command(command), slot, Named::All)?;
                 self.devices.disable(slot, Named::All);
             }
             Command::ResetDevice { slot }
@@ -562,7 +661,8 @@ impl Known {
                 ..
             } => {
                 self.devices.go_on(&command, slot);
-                self.note_droppings(row, command, slot, Named::AboveControl)?;
+                let by = Dropper::Command(command);
+                self.note_droppings(row, by, slot, Named::AboveControl)?;
                 self.devices.disable(slot, Named::AboveControl);
             }
             Command::AddressDevice {
@@ -581,7 +681,7 @@ impl Known {
                 self.devices.go_on(&command, slot);
                 self.learn_types(header, slot, input_context);
                 let dropped = Named::Dropped(self.word(input_context));
-                self.note_droppings(row, command, slot, dropped)?;
+                self.note_droppings(row, Dropper::Command(command), slot, dropped)?;
                 self.devices.disable(slot, dropped);
                 return self.learn_context(header, finder, row, slot, input_context, 2, 32);
             }
@@ -623,7 +723,7 @@ impl Known {
     fn note_droppings(
         &mut self,
         row: usize,
-        command: Command,
+        by: Dropper,
         slot: u8,
         named: Named,
     ) -> Result<(), AllocError> {
@@ -632,7 +732,7 @@ impl Known {
                 self.droppings.push(Dropping {
                     slot,
                     endpoint,
-                    command,
+                    by,
                     row,
                 })?;
             }
@@ -679,7 +779,13 @@ impl Known {
         last_resting(self.halts.as_slice(), slot, endpoint)
     }
 
-    /// The command that disabled an endpoint last.
+    /// The ring of a kind that went last.
+    pub fn gone_last(&self, kind: RingKind) -> Option<Going> {
+        let last = self.goings.iter().rposition(|going| going.kind == kind)?;
+        self.goings.get(last).copied()
+    }
+
+    /// What disabled an endpoint last.
     pub fn dropping_of(&self, slot: u8, endpoint: u8) -> Option<Dropping> {
         let mut last = None;
         for dropping in &self.droppings {

@@ -63,6 +63,12 @@ pub fn is_handed_over(ring: &Ring, known: &RingRecord, position: u64) -> bool {
     }
 }
 
+/// The reset behind which no event gives back what the write of a control word handed over: the last one, where it came behind that.
+pub fn reset_behind(case: &Case, control: u64) -> Option<usize> {
+    let gave = case.known.last_writer(control)?;
+    case.known.controller.reset.filter(|reset| gave < *reset)
+}
+
 /// The least position from the floor on at a place.
 pub fn position_at(ring: &Ring, known: &RingRecord, place: u32) -> u64 {
     let (place, places) = (u64::from(place), u64::from(ring.shape.places()));

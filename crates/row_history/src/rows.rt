@@ -54,29 +54,7 @@ pub fn last_register(rows: &[Row], register: Register) -> Option<usize> {
     last
 }
 
-/// The last value that the rows write to a register.
-pub fn register_value(rows: &[Row], register: Register) -> Option<u64> {
-    let mut last = None;
-    for row in rows {
-        if let Row::Reg {
-            register: written,
-            value,
-        } = row
-        {
-            if *written == register {
-                last = Some(*value);
-            }
-        }
-    }
-    last
-}
-
-/// The row that starts the controller: the first with Run/Stop 1 and HCRST 0.
-pub fn start(rows: &[Row]) -> Option<usize> {
-    rows.iter().position(|row| runs(row) == Some(true))
-}
-
-/// The row that stops the controller after the start.
+/// The row that stops a controller, which runs but once, after the start.
 pub fn stop(rows: &[Row]) -> Option<usize> {
     let mut started = false;
     for (index, row) in rows.iter().enumerate() {
@@ -104,7 +82,7 @@ fn runs(row: &Row) -> Option<bool> {
     }
 }
 
-/// How many events the rows read, and the last row that reads one.
+/// The last of the rows that reads an event.
 pub fn last_read(rows: &[Row]) -> Option<usize> {
     let mut last = None;
     for (index, row) in rows.iter().enumerate() {
@@ -157,6 +135,18 @@ pub fn going(rows: &[Row], id: u8) -> Option<usize> {
 fn goes(row: &Row, id: u8) -> bool {
     match row {
         Row::Free { ring: gone } => *gone == id,
+        _ => false,
+    }
+}
+
+/// The row by which the ring with this ID came; none of a ring of the header.
+pub fn coming(rows: &[Row], id: u8) -> Option<usize> {
+    rows.iter().rposition(|row| comes(row, id))
+}
+
+fn comes(row: &Row, id: u8) -> bool {
+    match row {
+        Row::Ring { ring } => ring.as_ring().id == id,
         _ => false,
     }
 }

@@ -1,5 +1,5 @@
 //! Commands: the one that a write gives, and those that were given and whose completion wasn't read.
-use crate::finding::Case;
+use crate::finding::{Case, Shown};
 use crate::known::Known;
 use crate::positions::is_handed_over;
 use commands::{Command, EndpointState};
@@ -40,6 +40,19 @@ pub(crate) fn all_unfinished(
         }
     }
     Ok(found)
+}
+
+/// Notes how many commands aren't finished, as only the profile asks of a controller that has halted, and points at the first.
+pub fn note_unfinished(case: &mut Case) {
+    if let Some(first) = case.unfinished.first() {
+        case.mark_unfinished(*first);
+    }
+    let count = case.unfinished.len() as u64;
+    case.note(
+        "unfinished commands: {}; the Command Completion Event of none of them was read",
+        &[Shown::Number(count)],
+    );
+    case.not_judged();
 }
 
 /// The first unfinished command that names an endpoint, or its slot alone.

@@ -51,6 +51,7 @@ pub fn general_head(refusal: Refusal) -> &'static str {
         Refusal::NotRestored => "a ring goes on before its withdrawn TDs are No Ops",
         Refusal::BadFree => "a ring is freed that is not the driver's to free",
         Refusal::BadRing => "a ring comes in memory that is not free for it",
+        Refusal::ImpossibleRead => "USBSTS is read with a value that it can't have",
     }
 }
 
@@ -92,6 +93,8 @@ pub fn why_refused(refusal: Refusal) -> &'static str {
             "a Transfer Ring goes once no endpoint has it, and no unfinished command gives it to one",
         Refusal::BadRing =>
             "its ID is new, its segments touch no ring and no memory that the controller has or wrote last, and no control word shows Cycle bit 1",
+        Refusal::ImpossibleRead =>
+            "HCHalted is 1 before the start, 0 from there on, and 1 again behind Run/Stop 0 (xHCI 5.4.2)",
     }
 }
 

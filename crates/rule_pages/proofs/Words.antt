@@ -1,6 +1,6 @@
 -- The words of std, of the crates below and of this crate's own definitions that its proofs cite, passed on by one file
 pub use Rattle.certificate.specs.declared.fault.CertFault.TheVariants.{Field as CertField, Length as CertLength, Magic as CertMagic, Memory as CertMemory}
-pub use Rattle.ownership_rules.specs.declared.refusal.Refusal.TheVariants.{AfterStop, BadCommand, BadDescriptor, BadDoorbell, BadErdp, BadFree, BadMove, BadRegister, BadRing, BadWithdraw, Busy, ImpossibleEvent, LinkFault, NotAsSubmitted, NotDeclared, NotInProfile, NotRestored, NotWhole, RingFull, WriteToOwned}
+pub use Rattle.ownership_rules.specs.declared.refusal.Refusal.TheVariants.{AfterStop, BadCommand, BadDescriptor, BadDoorbell, BadErdp, BadFree, BadMove, BadRegister, BadRing, BadWithdraw, Busy, ImpossibleEvent, ImpossibleRead, LinkFault, NotAsSubmitted, NotDeclared, NotInProfile, NotRestored, NotWhole, RingFull, WriteToOwned}
 pub use Rattle.plan_writer.specs.declared.fault.PlanRefusal.TheVariants.{BadDescriptor as PlanBadDescriptor, NotDeclared as PlanNotDeclared, NotGiven as PlanNotGiven, NotInProfile as PlanNotInProfile, RingFull as PlanRingFull}
 pub use Rattle.rule_pages.specs.Naming.{IsCalled}
 pub use Rattle.rule_pages.specs.declared.subject.Subject.{Subject}

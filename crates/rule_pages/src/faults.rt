@@ -13,10 +13,10 @@ What is wrong
   replay `harm 1` is another matter: xhcitrace explain harm-1.
 
 What to write instead
-  `xtrace 3`, of a driver with isochronous endpoints `xtrace 4`; and as CSZ of
-  HCCPARAMS1 says (xHCI 5.3.6) `ctx 20`, contexts of 32 bytes, or `ctx 40`, of
-  64: in hex digits. Save the file as UTF-8 without a byte order mark, with line
-  feeds alone.
+  `xtrace 3`, of a driver with isochronous endpoints or of a controller that
+  runs more than once `xtrace 4`; and as CSZ of HCCPARAMS1 says (xHCI 5.3.6)
+  `ctx 20`, contexts of 32 bytes, or `ctx 40`, of 64: in hex digits. Save the
+  file as UTF-8 without a byte order mark, with line feeds alone.
 
 A trace that has it
   Line 2 names the size of a context in decimal.
@@ -32,8 +32,9 @@ What is wrong
   Its first word begins no row; it has too few fields or too many, or an empty
   one; the kind of its ring or the name of its register is none; or it has no
   line feed at its end, as where a recording was cut off. In `xtrace 1` no
-  `free` and `nop` rows are, and `ring` lines stand before all rows. Of a
-  replay `harm 2` is another matter: xhcitrace explain harm-2.
+  `free` and `nop` rows are, and `ring` lines stand before all rows. Only
+  `xtrace 4` has `rd` rows, and `cmd` and `evt` rings behind rows. Of a replay
+  `harm 2` is another matter: xhcitrace explain harm-2.
 
 What to write instead
   The forms that FORMAT.md lists: words in lower case, one space between two

@@ -76,15 +76,17 @@ the controller posts over an unread event
 
 What it is
   The Event Ring is full of events that the driver hasn't read, but ERDP says
-  that there is room: the next event is written over one of them (xHCI 4.9.4).
+  that there is room: the next event is written over one of them. Or the Event
+  Ring isn't there any more: the next event is written into memory that is
+  something else by now (xHCI 4.9.4).
 
 What you see of it
   A completion that never comes, and a driver that waits for it until it gives
   the transfer up.
 
 What keeps it away
-  22 BadErdp, and 17 BadRegister of the Event Ring's registers. Of a trace that
-  breaks no rule no run does this harm: that is proved.
+  22 BadErdp, 17 BadRegister of the Event Ring's registers, and 34 BadFree. Of a
+  trace that breaks no rule no run does this harm: that is proved.
 ";
 
 const INPUT_CONTEXT_CHANGED: &str = "\

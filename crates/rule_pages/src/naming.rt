@@ -10,7 +10,7 @@ use trace_reader::LineFault;
 use world_state::Harm;
 
 /// All that there is a page on.
-const SUBJECTS: [Subject; 41] = [
+const SUBJECTS: [Subject; 42] = [
     Subject::Rule(Refusal::WriteToOwned),
     Subject::Rule(Refusal::NotAsSubmitted),
     Subject::Rule(Refusal::NotDeclared),
@@ -31,6 +31,7 @@ const SUBJECTS: [Subject; 41] = [
     Subject::Rule(Refusal::NotRestored),
     Subject::Rule(Refusal::BadFree),
     Subject::Rule(Refusal::BadRing),
+    Subject::Rule(Refusal::ImpossibleRead),
     Subject::Line(LineFault::Header),
     Subject::Line(LineFault::Row),
     Subject::Line(LineFault::Number),

@@ -211,18 +211,26 @@ a register is written at the wrong time or with a wrong value
 What it is for
   The registers that say where memory is are written before the start, with
   values that fit the trace's rings: CRCR, DCBAAP, CONFIG, ERSTSZ, ERSTBA; the
-  start needs CRCR, ERSTSZ, ERSTBA and ERDP (xHCI 4.2, 5.4, 5.5.2).
+  start needs CRCR, ERSTSZ, ERSTBA and ERDP. In `xtrace 4` Run/Stop 0 has the
+  controller halt, and an `rd usbsts` row with HCHalted 1 tells that it did.
+  Only then it may run again or be reset, and these registers be written once
+  more: CRCR with the first TRB of a Command Ring whose doorbell was never rung,
+  the others with the value that they have (xHCI 4.2, 4.23.2, 5.4, 5.5.2).
 
 What a controller does to a driver that breaks it
   It looks for its rings elsewhere, or with the wrong Cycle State, from its
-  first step on.
+  first step on. Reset or set up anew before it has halted, it goes on in rings
+  and contexts that the driver takes for its own.
 
 What to write instead
   Reset first; then the ERST in memory, ERSTSZ, ERDP, ERSTBA; CRCR with the
   address of the Command Ring's first TRB and RCS 1; DCBAAP; CONFIG; Run/Stop
   last. A register of 64 bits is one row, at its second half. `xtrace 3` and
   `4` let ERSTSZ and ERDP be written more often before the start: their last
-  values count.
+  values count. In `xtrace 4` read USBSTS behind Run/Stop 0 until HCHalted is 1.
+  Run/Stop 1 may follow where every command is completed, and CRCR names the
+  Command Ring that is there. HCRST may follow where no command was handed over
+  behind one that wasn't; then free the Command Ring, and set up all anew.
 
 A trace that breaks it
   Row 4 writes CRCR with RCS 0, and is refused.
@@ -239,7 +247,8 @@ a doorbell of an endpoint that may not be rung now
 What it is for
   A doorbell says that there is work for an endpoint that can do it: the
   controller was started, the endpoint is Running or Stopped and not to be
-  moved first, and no unfinished command changes it (xHCI 4.7, 4.8.3, 5.6).
+  moved first, and no unfinished command changes it. In `xtrace 4` none rings
+  from Run/Stop 0 to Run/Stop 1 (xHCI 4.7, 4.8.3, 5.4.1.1, 5.6).
 
 What a controller does to a driver that breaks it
   It starts the endpoint where it stood before the command; or the doorbell is
@@ -426,16 +435,17 @@ const AFTER_STOP: &str = "\
 a row behind the stop of the controller
 
 What it is for
-  A trace is one run of the controller: it ends with the row that stops it,
-  Run/Stop 0 or a reset behind the start (xHCI 5.4.1). Whose the rings and
-  contexts are behind that isn't told.
+  In `xtrace 1` to `3` a trace is one run of the controller: it ends with the
+  row that stops it, Run/Stop 0 or a reset behind the start (xHCI 5.4.1). Whose
+  the rings and contexts are behind that isn't told. `xtrace 4` goes on.
 
 What a controller does to a driver that breaks it
   Nothing is said of that: mostly this refusal is no bug.
 
 What to write instead
   End the trace with the row that stops the controller, and begin a new one
-  before the next set-up.
+  before the next set-up. Or begin it with `xtrace 4`, and log each read of
+  USBSTS behind the stop as an `rd usbsts` row.
 
 A trace that breaks it
   Row 14 stops the controller; row 15 rings a doorbell, and is refused.
@@ -632,9 +642,11 @@ a ring is freed that is not the driver's to free
 What it is for
   A `free` row (from `xtrace 2` on) says that the memory of a Transfer Ring
   is the driver's again. No endpoint has the ring: each that had it is
-  Disabled by a command whose completion was read. And no unfinished command
-  gives it to one. The Command Ring and the Event Ring never go (xHCI 4.6.4,
-  4.6.6, 4.9).
+  Disabled by a command whose completion was read, or by a reset. And no
+  unfinished command gives it to one. The Command Ring and the Event Ring go
+  in `xtrace 4` alone: the one before the start, or where HCHalted was read and
+  every command is completed; the other where ERSTSZ is unwritten since the
+  reset (xHCI 4.2, 4.6.4, 4.6.6, 4.9).
 
 What a controller does to a driver that breaks it
   It goes on fetching where no ring is any more, and takes as TDs whatever is
@@ -642,7 +654,8 @@ What a controller does to a driver that breaks it
 
 What to write instead
   Disable Slot, or Configure Endpoint that drops the endpoint; read its
-  completion; then the `free` row, and only then give the memory back.
+  completion; then the `free` row, and only then give the memory back. Of all
+  rings at once: Run/Stop 0, `rd usbsts` with HCHalted 1, HCRST, `free` rows.
 
 A trace that breaks it
   Row 28 frees the ring of an endpoint that is Running, and is refused.
@@ -682,7 +695,9 @@ a ring comes in memory that is not free for it
 
 What it is for
   A `ring` line behind rows (from `xtrace 2` on) is a Transfer Ring that
-  comes: from now on its memory is one. Its ID is new. Its segments touch no
+  comes: from now on its memory is one. In `xtrace 4` it may also be the
+  Command Ring (before the start, or where HCHalted was read) or the Event Ring
+  (before the start), where none is there. Its ID is new. Its segments touch no
   ring that is there, and nothing that the controller has: no Input Context of
   an unfinished command, no DCBAA entry or Device Context, no ERST. Nor is a
   Device Context's word among them that wasn't written since, for there the
@@ -710,6 +725,31 @@ A trace that breaks it
     ring 03 xfer 0000000000030000:0004
 ";
 
+const IMPOSSIBLE_READ: &str = "\
+USBSTS was read with a value that it can't have had
+
+What it is for
+  HCHalted (bit 0) of USBSTS is 1 before the start, and 0 from there on. Behind
+  Run/Stop 0 it becomes 1, and stays so until Run/Stop is 1 again. An `rd` row
+  (in `xtrace 4`) of another register says nothing (xHCI 4.2, 5.4.1.1, 5.4.2).
+
+What a controller does to a driver that breaks it
+  It shows no such value: mostly the row stands at the wrong place. But after an
+  error of its own (HSE, HCE) a controller halts by itself; that isn't judged
+  here.
+
+What to write instead
+  Log each read of USBSTS where it was made, with the value that came back. Of a
+  controller that halts by itself end the trace before that row.
+
+A trace that breaks it
+  Row 3 reads HCHalted as 0 before the start, and is refused.
+
+    xtrace 4
+    ctx 20
+    rd usbsts 0000000000000000
+";
+
 /// The page on a rule, which its number and name stand before: a head line, what it is for, what a controller does to a driver that
 /// breaks it, what to write instead, and a trace whose last row breaks it, each line behind four spaces.
 pub fn page_on_rule(rule: Refusal) -> &'static str {
@@ -734,5 +774,6 @@ pub fn page_on_rule(rule: Refusal) -> &'static str {
         Refusal::NotRestored => NOT_RESTORED,
         Refusal::BadFree => BAD_FREE,
         Refusal::BadRing => BAD_RING,
+        Refusal::ImpossibleRead => IMPOSSIBLE_READ,
     }
 }

@@ -1,5 +1,5 @@
 -- An event that may be read at one of two knowledges that are alike: it may be read at the other, and leaves both alike
-use Rattle.safety.proofs.MiddleLaws.{[], ◌≡◌, ◌≤◌, ◌==◌, ◌&&◌, ℕ, false, not, Some, refl, ap, rules, or_parts, or_from, not-false, Block, BlockKind, TransferEvent, CommandCompletion, kind, is_transfer_event, Spot, named, Header, Read, Config, shape_of, register_or_zero, Known, event_read, learned, is_in_profile, is_impossible_by_kind, lenient, if◌then◌else◌, true, List, arith, sym, subst, ltb-true, lt-ltb, false≢true, and_parts, and_from, not_from_true, code, slot, number, after, Reaches, cases_option, Command, Change, changes, command_id, on_ring, command_at, next_command, changed_by_all, succeeded, stop_ended, finished, completed, was_stop_seen, can_finish, may_be_taken, is_stopping_now, is_impossible_completion, event_facts, event_still, Alike, ceiling_more, reached_alike, both_sides, seen_put}
+use Rattle.safety.proofs.MiddleLaws.{[], ◌≡◌, ◌≤◌, ◌==◌, ◌&&◌, ℕ, false, not, Some, refl, ap, rules, or_parts, or_from, not-false, Block, BlockKind, TransferEvent, CommandCompletion, kind, is_transfer_event, Spot, named, Header, Read, Config, shape_of, register_or_zero, Known, event_read, learned, is_in_profile, is_impossible_by_kind, lenient, if◌then◌else◌, true, List, arith, sym, subst, ltb-true, lt-ltb, false≢true, and_parts, and_from, not_from_true, code, slot, number, after, Reaches, cases_option, Command, Change, changes, command_id, on_ring, command_at, next_command, changed_by_all, succeeded, stop_ended, finished, completed, was_stop_seen, can_finish, may_be_taken, is_stopping_now, is_impossible_completion, event_facts, event_still, Alike, ceiling_more, reached_alike, both_sides, seen_put, Option, None}
 use Rattle.safety.proofs.AlikeTransfers.{transfer_alike}
 use Rattle.safety.proofs.AlikeChanges.{TargetsAre, changes_alike}
 
@@ -55,9 +55,24 @@ module _ (h : Header) (P : ℕ → Type 0) (k l : Known) (a : Alike P k l) where
         (reached_alike h P (finished h k b (Some c)) (finished h l b (Some c)) (finish_alike b c may at) r (after_is (next_command h k)))))
 
     module _ (config : register_or_zero l.register Config ≡ register_or_zero k.register Config) where
-      pub completion_alike : (b : Block) → is_impossible_completion h k b ≡ false → (is_impossible_completion h l b ≡ false) × Alike P (completed h k b) (completed h l b)
+      possible_alike : (b : Block) → is_impossible_completion h k b ≡ false → is_impossible_completion h l b ≡ false
       unfolding is_impossible_completion can_finish
-      completion_alike b possible = grind (arith, or_parts, not-false, false≢true, and_parts, and_from, seen_alike, next_alike, or_from, not_from_true, taken_alike, completed_alike)
+      possible_alike b possible = grind (arith, or_parts, not-false, false≢true, and_parts, and_from, seen_alike, next_alike, or_from, not_from_true, taken_alike)
+
+      there_alike : (b : Block) (o : Option Command) → command_at h k (next_command h k) ≡ o → may_be_taken h k ≡ true → can_finish k b o ≡ true → Alike P (completed h k b) (completed h l b)
+      unfolding can_finish
+      there_alike b None at may finishes = absurd (false≢true finishes)
+      there_alike b (Some c) at may finishes = completed_alike b c may at
+
+      pub completion_alike : (b : Block) → is_impossible_completion h k b ≡ false → (is_impossible_completion h l b ≡ false) × Alike P (completed h k b) (completed h l b)
+      unfolding is_impossible_completion
+      completion_alike b possible =
+          let three = or_parts _ (not (can_finish k b (command_at h k (next_command h k)))) possible in
+          let two = or_parts _ (code b == 0) three.0 in
+          let one = or_parts (not (may_be_taken h k)) _ two.0 in (
+            possible_alike b possible,
+            there_alike b (command_at h k (next_command h k)) refl (not-false (may_be_taken h k) one.0) (not-false (can_finish k b (command_at h k (next_command h k))) three.1),
+          )
 
 -- what else an event reads is alike
 pub record EventAlike (h : Header) (k l : Known) : Type 0 where

@@ -1,5 +1,5 @@
 -- The command ring's first doorbell beneath an event that isn't read yet: the two may change places
-use Rattle.safety.proofs.UpperLaws.{[], ◌≡◌, ◌==◌, ◌&&◌, if◌then◌else◌, ◌∙◌, ℕ, Bool, true, false, not, Some, is_none, arith, refl, sym, ap, subst, inl, ltb-true, eqb-true, rules, MayCome, none-some, false≢true, and_parts, or_from, not-false, not_from_true, cond-true, cond-false, Block, BlockKind, TransferEvent, CommandCompletion, kind, is_transfer_event, is_command_completion, Opens, ceiling, is_open, ceiling_held, is_stop_of, Header, Bell, Read, IsHeader, shape_of, command_id, Known, on_ring, command_at, next_command, endpoint_rung, rung, event_read, learned, is_in_profile, may_be_taken, is_stopping_now, is_impossible_by_kind, is_bad_bell, is_bad_doorbell, doorbell_tests, lenient_tests, lenient, DriverKeeps, HeldMore, is_open_if, Square, clean_tests, event_still, EventFacts, event_facts, bell_facts, endpoints_of, transfer_command, ring_here, ring_elsewhere, SameDriver, on_ring_same, both_drivers, Woken, completion_facts, read_same, read_both, flip_driver, woken_more, transfer_woken}
+use Rattle.safety.proofs.UpperLaws.{[], ◌≡◌, ◌==◌, ◌&&◌, if◌then◌else◌, ◌∙◌, ℕ, Bool, true, false, not, Some, is_none, arith, refl, sym, ap, subst, inl, ltb-true, eqb-true, rules, MayCome, none-some, false≢true, and_parts, or_from, not-false, not_from_true, cond-true, cond-false, Block, BlockKind, TransferEvent, CommandCompletion, kind, is_transfer_event, is_command_completion, Opens, ceiling, is_open, ceiling_held, is_stop_of, Header, Bell, Read, IsHeader, shape_of, command_id, Known, on_ring, command_at, next_command, endpoint_rung, rung, event_read, learned, is_in_profile, may_be_taken, is_stopping_now, is_impossible_by_kind, is_bad_bell, is_bad_doorbell, doorbell_tests, lenient_tests, lenient, DriverKeeps, HeldMore, is_open_if, Square, clean_tests, event_still, EventFacts, event_facts, bell_facts, endpoints_of, transfer_command, ring_here, ring_elsewhere, SameDriver, on_ring_same, both_drivers, Woken, completion_facts, read_same, read_both, flip_driver, woken_more, transfer_woken, is_asked}
 use Rattle.safety.proofs.DriverHistories.{kept_driver}
 use Rattle.safety.proofs.HeldFurther.{counted}
 
@@ -27,9 +27,9 @@ module _ (h : Header) where
   unfolding learned rung
   bell_command k s t first = cond-true (s == 0) (command_rung k) (endpoint_rung h k s t (k.ring_of s t)) first
 
-  pub bell_clean : (k : Known) (s t : ℕ) → k.stopped ≡ false → k.started ≡ true → (if s == 0 then not (t == 0) else is_bad_bell h k s t) ≡ false → lenient h k (Bell s t) ≡ []
+  pub bell_clean : (k : Known) (s t : ℕ) → k.stopped ≡ false → k.started ≡ true → is_asked k.halt ≡ false → (if s == 0 then not (t == 0) else is_bad_bell h k s t) ≡ false → lenient h k (Bell s t) ≡ []
   unfolding lenient lenient_tests doorbell_tests is_bad_doorbell
-  bell_clean k s t on started good = search (rules, cond-false, or_from, not_from_true)
+  bell_clean k s t on started goes good = search (rules, cond-false, or_from, not_from_true)
 
   module _ (is : IsHeader h) (k : Known) (d : DriverKeeps h k) (first : (k.ring (command_id h)).held ≡ Some 0) where
     -- no command was taken yet
@@ -84,7 +84,7 @@ module _ (h : Header) where
         record {
           event = subst (λ x. lenient h x (Read e) ≡ []) (sym (bell_command k s t slot)) read.possible;
           row = (
-            bell_clean k_read s t (same.stopped ∙ (clean_tests h k (Read e) may).0) (same.started ∙ facts.started) good,
+            bell_clean k_read s t (same.stopped ∙ (clean_tests h k (Read e) may).0) (same.started ∙ facts.started) (ap is_asked same.halt ∙ (bell_facts h k s t clean.0).on) good,
             λ r has. absurd (none-some r (sym (read_keeps.states.no_endpoint s t (inl (eqb-true s 0 slot))) ∙ has)),
           );
           after = subst (λ x. HeldMore x (learned h (learned h k (Bell s t)) (Read e))) (sym (bell_command k_read s t slot))

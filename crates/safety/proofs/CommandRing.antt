@@ -5,7 +5,7 @@ use Rattle.safety.proofs.RingIds.{found_again, together, none_has_256}
 use Rattle.safety.proofs.KeptRegisters.{command_drives}
 
 module _ (h : Header) (is : IsHeader h) where
-  no_places : place_count (shape_of h 256) ≡ 0
+  pub no_places : place_count (shape_of h 256) ≡ 0
   unfolding shape_of
   no_places = search (rules, cases_option, none_has_256)
 

@@ -1,5 +1,5 @@
 -- A completion keeps what is kept of the commands that stay unfinished
-use Rattle.safety.proofs.MiddleLaws.{◌≡◌, ◌≢◌, ◌==◌, if◌then◌else◌, ◌∙◌, ℕ, not, true, false, nat_lt, Option, None, Some, arith, refl, sym, ap, subst, inl, inr, ltb-true, cases_Bool, cond-true, cond-false, or_parts, and_parts, not-false, false≢true, Block, code, slot, Spot, after, Reaches, ceiling, Command, NoOp, EnableSlot, DisableSlot, AddressDevice, ConfigureEndpoint, EvaluateContext, ResetEndpoint, StopEndpoint, SetTrDequeue, ResetDevice, exclude, named_slot, may_answer_slot, is_disabled, can_succeed, Header, Config, IsHeader, shape_of, command_id, register_or_zero, Known, command_at, next_command, on_ring, succeeded, stop_ended, finished, completed, may_be_taken, can_finish, was_stop_seen, is_impossible_completion, IsDriverRing, IsUnfinished, DriverKeeps, CommandsKeep, names_disabled_slot, rules, ring_shape, ceiling_given, AtFloor, at_floor, command_is_ring, completion_same, IsPart, OtherSlots, same_others, both_others, on_others, Concerns, not_both, own_keeps, pair_keeps, commands_stay, changed_slot, changed_part, OfCommand, Commands, of_slot, success_others}
+use Rattle.safety.proofs.MiddleLaws.{◌≡◌, ◌≢◌, ◌==◌, if◌then◌else◌, ◌∙◌, ℕ, not, true, false, nat_lt, Option, None, Some, arith, refl, sym, ap, subst, inl, inr, ltb-true, cases_Bool, cond-true, cond-false, or_parts, and_parts, not-false, false≢true, Block, code, slot, Spot, after, Reaches, ceiling, Command, NoOp, EnableSlot, DisableSlot, AddressDevice, ConfigureEndpoint, EvaluateContext, ResetEndpoint, StopEndpoint, SetTrDequeue, ResetDevice, exclude, named_slot, may_answer_slot, is_disabled, can_succeed, Header, Config, IsHeader, shape_of, command_id, register_or_zero, Known, command_at, next_command, on_ring, succeeded, stop_ended, finished, completed, may_be_taken, can_finish, was_stop_seen, is_impossible_completion, IsDriverRing, IsUnfinished, DriverKeeps, CommandsKeep, names_disabled_slot, rules, ring_shape, ceiling_given, AtFloor, at_floor, command_is_ring, completion_same, IsPart, OtherSlots, same_others, both_others, on_others, Concerns, not_both, own_keeps, pair_keeps, commands_stay, changed_slot, changed_part, OfCommand, Commands, of_slot, success_others, named_if_taken}
 use Rattle.safety.proofs.TakenDevices.{slot_above, slot_named}
 use Rattle.safety.proofs.CommandsFinished.{beside_finished, rings_finished, unfinished_before}
 
@@ -125,7 +125,7 @@ module _ (h : Header) (is : IsHeader h) (k : Known) (d : DriverKeeps h k) (b : B
       let one = or_parts (not (nat_lt (next_command h k) (ceiling (shape_of h (command_id h)) (k.ring (command_id h))))) _ two.0 in
       let below = ltb-true (next_command h k) (ceiling (shape_of h (command_id h)) (k.ring (command_id h)))
       (not-false (nat_lt (next_command h k) (ceiling (shape_of h (command_id h)) (k.ring (command_id h)))) one.0) in
-      let ring : IsDriverRing h (command_id h) = command_is_ring h k d on in
+      let ring : IsDriverRing h (command_id h) = command_is_ring h k d (named_if_taken h k d on below) in
       let high = ceiling_given (shape_of h (command_id h)) (ring_shape h is (command_id h) ring).is k.memory (k.ring (command_id h)) (d.rings (command_id h) ring) in
       let floor : AtFloor h k = at_floor h is k d ring (omega arith) in
       let answer = may_answer (command_at h k (next_command h k)) (not-false (can_finish k b (command_at h k (next_command h k))) three.1) in

@@ -1,5 +1,5 @@
 -- A doorbell keeps what is kept of unfinished commands: none of them touches the endpoint
-use Rattle.safety.proofs.MiddleLaws.{[], ◌≡◌, ◌≢◌, ◌==◌, ◌&&◌, if◌then◌else◌, ◌∙◌, ℕ, not, Bool, true, false, Option, None, Some, refl, sym, ap, subst, eq-eqb, rules, cond_both, cond-false, or_parts, or_left, and_from, false≢true, put_pair, Opens, number, Command, SetTrDequeue, is_stopped, is_at_rest, changes, Header, Bell, IsHeader, shape_of, command_id, Known, on_ring, endpoint_rung, rung, touches_endpoint, is_touched, is_bad_bell, is_bad_doorbell, doorbell_tests, lenient_tests, lenient, IsUnfinished, CommandKeeps, DriverKeeps, drops, is_dropped, arith, tests_fail, ring_here, ring_elsewhere, transfer_not_command, IsTransferTest, command_not_transfer, bound_transfer, SameGiven, on_ring_same, at_pair, unfinished_fails, standing_same, unfinished_view, PlacesStay, MovesAhead, still_restored, SameStates, RingsStay, ring_stays, same_stay, opened_free}
+use Rattle.safety.proofs.MiddleLaws.{[], ◌≡◌, ◌≢◌, ◌==◌, ◌&&◌, if◌then◌else◌, ◌∙◌, ℕ, not, Bool, true, false, Option, None, Some, refl, sym, ap, subst, eq-eqb, rules, cond_both, cond-false, or_parts, or_left, and_from, false≢true, put_pair, Opens, number, Command, SetTrDequeue, is_stopped, is_at_rest, changes, Header, Bell, IsHeader, shape_of, command_id, Known, on_ring, endpoint_rung, rung, touches_endpoint, is_touched, is_bad_bell, is_bad_doorbell, doorbell_tests, lenient_tests, lenient, IsUnfinished, CommandKeeps, DriverKeeps, drops, is_dropped, arith, tests_fail, ring_here, ring_elsewhere, transfer_not_command, IsTransferTest, command_not_transfer, bound_transfer, SameGiven, on_ring_same, at_pair, unfinished_fails, standing_same, unfinished_view, PlacesStay, MovesAhead, still_restored, SameStates, RingsStay, ring_stays, same_stay, opened_free, ◌||◌, is_asked}
 
 opened_states : (h : Header) (k : Known) (r : ℕ) → SameStates k (on_ring h k r Opens)
 unfolding on_ring
@@ -92,7 +92,7 @@ module _ (h : Header) (is : IsHeader h) (k : Known) (d : DriverKeeps h k) where
   pub rung_commands : (s t : ℕ) → lenient h k (Bell s t) ≡ [] → (p : ℕ) (c : Command) → IsUnfinished h (rung h k s t) p c → CommandKeeps h (rung h k s t) p c
   unfolding rung lenient_tests doorbell_tests is_bad_doorbell is_bad_bell
   rung_commands s t clean =
-      let rule : (if s == 0 then not (t == 0) else is_bad_bell h k s t) ≡ false = (or_parts (not k.started) _ (tests_fail h k (Bell s t) clean).0).1 in
+      let rule : (if s == 0 then not (t == 0) else is_bad_bell h k s t) ≡ false = (or_parts (not k.started || is_asked k.halt) _ (tests_fail h k (Bell s t) clean).0).1 in
       cond_both (s == 0) (on_ring h k (command_id h) Opens) (endpoint_rung h k s t (k.ring_of s t)) (λ l. (p : ℕ) (c : Command) → IsUnfinished h l p c → CommandKeeps h l p c)
       (λ zero. commands_rung)
       (λ slot. by_ring s t (k.ring_of s t) refl (or_parts _ (is_touched h k s t) (sym (cond-false (s == 0) (not (t == 0)) (is_bad_bell h k s t) slot) ∙ rule)).1)

@@ -94,7 +94,11 @@ module _ (h : Header) (is : IsHeader h) (k : Known) (d : DriverKeeps h k) where
                 absurd (no_report u s n r bsr here (ap (λ b. k.ring_of s b) one.1 ∙ has) t ahead c (ap (λ b. can_report h k c s b r t) one.1 ∙ can))
             | inr other ↦ subst (λ v. Standing (shape_of h x) (k.ring x) v) (sym (leaves.others x other)) (record { here = λ a b moves. moves; nothing = λ none. none })
           ];
-      still = grind (arith, cases_eq, bound_none_reported, PlacesStay);
+      still = λ x bound.
+          elim (cases_eq x r) [
+            | inl same ↦ absurd (bound_none_reported u s i r e unfinished_at has (ap (λ n. binds_ring h k n e) (sym same) ∙ bound) t ahead c can)
+            | inr other ↦ subst (λ v. PlacesStay (shape_of h x) (k.ring x) v) (sym (leaves.others x other)) (λ a b placed. placed)
+          ];
       moved = still_restored k l e (λ q j its. ap (λ f. f q j) leaves.ring_of) (λ x. (driver.rings x).free);
     }
 

@@ -1,5 +1,5 @@
 -- A write keeps what is kept of unfinished commands, and of the command that it gives holds what was tested
-use Rattle.safety.proofs.MiddleLaws.{[], ◌≡◌, ◌≢◌, ◌<◌, ◌∙◌, ℕ, Bool, true, false, Some, arith, sym, ap, subst, inl, inr, eq-eqb, ◌≤◌, rules, MovesRestored, command_given, list_any, or_parts, or_from, and_from, not_from_false, false≢true, false_from_ne_true, All-contains, Shape, RingView, Writes, changed, declared, floor_number, gives, ceiling, is_not_declared, cases_option, gives_is, position_given, gives_one, move-writes, ceiling_held, Command, AddressDevice, is_at_rest, is_running, Header, Write, IsHeader, shape_of, command_id, Known, unfinished, binds_ring, awaits_binding, is_being_bound, moves_ring, is_being_moved, crossings_given, crossing_given, gives_crossing, given_count_grows, step_more, GivesMore, is_placement, is_open, is_inside, address_inside, IsTransferRing, cases_Bool, or_cases, write_tests, lenient_tests, lenient, IsDriverRing, IsUnfinished, DriverKeeps, CommandsKeep, exclude, is_busy, AllFail, tests_fail, has_ring, ring_shape, transfer_driver, transfer_not_command, driver_test, transfer_ring, none_given, none_crossed, ceiling_open, held_open, bound_transfer, written_elsewhere, write_leaves, unfinished_fails, GivenFacts, given_facts, after_write, written_ring, GivesCommand, unfinished_written, Beside, Standing, PlacesStay, MovesAhead, OwnKeeps, PairKeeps, RingsBeside, own_keeps, pair_keeps, commands_stay, still_restored, excludes_turned, on_is}
+use Rattle.safety.proofs.MiddleLaws.{[], ◌≡◌, ◌≢◌, ◌<◌, ◌∙◌, ℕ, Bool, true, false, Some, arith, sym, ap, subst, inl, inr, eq-eqb, ◌≤◌, rules, MovesRestored, command_given, list_any, or_parts, or_from, and_from, not_from_false, false≢true, false_from_ne_true, All-contains, Shape, RingView, Writes, changed, declared, floor_number, gives, ceiling, is_not_declared, cases_option, gives_is, position_given, gives_one, move-writes, ceiling_held, Command, AddressDevice, is_at_rest, is_running, Header, Write, IsHeader, shape_of, command_id, Known, unfinished, binds_ring, awaits_binding, is_being_bound, moves_ring, is_being_moved, crossings_given, crossing_given, gives_crossing, given_count_grows, step_more, GivesMore, is_placement, is_open, is_inside, address_inside, IsTransferRing, cases_Bool, or_cases, write_tests, lenient_tests, lenient, IsDriverRing, IsUnfinished, DriverKeeps, CommandsKeep, exclude, is_busy, AllFail, tests_fail, has_ring, ring_shape, transfer_driver, transfer_not_command, driver_test, transfer_ring, none_given, none_crossed, ceiling_open, held_open, bound_transfer, written_elsewhere, write_leaves, unfinished_fails, GivenFacts, given_facts, after_write, written_ring, GivesCommand, unfinished_written, Beside, Standing, PlacesStay, MovesAhead, OwnKeeps, PairKeeps, RingsBeside, own_keeps, pair_keeps, commands_stay, still_restored, excludes_turned, on_is, not, is_off, is_ring, refl}
 use Rattle.safety.proofs.WriteBeside.{beside_old, beside_new}
 use Rattle.safety.proofs.CommandsTransfer.{rest_not_running}
 
@@ -45,7 +45,10 @@ module _ (h : Header) (is : IsHeader h) (k : Known) (d : DriverKeeps h k) (a w :
   unfolding is_being_moved moves_ring
   none_moved u s n r bsr at has p fresh now =
       let none = unfinished_fails h k (moves_ring h k r) u (AddressDevice s bsr n) ((none_waits r (transfer_driver h r (d.states.transfer s 1 r has)) p fresh now).0) at in
-      search (rules, false≢true, and_from, not_from_false, on_is, eq-eqb)
+      false≢true
+      (sym none
+      ∙ and_from (not (is_off (k.endpoint_state s 1))) (is_ring r (k.ring_of s 1)) (not_from_false (is_off (k.endpoint_state s 1)) (on_is (k.endpoint_state s 1) (d.states.on s 1 r has)))
+      (ap (is_ring r) has ∙ eq-eqb r r refl))
 
   -- nor a block or a Link on an open ring that an unfinished command binds
   module _ (u r : ℕ) (c : Command) (at : IsUnfinished h k u c) (bound : binds_ring h k r c ≡ true) (opened : is_open (k.ring r) ≡ true) where

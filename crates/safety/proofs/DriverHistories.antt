@@ -1,6 +1,7 @@
 -- A clean history keeps what a driver keeps
-use Rattle.safety.proofs.UpperLaws.{[], ◌≡◌, ◌∷◌, ◌∙◌, false, List, ap, Block, kind, Header, Row, IsHeader, Read, World, Known, learned, DriverKeeps, KeptByRestoring, command_id, ArePossible, Runs, all_read, ◌&&◌, not, true, subst, sym, not-false, BlockKind, TransferEvent, CommandCompletion, is_transfer_event, Sub, Write, Reg, Bell, event_read, is_in_profile, is_impossible_by_kind, CommandsKeep, ℕ, refl, rules, Command, Register, IsUnfinished, none-some, on_ring, command_at, succeeded, finished, completed, is_command_completion, StatesKeep, KeptByRows, arith, event_same, SameGiven, EventFacts, event_facts, with_reads, SameStates, ring_stays, same_stay, AreNumbered, command_numbered, changes_numbered, same_numbered, all_numbered, endpoints_of, endpoints_part, slots_part, seen_part, from_parts, endpoints_same, slots_same, seen_same, kept_crcr, kept_crcr_written, kept_sized, kept_erstsz_written, kept_dequeued, kept_read_room, kept_unstarted, kept_clean, kept_rings, CompletionFacts, completion_facts, kept_command_ring, free_same, rung_commands, register_leaves, states_rung, PartsStand, transfer_stands, completion_stands, kept_devices, declared_commands, written_commands, transfer_commands, completion_commands, unfinished_view, written_same, register_same, rung_same, transfer_same, stop_same, view_same, stops_on, states_declared, states_written, states_registered}
+use Rattle.safety.proofs.UpperLaws.{[], ◌≡◌, ◌∷◌, ◌∙◌, false, List, ap, Block, kind, Header, Row, IsHeader, Read, World, Known, learned, DriverKeeps, KeptByRestoring, command_id, ArePossible, Runs, all_read, ◌&&◌, not, true, subst, sym, not-false, BlockKind, TransferEvent, CommandCompletion, is_transfer_event, Sub, Write, Reg, Bell, event_read, is_in_profile, is_impossible_by_kind, CommandsKeep, ℕ, refl, rules, Command, Register, IsUnfinished, none-some, on_ring, command_at, succeeded, finished, completed, is_command_completion, StatesKeep, KeptByRows, arith, event_same, SameGiven, EventFacts, event_facts, with_reads, SameStates, ring_stays, same_stay, AreNumbered, command_numbered, changes_numbered, same_numbered, all_numbered, endpoints_of, endpoints_part, slots_part, seen_part, from_parts, endpoints_same, slots_same, seen_same, kept_run, kept_sized, kept_erstsz_written, kept_dequeued, kept_read_room, kept_unstarted, kept_clean, kept_rings, CompletionFacts, completion_facts, kept_command_ring, free_same, rung_commands, register_leaves, states_rung, PartsStand, transfer_stands, completion_stands, kept_devices, declared_commands, written_commands, transfer_commands, completion_commands, unfinished_view, written_same, register_same, rung_same, transfer_same, stop_same, view_same, stops_on, states_declared, states_written, states_registered, RegRead, status_leaves, status_same, states_status}
 use Rattle.safety.proofs.EndpointHistories.{row_keeps}
+use Rattle.safety.proofs.Nobodys.{kept_nobody}
 
 -- Each row keeps what is known of states
 module _ (h : Header) where
@@ -30,6 +31,7 @@ module _ (h : Header) where
   kept_states is k (Reg r x) d clean on = states_registered h is k r x d
   kept_states is k (Bell s t) d clean on = states_rung h is k d s t clean
   kept_states is k (Read b) d clean on = states_read is k b d (event_facts h k b clean)
+  kept_states is k (RegRead r x) d clean on = states_status h is k r x d
   kept_states is k row d clean on = d.states
 
 -- In any history the endpoints that have rings have numbers of slots and endpoints
@@ -42,7 +44,7 @@ module _ (h : Header) where
 
   pub row_numbered : (k : Known) (row : Row) → AreNumbered k → AreNumbered (learned h k row)
   unfolding learned on_ring
-  row_numbered k row all = grind (arith, same_numbered, written_same, register_same, rung_same, event_numbered)
+  row_numbered k row all = grind (arith, same_numbered, written_same, register_same, status_same, rung_same, event_numbered)
 
 -- A register write keeps what is kept of unfinished commands
 
@@ -73,6 +75,9 @@ module _ (h : Header) (k l : Known) (same : SameForCommands k l) where
 pub register_commands : (h : Header) (k : Known) (r : Register) (x : ℕ) → CommandsKeep h k → CommandsKeep h (learned h k (Reg r x))
 register_commands h k r x keeps = search (rules, same_commands, register_leaves h k r x)
 
+pub status_commands : (h : Header) (k : Known) (r : Register) (x : ℕ) → CommandsKeep h k → CommandsKeep h (learned h k (RegRead r x))
+status_commands h k r x keeps = search (rules, same_commands, status_leaves h k r x)
+
 -- one event more was read
 pub reads_commands : (h : Header) (k : Known) (n : ℕ) → CommandsKeep h k → CommandsKeep h (with_reads k n)
 reads_commands h k n keeps = search (rules, same_commands)
@@ -95,6 +100,7 @@ module _ (h : Header) where
   kept_unfinished is k (Read b) d may on =
       let facts : EventFacts h k b = event_facts h k b may.0 in
       search (rules, reads_commands, event_commands)
+  kept_unfinished is k (RegRead r x) d may on = status_commands h k r x d.unfinished
   kept_unfinished is k row d may on = d.unfinished
 
 module _ (h : Header) where
@@ -107,14 +113,14 @@ module _ (h : Header) where
     states = kept_states h is k row d may.0 on;
     numbered = row_numbered h k row d.numbered;
     unstarted = kept_unstarted h is k row d may.0 on;
-    crcr = kept_crcr h is k row d may.0 on;
-    crcr_written = kept_crcr_written h is k row d may.0 on;
+    run = kept_run h is k row d may.0 on;
     sized = kept_sized h is k row d may.0 on;
     erstsz_written = kept_erstsz_written h is k row d may.0 on;
     dequeued = kept_dequeued h is k row d may.0 on;
     read_room = kept_read_room h is k row d may.0 on;
     devices = kept_devices h is k row d may.0 on;
     unfinished = kept_unfinished h is k row d may on;
+    nobody = kept_nobody h is k row d may.0 on;
   }
 
   -- ---- in a run, of what is known when the unread events are read too

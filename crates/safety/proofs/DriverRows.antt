@@ -1,5 +1,6 @@
 -- Declarations, writes, register writes and doorbells keep what the rules keep of each ring
-use Rattle.safety.proofs.LowerLaws.{[], ◌≡◌, ◌≢◌, ◌==◌, ◌∙◌, ℕ, List, Option, None, Some, option_and_then, refl, sym, ap, subst, inl, inr, eq-eqb, ne_eqb, rules, cases_eq, cond-true, cond-false, cond_both, Block, RingView, RingChange, Declares, Opens, Writes, EndpointRestored, IsRestored, MayCome, RingKept, RingsKept, changed, new_ring_keeps, declares_keeps, writes_keeps, opens_keeps, Header, Register, Erdp, Usbcmd, Sub, Write, IsHeader, shape_of, command_id, Known, nothing, on_ring, with_device, with_word, written, command_given, taken_device, run_or_stop, valued, register_written, endpoint_rung, rung, lenient, RingsKeep, arith, shape_allowed, may_declare, same_word_keeps, free_or_same, may_write, passes_same, passes_both, passes_restored, passes_held}
+use Rattle.safety.proofs.RunOrStop.{runs_leave}
+use Rattle.safety.proofs.LowerLaws.{[], ◌≡◌, ◌≢◌, ◌==◌, ◌∙◌, ℕ, List, Option, None, Some, option_and_then, refl, sym, ap, subst, inl, inr, eq-eqb, ne_eqb, rules, cases_eq, cond-true, cond-false, cond_both, Block, RingView, RingChange, Declares, Opens, Writes, EndpointRestored, IsRestored, MayCome, RingKept, RingsKept, changed, new_ring_keeps, declares_keeps, writes_keeps, opens_keeps, Header, Register, Crcr, Erdp, Usbcmd, register_read, status_read, Sub, Write, IsHeader, shape_of, command_id, Known, nothing, on_ring, with_device, with_word, written, command_given, taken_device, run_or_stop, valued, register_written, endpoint_rung, rung, lenient, RingsKeep, arith, shape_allowed, may_declare, same_word_keeps, free_or_same, may_write, passes_same, passes_both, passes_restored, passes_held, runs_again, runs_once}
 use Rattle.safety.specs.RingsKeep.{IsDriverRing}
 
 module _ (h : Header) where
@@ -92,10 +93,16 @@ module _ (h : Header) (k : Known) (keeps : RingsKeep h k) where
   written_keeps a w may = device_keeps (with_word h k a w) (option_and_then (taken_device k) (command_given h k a w)) (word_keeps a w may)
 
   pub register_keeps : (r : Register) (x : ℕ) → RingsKept h k (register_written h k r x)
-  unfolding register_written valued run_or_stop
-  register_keeps Usbcmd x = search (rules, same_keeps)
+  unfolding register_written valued
+  register_keeps Usbcmd x =
+      let same = runs_leave h (valued k Usbcmd x) x in same_keeps h k k (register_written h k Usbcmd x) (sym same.memory) (sym same.ring) stands
+  register_keeps Crcr x = same_keeps h k k (register_written h k Crcr x) refl refl stands
   register_keeps Erdp x = same_keeps h k k (register_written h k Erdp x) refl refl stands
   register_keeps r x = same_keeps h k k (valued k r x) refl refl stands
+
+  pub status_keeps : (r : Register) (x : ℕ) → RingsKept h k (register_read k r x)
+  unfolding register_read status_read
+  status_keeps o x = grind (arith, same_keeps, stands)
 
   open_keeps : IsHeader h → (r : ℕ) → IsRestored (k.ring r) → RingsKept h k (on_ring h k r Opens)
   open_keeps is r restored = search (rules, on_ring_keeps, stands, opens_keeps, shape_allowed, passes_restored)

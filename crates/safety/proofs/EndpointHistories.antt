@@ -1,5 +1,5 @@
 -- Any history keeps endpoints on transfer rings, and the command ring is none of them
-use Rattle.safety.proofs.LowerLaws.{rules, ◌≡◌, ◌==◌, if◌then◌else◌, Option, None, Some, refl, cond_both, none-some, Block, kind, code, slot, Declares, Command, changes, Header, Row, Sub, Write, Reg, Bell, Read, IsHeader, command_id, Known, nothing, on_ring, command_at, next_command, written, register_written, rung, transfer_read, succeeded, stop_ended, finished, completed, event_read, learned, EndpointsKeep, arith, command_not_transfer, written_same, register_same, rung_same, transfer_same, stop_same}
+use Rattle.safety.proofs.LowerLaws.{RegRead, register_read, status_same, rules, ◌≡◌, ◌==◌, if◌then◌else◌, Option, None, Some, refl, cond_both, none-some, Block, kind, code, slot, Declares, Command, changes, Header, Row, Sub, Write, Reg, Bell, Read, IsHeader, command_id, Known, nothing, on_ring, command_at, next_command, written, register_written, rung, transfer_read, succeeded, stop_ended, finished, completed, event_read, learned, EndpointsKeep, arith, command_not_transfer, written_same, register_same, rung_same, transfer_same, stop_same}
 use Rattle.safety.proofs.Endpoints.{same_keeps, changes_keep, changes_elsewhere}
 
 module _ (h : Header) (is : IsHeader h) where
@@ -30,6 +30,7 @@ module _ (h : Header) (is : IsHeader h) where
   row_keeps k (Reg r x) keeps = same_keeps h k (register_written h k r x) (register_same h k r x) keeps
   row_keeps k (Bell s t) keeps = same_keeps h k (rung h k s t) (rung_same h k s t) keeps
   row_keeps k (Read b) keeps = same_keeps h (event_read h k (kind b) b) (learned h k (Read b)) refl (grind (arith, same_keeps, transfer_read, transfer_same, completion_keeps))
+  row_keeps k (RegRead r x) keeps = same_keeps h k (register_read k r x) (status_same h k r x) keeps
   row_keeps k row keeps = keeps
 
   pub nothing_endpoints : EndpointsKeep h nothing

@@ -11,7 +11,7 @@ world_states w e = record w { endpoint_state = e }
 
 module _ (h : Header) (k : Known) (w : World) (e f : ℕ → ℕ → EndpointState) (must : ℕ → ℕ → Bool) where
   pub stands_states : Stands h k w → Stands h (known_states k e must) (world_states w f)
-  stands_states s = record { started = s.started; stopped = s.stopped; registers = s.registers; queues = s.queues; lengths = s.lengths; dequeue = s.dequeue; quiet = s.quiet }
+  stands_states s = record { started = s.started; stopped = s.stopped; halting = s.halting; halted = s.halted; told = s.told; registers = s.registers; queues = s.queues; lengths = s.lengths; dequeue = s.dequeue; quiet = s.quiet }
 
   pub events_states : (unread : List Block) → EventsStand h w unread → EventsStand h (world_states w f) unread
   unfolding of_world.event_at
@@ -24,9 +24,11 @@ module _ (h : Header) (k : Known) (w : World) (e f : ℕ → ℕ → EndpointSta
     ring_of = m.ring_of;
     isochronous = m.isochronous;
     rings = m.rings;
-    before = λ off. let b = m.before off in record { inactive = b.inactive; no_events = b.no_events; none = b.none };
+    before = λ off. let b = m.before off in record { rests = b.rests; none = b.none };
+    new = m.new;
     command = λ on. let c = m.command on in record { spot = c.spot; ring = c.ring; under_way = under_way_same h k (known_states k e must) refl refl c.spot w.under_way c.under_way };
     scribbles = m.scribbles;
     contexts = λ p c u. m.contexts p c (unfinished_same h k (known_states k e must) refl refl p c u);
     inside = m.inside;
+    there = m.there;
   }

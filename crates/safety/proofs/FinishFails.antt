@@ -1,5 +1,5 @@
 -- The controller finishes the command under way with another code than success: the run goes on
-use Rattle.safety.proofs.MiddleLaws.{rules, [], ◌≡◌, ◌+◌, ◌<◌, ◌==◌, ◌∷◌, ◌++◌, ◌∙◌, ℕ, Bool, true, false, not, List, Option, Some, None, is_some, arith, refl, sym, ap, subst, lt-ltb, eq-eqb, false≢true, and_from, and_left, or_from, or_left, or_right, cond-true, cond-false, not_from_true, not_from_false, Block, BlockKind, IsBlock, code, kind, pointer, slot, is_transfer_event, is_command_completion, address_of, ceiling, cycle_of_bit, Command, command_of, may_answer_slot, can_succeed, Header, Config, IsHeader, shape_of, command_id, register_or_zero, World, posted, counted, Known, event_read, command_at, next_command, is_in_profile, is_impossible_by_kind, is_impossible_completion, may_be_taken, can_finish, was_stop_seen, DriverKeeps, CommandMatches, UnderWayMatches, Agrees, Runs, all_read, stored, stored_block, ring_shape, command_of-with_cycle, ceiling_given, AtFloor, at_floor, command_is_ring, command_at_is, agrees_counted, with_reads, PostKeeps, post_keeps, learned_read, event_clean, runs_more, ReportKeeps, IsFinish, finish_is, failure_is, completion_kind, let_go, seen_after, next_known, failed_read, none_waits, none_after, stands_next, events_next, matches_next}
+use Rattle.safety.proofs.MiddleLaws.{rules, [], ◌≡◌, ◌+◌, ◌<◌, ◌==◌, ◌∷◌, ◌++◌, ◌∙◌, ℕ, Bool, true, false, not, List, Option, Some, None, is_some, arith, refl, sym, ap, subst, lt-ltb, eq-eqb, false≢true, and_from, and_left, or_from, or_left, or_right, cond-true, cond-false, not_from_true, not_from_false, Block, BlockKind, IsBlock, code, kind, pointer, slot, is_transfer_event, is_command_completion, address_of, ceiling, cycle_of_bit, Command, command_of, may_answer_slot, can_succeed, Header, Config, IsHeader, shape_of, command_id, register_or_zero, World, posted, counted, Known, event_read, command_at, next_command, is_in_profile, is_impossible_by_kind, is_impossible_completion, may_be_taken, can_finish, was_stop_seen, DriverKeeps, CommandMatches, UnderWayMatches, Agrees, Runs, all_read, stored, stored_block, ring_shape, command_of-with_cycle, ceiling_given, AtFloor, at_floor, command_is_ring, command_at_is, agrees_counted, with_reads, PostKeeps, post_keeps, learned_read, event_clean, runs_more, ReportKeeps, IsFinish, finish_is, failure_is, completion_kind, let_go, seen_after, next_known, failed_read, none_waits, none_after, stands_next, events_next, matches_next, under_way_named, is_named}
 use Rattle.world_state.specs.Finishes as finishes
 
 pub posted_under_way : (h : Header) (w : World) (b : Block) → (posted h w b).under_way ≡ w.under_way
@@ -36,8 +36,8 @@ module _ (h : Header) (is : IsHeader h) (k : Known) (unread : List Block) (w v :
   p : PostKeeps h k unread w b
   p = post_keeps h is k unread w b block d g f.can
 
-  on : k.started ≡ true
-  on = sym g.stands.started ∙ p.can.started
+  pub on : is_named k ≡ true
+  on = under_way_named h k w f.taken g.matches f.under_way
 
   c : CommandMatches h k w
   c = g.matches.command on

@@ -1,10 +1,10 @@
 -- Behind the completion of a command that had no effect: the command ring's floor moves on, and no command is under way
-use Rattle.safety.proofs.LowerLaws.{◌≡◌, ◌≢◌, ◌+◌, ◌∙◌, ℕ, Bool, true, false, List, option_and_then, slice_get, arith, refl, sym, ap, subst, rules, Block, Spot, number, floor_number, due_is, due_from, command_of, Header, IsHeader, shape_of, command_id, World, Known, command_at, next_command, IsDriverRing, DriverKeeps, Stands, EventsStand, state_of, RingMatches, Matches, command_is_ring, next_is, put_at, put_off, number_after}
+use Rattle.safety.proofs.LowerLaws.{◌≡◌, ◌≢◌, ◌+◌, ◌∙◌, ℕ, Bool, true, false, List, option_and_then, slice_get, arith, refl, sym, ap, subst, rules, Block, Spot, number, floor_number, due_is, due_from, command_of, Header, IsHeader, shape_of, command_id, World, Known, command_at, next_command, IsDriverRing, DriverKeeps, Stands, EventsStand, state_of, RingMatches, Matches, command_is_ring, next_is, put_at, put_off, number_after, false≢true, is_named, not, is_value, BoundRing, FreeRing, inl, inr}
 use Rattle.safety.proofs.FloorMoves.{floor_behind, floor_moves}
 use Rattle.safety.proofs.FinishKinds.{let_go, next_known}
 use Rattle.world_state.specs.World as of_world
 
-module _ (h : Header) (is : IsHeader h) (k : Known) (d : DriverKeeps h k) (on : k.started ≡ true) where
+module _ (h : Header) (is : IsHeader h) (k : Known) (d : DriverKeeps h k) (on : is_named k ≡ true) where
   ring : IsDriverRing h (command_id h)
   ring = command_is_ring h k d on
 
@@ -22,7 +22,18 @@ module _ (h : Header) (is : IsHeader h) (k : Known) (d : DriverKeeps h k) (on : 
     lengths_same q = search (rules, ring, next_known, ring_here, ring_same)
 
     pub stands_next : (u : World) → Stands h k u → Stands h (next_known h k seen n) (let_go u)
-    stands_next u s = search (rules, next_known, let_go, queue_same, lengths_same)
+    stands_next u s = record {
+      started = s.started;
+      stopped = s.stopped;
+      halting = s.halting;
+      halted = s.halted;
+      told = s.told;
+      registers = s.registers;
+      queues = λ q. s.queues q ∙ queue_same q;
+      lengths = λ q. s.lengths q ∙ lengths_same q;
+      dequeue = s.dequeue;
+      quiet = s.quiet;
+    }
 
     pub events_next : (u : World) (unread : List Block) → EventsStand h u unread → EventsStand h (let_go u) unread
     unfolding of_world.event_at
@@ -42,8 +53,12 @@ module _ (h : Header) (is : IsHeader h) (k : Known) (d : DriverKeeps h k) (on : 
       endpoints = y.endpoints;
       ring_of = y.ring_of;
       isochronous = y.isochronous;
-      rings = λ q other. (grind (arith, shape_of, k.ring_of, state_of, ring_same));
-      before = λ off. let b = y.before off in record { inactive = b.inactive; no_events = b.no_events; none = refl };
+      rings = λ q other. elim (y.rings q other) [
+        | inl bound ↦ inl (subst (λ v. BoundRing (shape_of h q) k.ring_of v (state_of u q) q) (sym (ring_same q other)) bound)
+        | inr free ↦ inr (subst (λ v. FreeRing (shape_of h q) k.ring_of v (state_of u q) q) (sym (ring_same q other)) free)
+      ];
+      before = λ off. absurd (false≢true (sym off ∙ on));
+      new = λ unused. y.new (ap (λ v. not (is_value 0 v.held)) (sym ring_here) ∙ unused);
       command = λ started. record {
         spot = t;
         ring = subst (λ v. RingMatches (shape_of h (command_id h)) v (state_of u (command_id h)) t) (sym ring_here)
@@ -53,4 +68,5 @@ module _ (h : Header) (is : IsHeader h) (k : Known) (d : DriverKeeps h k) (on : 
       scribbles = y.scribbles;
       contexts = λ p c f. y.contexts p c (search (rules, next_known, ring, ring_here, due_is, due_from, number_after, next_is, command_kept));
       inside = y.inside;
+      there = y.there;
     }

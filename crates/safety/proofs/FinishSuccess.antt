@@ -1,5 +1,5 @@
 -- The controller finishes the command under way with success: where its changes keep that states agree, the run goes on
-use Rattle.safety.proofs.MiddleLaws.{[], ◌≡◌, ◌+◌, ◌⊎◌, ◌==◌, ◌&&◌, ◌∷◌, ◌++◌, ◌∙◌, ℕ, Bool, true, false, not, List, Option, Some, is_some, unwrap_or, arith, refl, sym, ap, subst, inl, inr, cases_Bool, and_left, or_left, or_right, or_parts, cond-true, not-false, none-some, Block, IsBlock, code, kind, slot, is_transfer_event, is_command_completion, Reaches, floor_number, after, Command, StopEndpoint, EndpointState, command_of, is_stop_of, named_slot, named_endpoint, named_context, can_succeed, slot_success, endpoint_success, slot_meant, endpoint_meant, is_slot_enabled, Header, Read, Config, IsHeader, shape_of, command_id, register_or_zero, World, UnderWay, posted, counted, Known, event_read, learned, command_at, next_command, on_ring, is_in_profile, can_finish, was_stop_seen, DriverKeeps, state_of, UnderWayMatches, Agrees, stored, stored_block, completed, finished, stop_ended, succeeded, ◌≢◌, option_and_then, rules, false≢true, Stands, EventsStand, Matches, next_is, agrees_counted, with_reads, post_keeps, learned_read, event_clean, ReportKeeps, mapped, cond_is, put_at, put_off, IsFinish, completion_kind, let_go, seen_after, next_known, stop_ended_is, reached_is, stopping_of, put_false, none_waits, none_after, stands_next, events_next, matches_next, known_changed, world_changed, LeavesRest, ChangeKeeps, floor_behind}
+use Rattle.safety.proofs.MiddleLaws.{[], ◌≡◌, ◌+◌, ◌⊎◌, ◌==◌, ◌&&◌, ◌∷◌, ◌++◌, ◌∙◌, ℕ, Bool, true, false, not, List, Option, Some, is_some, unwrap_or, arith, refl, sym, ap, subst, inl, inr, cases_Bool, and_left, or_left, or_right, or_parts, cond-true, not-false, none-some, Block, IsBlock, code, kind, slot, is_transfer_event, is_command_completion, Reaches, floor_number, after, Command, StopEndpoint, EndpointState, command_of, is_stop_of, named_slot, named_endpoint, named_context, can_succeed, slot_success, endpoint_success, slot_meant, endpoint_meant, is_slot_enabled, Header, Read, Config, IsHeader, shape_of, command_id, register_or_zero, World, UnderWay, posted, counted, Known, event_read, learned, command_at, next_command, on_ring, is_in_profile, can_finish, was_stop_seen, DriverKeeps, state_of, UnderWayMatches, Agrees, stored, stored_block, completed, finished, stop_ended, succeeded, ◌≢◌, option_and_then, rules, false≢true, Stands, EventsStand, Matches, next_is, agrees_counted, with_reads, post_keeps, learned_read, event_clean, ReportKeeps, mapped, cond_is, put_at, put_off, IsFinish, completion_kind, let_go, seen_after, next_known, stop_ended_is, reached_is, stopping_of, put_false, none_waits, none_after, stands_next, events_next, matches_next, known_changed, world_changed, LeavesRest, ChangeKeeps, floor_behind, under_way_named, is_named}
 use Rattle.std.proofs.Common.{option_map}
 use Rattle.safety.proofs.FinishFails.{no_transfer, posted_under_way, taken_now, can_end, completion_possible, floor, here_is, taken_is, answers_is}
 use Rattle.world_state.specs.Bindings as bindings
@@ -29,7 +29,7 @@ module _ (h : Header) (k m : Known) (w v : World) (c : ChangeKeeps h k m w v) (s
   unfolding of_world.event_at
   events_changed u unread e = record { order = e.order; count = e.count; places = e.places; started = e.started; ring = e.ring }
 
-  pub matches_changed : (u : World) → k.started ≡ true → state_of u (command_id h) ≡ state_of w (command_id h) → Matches h before (let_go u) → Matches h later (let_go (world_changed u v))
+  pub matches_changed : (u : World) → is_named k ≡ true → state_of u (command_id h) ≡ state_of w (command_id h) → Matches h before (let_go u) → Matches h later (let_go (world_changed u v))
   unfolding command_at
   matches_changed u on same y = grind (arith, ring_same, false≢true, next_is, option_and_then)
 
@@ -104,7 +104,7 @@ module _ (h : Header) (is : IsHeader h) (k : Known) (unread : List Block) (w v :
   unfolding posted stored_block stored
   success_keeps keeps =
       let p = post_keeps h is k unread w b block d g f.can in
-      let on : k.started ≡ true = sym g.stands.started ∙ p.can.started in
+      let on : is_named k ≡ true = under_way_named h k w f.taken g.matches f.under_way in
       let here = here_is h is k unread w v b block running d g f e is_e in
       let s = success_is h w v b f.taken e (taken_is h is k unread w v b block running d g f e is_e) one f.ends in
       let c = keeps s.made s.effect_is in
@@ -124,5 +124,5 @@ module _ (h : Header) (is : IsHeader h) (k : Known) (unread : List Block) (w v :
       (matches_changed h k m w s.made c seen n u on (posted_ring h w b (command_id h)) next) p.posted_is p.late in
       let learned_is : learned h k (Read b) ≡ l = learned_read h k b ∙ success_read h k w s.made b e n f.completion here one c.rest in
       let ends : y ≡ v = ap let_go (sym (ap (λ z. posted h z b) c.rest.world ∙ refl)) ∙ s.ends in
-      let may = sym (same_success k w (slot b) (register_or_zero w.register Config) (register_or_zero k.register Config) e g.matches.slots g.matches.endpoints (ap (λ o. unwrap_or o 0) (g.stands.registers Config))) ∙ s.can in
+      let may = sym (same_success k w (slot b) (register_or_zero w.register Config) (register_or_zero k.register Config) e g.matches.slots g.matches.endpoints (ap (λ o. unwrap_or o 0) (g.stands.registers Config (λ e. cc)))) ∙ s.can in
       search (rules, event_clean, or_left, or_right, completion_possible, taken_now, can_finish, can_end, answers_is, and_left, is_transfer_event, kind, is_in_profile, no_transfer, counted, ends)

@@ -1,5 +1,5 @@
 -- A row that breaks no rule keeps what the rules keep of each ring
-use Rattle.safety.proofs.MiddleLaws.{◌≡◌, ◌&&◌, not, true, false, refl, not-false, Block, BlockKind, TransferEvent, CommandCompletion, kind, is_transfer_event, is_command_completion, Header, Row, Sub, Write, Reg, Bell, Read, IsHeader, Known, event_read, learned, is_in_profile, is_impossible_by_kind, command_id, IsRestored, MayCome, RingsKeep, RingsKept, EndpointsKeep, MayFinish, MayRead, event_facts, stands, same_keeps, declared_keeps, written_keeps, register_keeps, rung_keeps, transfer_keeps}
+use Rattle.safety.proofs.MiddleLaws.{◌≡◌, ◌&&◌, not, true, false, refl, not-false, Block, BlockKind, TransferEvent, CommandCompletion, kind, is_transfer_event, is_command_completion, Header, Row, Sub, Write, Reg, Bell, Read, IsHeader, Known, event_read, learned, is_in_profile, is_impossible_by_kind, command_id, IsRestored, MayCome, RingsKeep, RingsKept, EndpointsKeep, MayFinish, MayRead, event_facts, stands, same_keeps, declared_keeps, written_keeps, register_keeps, rung_keeps, transfer_keeps, RegRead, status_keeps}
 use Rattle.safety.proofs.Completions.{completion_keeps}
 
 module _ (h : Header) (is : IsHeader h) where
@@ -20,6 +20,7 @@ module _ (h : Header) (is : IsHeader h) where
   row_kept k (Read b) keeps endpoints commands comes may =
       let facts = event_facts h k b comes.0 in
       same_keeps h k (event_read h k (kind b) b) (learned h k (Read b)) refl refl (event_keeps k b (kind b) keeps endpoints facts.possible facts.inside may)
+  row_kept k (RegRead r x) keeps endpoints commands comes may = status_keeps h k keeps r x
   row_kept k row keeps endpoints commands comes may = stands h k keeps
 
   pub row_keeps : (k : Known) (row : Row) → RingsKeep h k → EndpointsKeep h k → IsRestored (k.ring (command_id h)) → MayCome h k row → MayRead h k row → RingsKeep h (learned h k row)

@@ -1,5 +1,5 @@
 -- No word of a ring is soiled, behind each row
-use Rattle.safety.proofs.MiddleLaws.{[], ◌≡◌, ◌+◌, ◌%◌, ◌==◌, ◌∙◌, ℕ, not, Bool, true, false, Option, None, Some, is_none, option_and_then, sym, ap, leb-true, ltb-true, rules, and_parts, and_left, or_from, or_parts, and_cases, false_from_ne_true, false≢true, none-some, same_Some, Block, kind, is_in, is_inside, Command, AddressDevice, device_context_bytes, Header, Sub, Write, Reg, Bell, Read, shape_of, touches_ring, Known, device_named, no_device, taken_device, command_given, with_device, with_word, written, learned, is_bad_area, some_command, write_tests, lenient_tests, lenient, IsDriverRing, KeptByRows, has_bad_content, is_bad_command, is_bad_device, takes_bad_device, arith, found_in, shape_is, tests_fail, content_good, fails_of, byte_apart, ring_untouched, event_same, declaration_leaves, register_leaves, bell_leaves}
+use Rattle.safety.proofs.MiddleLaws.{[], ◌≡◌, ◌+◌, ◌%◌, ◌==◌, ◌∙◌, ℕ, not, Bool, true, false, Option, None, Some, is_none, option_and_then, sym, ap, leb-true, ltb-true, rules, and_parts, and_left, or_from, or_parts, and_cases, false_from_ne_true, false≢true, none-some, same_Some, Block, kind, is_in, is_inside, Command, AddressDevice, device_context_bytes, Header, Sub, Write, Reg, Bell, Read, shape_of, touches_ring, Known, device_named, no_device, taken_device, command_given, with_device, with_word, written, learned, is_bad_area, some_command, write_tests, lenient_tests, lenient, IsDriverRing, KeptByRows, has_bad_content, is_bad_command, is_bad_device, takes_bad_device, arith, found_in, shape_is, tests_fail, content_good, fails_of, byte_apart, ring_untouched, event_same, declaration_leaves, register_leaves, bell_leaves, RegRead, status_leaves}
 
 -- the slot and the address of a device context that comes under lease
 pub record TakesDevice (k : Known) (s d : ℕ) (c : Command) : Type 0 where
@@ -71,4 +71,5 @@ module _ (h : Header) where
   kept_clean is k (Reg q x) d clean on r a ring word inside = ap (λ f. f a) (register_leaves h k q x).memory.soiled ∙ d.clean r a ring word inside
   kept_clean is k (Bell s t) d clean on r a ring word inside = ap (λ f. f a) (bell_leaves h k s t).memory.soiled ∙ d.clean r a ring word inside
   kept_clean is k (Read b) d clean on r a ring word inside = ap (λ f. f a) (read_soiled k b) ∙ d.clean r a ring word inside
+  kept_clean is k (RegRead q x) d clean on r a ring word inside = ap (λ f. f a) (status_leaves h k q x).memory.soiled ∙ d.clean r a ring word inside
   kept_clean is k row d clean on r a ring word inside = d.clean r a ring word inside

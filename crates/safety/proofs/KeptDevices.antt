@@ -1,5 +1,5 @@
 -- What is kept of device contexts under lease is kept by each row
-use Rattle.safety.proofs.MiddleLaws.{◌≡◌, ◌∙◌, ℕ, true, false, Some, sym, ap, subst, inl, inr, cases_Bool, or_parts, false≢true, none-some, Block, BlockKind, TransferEvent, CommandCompletion, kind, Header, Register, Dcbaap, Erstba, Sub, Write, Reg, Bell, Read, IsHeader, with_register, Known, event_read, learned, completed, is_impossible_by_kind, is_bad_register, DriverKeeps, DevicesKeep, KeptByRows, rules, arith, learned_read, with_reads, EventFacts, event_facts, register_facts, registered, SameDriver, completion_same, transfer_slots, devices_same, SameRegisters, SameMemory, declaration_leaves, register_leaves, bell_leaves}
+use Rattle.safety.proofs.MiddleLaws.{◌≡◌, ◌∙◌, ℕ, true, false, Some, sym, ap, subst, inl, inr, cases_Bool, or_parts, false≢true, none-some, Block, BlockKind, TransferEvent, CommandCompletion, kind, Header, Register, Dcbaap, Erstba, Sub, Write, Reg, Bell, Read, IsHeader, with_register, Known, event_read, learned, completed, is_impossible_by_kind, is_bad_register, DriverKeeps, DevicesKeep, KeptByRows, rules, arith, learned_read, with_reads, EventFacts, event_facts, register_facts, registered, SameDriver, completion_same, transfer_slots, devices_same, SameRegisters, SameMemory, declaration_leaves, register_leaves, bell_leaves, RegRead, status_leaves, refl, Option, not, ◌&&◌, is_value, is_restored, eqb-true}
 use Rattle.safety.proofs.SameDriver.{transfer_same}
 use Rattle.safety.proofs.CommandsCompleted.{completion_devices}
 use Rattle.safety.proofs.DevicesWritten.{written_devices}
@@ -7,10 +7,19 @@ use Rattle.safety.proofs.DevicesWritten.{written_devices}
 module _ (h : Header) where
   -- ---- registers: once a device context is taken the base addresses stand
 
+  -- a value that is restored is the one that stands
+  value_stands : (o : Option ℕ) (x : ℕ) → is_value x o ≡ true → Some x ≡ o
+  value_stands o x is = grind (arith, eqb-true)
+
+  restored_value : (k : Known) (r : Register) (x : ℕ) → k.started ≡ true → (k.started && not (is_restored k r x)) ≡ false → is_value x (k.register r) ≡ true
+  restored_value k r x on good = grind (arith, false≢true)
+
   base_stands : (k : Known) (r : Register) (x : ℕ) → k.started ≡ true → is_bad_register h k r x ≡ false →
       (with_register k.register r x Dcbaap ≡ k.register Dcbaap) × (with_register k.register r x Erstba ≡ k.register Erstba)
   unfolding is_bad_register
-  base_stands k o x on good = grind (arith, false≢true, or_parts, k.started)
+  base_stands k Dcbaap x on good = (value_stands (k.register Dcbaap) x (restored_value k Dcbaap x on good), refl)
+  base_stands k Erstba x on good = (refl, value_stands (k.register Erstba) x (grind (arith, is_value)))
+  base_stands k o x on good = (refl, refl)
 
   register_devices : (k : Known) (r : Register) (x : ℕ) → DriverKeeps h k → is_bad_register h k r x ≡ false → DevicesKeep h (learned h k (Reg r x))
   register_devices k r x d good s c at =
@@ -57,4 +66,14 @@ module _ (h : Header) where
       let facts : EventFacts h k b = event_facts h k b clean in
       subst (DevicesKeep h) (sym (learned_read h k b))
       (reads_devices (event_read h k (kind b) b) _ (kind_devices is k b (kind b) d facts.started facts.possible))
+  kept_devices is k (RegRead r x) d clean on =
+      let leaves = status_leaves h k r x in
+      devices_same h k (learned h k (RegRead r x))
+      (record {
+        memory = leaves.memory.memory;
+        soiled = leaves.memory.soiled;
+        dcbaap = ap (λ f. f Dcbaap) leaves.register;
+        erstba = ap (λ f. f Erstba) leaves.register;
+        fewer = λ t c at. ap (λ f. f t) (sym leaves.memory.device) ∙ at;
+      }) d.devices
   kept_devices is k row d clean on = d.devices

@@ -1,5 +1,5 @@
 -- Which registers were written, and with what, is kept by each row
-use Rattle.safety.proofs.Words.{◌≡◌, ◌&&◌, ◌⊎◌, ◌∙◌, ℕ, not, true, false, Option, Some, is_some, is_none, refl, sym, ap, rules, cond_both, cond-true, cond-false, or_parts, and_cases, not_from_false, false≢true, RingKind, Header, Register, Usbcmd, Crcr, Erstsz, Reg, is_command_kind, is_driver_kind, with_register, same_register, run_bit, reset_bit, Known, run_or_stop, valued, register_written, learned, is_unwritten, is_early_start, is_bad_register, arith}
+use Rattle.safety.proofs.Words.{◌≡◌, ◌&&◌, ◌⊎◌, ◌∙◌, ℕ, not, true, false, Option, Some, is_some, is_none, refl, sym, ap, rules, cond_both, cond-true, cond-false, or_parts, and_cases, not_from_false, false≢true, RingKind, Header, Register, Usbcmd, Crcr, Erstsz, Reg, is_command_kind, is_driver_kind, with_register, same_register, run_bit, reset_bit, Known, run_or_stop, valued, register_written, learned, is_unwritten, is_early_start, is_bad_command_register, is_bad_register, arith, runs_again, runs_once, is_named}
 
 pub command_drives : (kind : RingKind) → is_command_kind kind ≡ true → is_driver_kind kind ≡ true
 command_drives o is = grind (arith, false≢true)
@@ -13,7 +13,7 @@ some_is o e = grind (arith, false≢true)
 module _ (h : Header) where
   -- the last value of each register
   pub registered : (k : Known) (r : Register) (v : ℕ) → (learned h k (Reg r v)).register ≡ with_register k.register r v
-  unfolding learned register_written valued run_or_stop
+  unfolding learned register_written valued run_or_stop runs_once runs_again
   registered k r v = grind arith
 
   -- a write of USBCMD may start the controller
@@ -23,14 +23,14 @@ module _ (h : Header) where
     pub runs : (run_bit v && not (reset_bit v)) ≡ true
 
   pub register_starts : (k : Known) (r : Register) (v : ℕ) → (learned h k (Reg r v)).started ≡ true → (k.started ≡ true) ⊎ Starts k r v
-  unfolding learned register_written valued run_or_stop
+  unfolding learned register_written valued run_or_stop runs_once runs_again
   register_starts k r v on = grind (arith, cond-true, not_from_false, cond-false, valued)
 
   -- the start isn't early
   all_written : (k : Known) (v : ℕ) → is_bad_register h k Usbcmd v ≡ false → k.started ≡ false → (run_bit v && not (reset_bit v)) ≡ true →
-      (is_some (k.register Crcr) ≡ true) × (is_some (k.register Erstsz) ≡ true)
-  unfolding is_bad_register is_early_start is_unwritten
-  all_written k v good before runs = search (rules, is_some, and_cases, false≢true, not_from_false, or_parts, is_none, some_is)
+      (is_named k ≡ true) × (is_some (k.register Erstsz) ≡ true)
+  unfolding is_bad_register is_bad_command_register is_early_start is_unwritten
+  all_written k v good before runs = grind (arith, some_is)
 
-  pub starts_written : (k : Known) (r : Register) (v : ℕ) → is_bad_register h k r v ≡ false → Starts k r v → (is_some (k.register Crcr) ≡ true) × (is_some (k.register Erstsz) ≡ true)
+  pub starts_written : (k : Known) (r : Register) (v : ℕ) → is_bad_register h k r v ≡ false → Starts k r v → (is_named k ≡ true) × (is_some (k.register Erstsz) ≡ true)
   starts_written k r v good s = all_written k v (ap (λ q. is_bad_register h k q v) (sym s.register) ∙ good) s.before s.runs

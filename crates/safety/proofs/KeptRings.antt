@@ -1,5 +1,5 @@
 -- What the rules keep of each ring is kept by each row: of a command that succeeds holds still what was tested when it was given
-use Rattle.safety.proofs.MiddleLaws.{[], ◌≡◌, ◌<◌, ◌∙◌, ℕ, true, false, Some, arith, sym, ap, ltb-true, rules, or_parts, not-false, Block, kind, is_command_completion, ceiling, RingKeeps, Command, Header, Row, Read, IsHeader, shape_of, command_id, Known, command_at, next_command, may_be_taken, can_finish, is_impossible_completion, is_impossible_by_kind, lenient, IsDriverRing, IsUnfinished, CommandKeeps, DriverKeeps, KeptByRestoring, StillReads, StillHolds, RingsKeep, ring_shape, content_good, are_free, ceiling_given, AtFloor, at_floor, command_is_ring, completion_kind, still_reads, driver_test, rings_of, endpoints_of, EventFacts, event_facts}
+use Rattle.safety.proofs.MiddleLaws.{[], ◌≡◌, ◌<◌, ◌∙◌, ℕ, true, false, Some, arith, sym, ap, ltb-true, rules, or_parts, not-false, Block, kind, is_command_completion, ceiling, RingKeeps, Command, Header, Row, Read, IsHeader, shape_of, command_id, Known, command_at, next_command, may_be_taken, can_finish, is_impossible_completion, is_impossible_by_kind, lenient, IsDriverRing, IsUnfinished, CommandKeeps, DriverKeeps, KeptByRestoring, StillReads, StillHolds, RingsKeep, ring_shape, content_good, are_free, ceiling_given, AtFloor, at_floor, command_is_ring, completion_kind, still_reads, driver_test, rings_of, endpoints_of, EventFacts, event_facts, named_if_taken}
 use Rattle.safety.proofs.Histories.{row_keeps}
 
 -- what an event that finishes a command says
@@ -20,7 +20,7 @@ module _ (h : Header) where
     -- the next command is given and unfinished
     pub next_at_floor : k.started ≡ true → next_command h k < ceiling (shape_of h (command_id h)) (k.ring (command_id h)) → AtFloor h k
     next_at_floor started below =
-        let ring : IsDriverRing h (command_id h) = command_is_ring h k d started in
+        let ring : IsDriverRing h (command_id h) = command_is_ring h k d (named_if_taken h k d started below) in
         let low = ceiling_given (shape_of h (command_id h)) (ring_shape h is (command_id h) ring).is k.memory (k.ring (command_id h)) (d.rings (command_id h) ring) in
         at_floor h is k d ring (omega arith)
 

@@ -2,8 +2,10 @@ pub mod WorkedSchedules
 pub mod AllRead
 pub mod Follows
 pub mod RowsLearn
+pub mod CommandRings
 pub mod RingRows
 pub mod LazySteps
+pub mod HaltStep
 pub mod Induction
 pub mod LooksRun
 pub mod NeedsOfHeld
@@ -15,6 +17,7 @@ pub mod CompletionStep
 pub mod ChangesGo
 pub mod Completions
 pub mod Progress
+pub mod Farthest
 pub mod GivenCounted
 pub mod EventGoals
 pub mod StepsCounted

@@ -1,5 +1,5 @@
 -- One ring about which more is known, and which has changed in the world: all else that is said of both stays
-use Rattle.safety.proofs.Words.{◌≡◌, ◌≢◌, ◌+◌, ◌∙◌, ℕ, Option, Some, None, option_and_then, slice_get, sym, ap, subst, inl, inr, rules, cases_eq, none-some, Spot, address_of, RingView, floor_number, Command, command_of, named_context, Header, shape_of, command_id, World, UnderWay, Known, command_at, next_command, was_stop_seen, DriverKeeps, IsUnfinished, Stands, RingState, state_of, RingMatches, BoundRing, EndpointRing, UnderWayMatches, Matches, arith}
+use Rattle.safety.proofs.Words.{◌≡◌, ◌≢◌, ◌+◌, ◌∙◌, ℕ, Option, Some, None, option_and_then, slice_get, sym, ap, subst, inl, inr, rules, cases_eq, none-some, Spot, address_of, RingView, floor_number, Command, command_of, named_context, Header, shape_of, command_id, World, UnderWay, Known, command_at, next_command, was_stop_seen, DriverKeeps, IsUnfinished, Stands, RingState, state_of, RingMatches, BoundRing, EndpointRing, UnderWayMatches, Matches, arith, Rests, is_value, not, is_named, Crcr, is_some, Register, next_take}
 use Rattle.safety.proofs.OnlyRing.{OnlyRing, unchanged_only}
 
 pub record LearnsRing (k m : Known) (r : ℕ) (x : RingView) : Type 0 where
@@ -9,6 +9,7 @@ pub record LearnsRing (k m : Known) (r : ℕ) (x : RingView) : Type 0 where
   pub lengths : x.lengths ≡ (k.ring r).lengths
   pub started : m.started ≡ k.started
   pub stopped : m.stopped ≡ k.stopped
+  pub halt : m.halt ≡ k.halt
   pub register : m.register ≡ k.register
   pub memory : m.memory ≡ k.memory
   pub soiled : m.soiled ≡ k.soiled
@@ -58,6 +59,7 @@ module _ (h : Header) (k m : Known) (r : ℕ) (x : RingView) (l : LearnsRing k m
     pub matches_learns : DriverKeeps h k → Matches h k u → r ≢ command_id h → BoundRing (shape_of h r) k.ring_of x s r →
         v.under_way ≡ u.under_way → v.scribbles ≡ u.scribbles → v.looked_outside ≡ u.looked_outside → Matches h m v
     matches_learns d y other bound under scribbles inside =
+        let crcr : is_named m ≡ is_named k = ap (λ (f : Register → Option ℕ). is_some (f Crcr)) l.register in
         let command_ring : m.ring (command_id h) ≡ k.ring (command_id h) = l.others (command_id h) (λ e. other (sym e)) in
         record {
           slots = λ q. ap (λ f. f q) o.slot_state ∙ y.slots q ∙ ap (λ f. f q) (sym l.slot_state);
@@ -71,8 +73,12 @@ module _ (h : Header) (k m : Known) (r : ℕ) (x : RingView) (l : LearnsRing k m
                 (subst (λ z. BoundRing (shape_of h r) k.ring_of x z r) (sym o.here) bound))))
             | inr apart ↦ other_ring q apart (y.rings q not_command)
           ];
-          before = λ off. absurd (none-some r (sym ((d.unstarted (sym l.started ∙ off)).rings bound.slot bound.index) ∙ bound.bound));
-          command = λ on. let c = y.command (sym l.started ∙ on) in record {
+          before = λ off. let b = y.before (sym crcr ∙ off) in record {
+            rests = subst (λ z. Rests (shape_of h (command_id h)) z) (sym (o.others (command_id h) (λ e. other (sym e)))) b.rests;
+            none = under ∙ b.none;
+          };
+          new = λ unused. ap (λ z. next_take (shape_of h (command_id h)) z.events) (o.others (command_id h) (λ e. other (sym e))) ∙ y.new (ap (λ z. not (is_value 0 z.held)) (sym command_ring) ∙ unused);
+          command = λ on. let c = y.command (sym crcr ∙ on) in record {
             spot = c.spot;
             ring = subst (λ z. RingMatches (shape_of h (command_id h)) z (state_of v (command_id h)) c.spot) (sym command_ring)
                 (subst (λ z. RingMatches (shape_of h (command_id h)) (k.ring (command_id h)) z c.spot) (sym (o.others (command_id h) (λ e. other (sym e)))) c.ring);
@@ -81,4 +87,5 @@ module _ (h : Header) (k m : Known) (r : ℕ) (x : RingView) (l : LearnsRing k m
           scribbles = λ q may none. y.scribbles q (ap (λ f. f q) (sym scribbles) ∙ may) (ap (λ f. f q) (sym l.device) ∙ none);
           contexts = λ p c a. unchanged_only h k u v r s o (address_of (shape_of h (command_id h)) p) (named_context c) (y.contexts p c (unfinished_same h k m command_ring l.stop_seen p c a));
           inside = inside ∙ y.inside;
+          there = o.there ∙ y.there;
         }

@@ -17,6 +17,7 @@ pub mod SameCommand
 pub mod AtSpots
 pub mod Descriptors
 pub mod NoWait
+pub mod Nobodys
 pub mod RingMemory
 pub mod SafeContext
 pub mod Safe
@@ -78,6 +79,12 @@ pub mod RowFrames
 pub mod CleanRows
 pub mod KeptRegisters
 pub mod KeptCommandRing
+pub mod KeptRun
+pub mod OneCommandRing
+pub mod RunOrStop
+pub mod NamesRing
+pub mod PlainRows
+pub mod IdleCommands
 pub mod ErdpMoves
 pub mod KeptCounts
 pub mod KeptClean
@@ -182,6 +189,11 @@ pub mod DeviceBehind
 pub mod Squares
 pub mod Lenient
 pub mod StepRuns
+pub mod GivenUp
+pub mod LostEvents
+pub mod ResetKeeps
+pub mod Phases
+pub mod Resets
 pub mod CommandGood
 pub mod Words
 pub mod RingsKept

@@ -1,5 +1,5 @@
 -- Behind a look the run goes on
-use Rattle.safety.proofs.LowerLaws.{◌≡◌, ◌≢◌, ◌∙◌, ℕ, List, Some, sym, ap, inl, inr, cases_Bool, cases_eq, false≢true, Block, Header, IsHeader, command_id, World, looked, counted, Known, DriverKeeps, Agrees, Runs, all_read, ◌==◌, ◌&&◌, ◌||◌, ◌⊎◌, Bool, true, false, not, Option, None, is_some, slice_get, arith, refl, subst, eq-eqb, eqb-true, rules, cond-true, and_cases, or_cases, same_Some, Spot, Data, Link, is_inside, cycle_of_bit, Command, AddressDevice, command_of, shape_of, UnderWay, seen_by_look, crossed, taken_on, command_begun, may_scribble, next_command, was_stop_seen, IsDriverRing, IsUnfinished, RingState, state_of, RingMatches, CommandMatches, UnderWayMatches, TakenCommand, add-zero, ne_eqb, cond-false, or_from, not_from_true, after, spot_address, DeclaredBlock, declared_at, next_take, Unreported, BoundRing, Matches, looked_is, seen, LookEnds, only_seen, only_crossed, only_taken, only_begun, behind_link, behind_block, command_of-with_cycle, AtFloor, at_floor, command_is_ring, command_at_is, OnlyRing, matches_command, stands_only, events_only, late_only, read_only, matches_transfer, transfer_driver, ring_shape, spot_lies, agrees_counted, number_after, crossed_unreported, taken_unreported}
+use Rattle.safety.proofs.LowerLaws.{◌≡◌, ◌≢◌, ◌∙◌, ℕ, List, Some, sym, ap, inl, inr, cases_Bool, cases_eq, false≢true, Block, Header, IsHeader, command_id, World, looked, counted, Known, DriverKeeps, Agrees, Runs, all_read, ◌==◌, ◌&&◌, ◌||◌, ◌⊎◌, Bool, true, false, not, Option, None, is_some, slice_get, arith, refl, subst, eq-eqb, eqb-true, rules, cond-true, and_cases, or_cases, same_Some, Spot, Data, Link, is_inside, cycle_of_bit, Command, AddressDevice, command_of, shape_of, UnderWay, seen_by_look, crossed, taken_on, command_begun, may_scribble, next_command, was_stop_seen, IsDriverRing, IsUnfinished, RingState, state_of, RingMatches, CommandMatches, UnderWayMatches, TakenCommand, add-zero, ne_eqb, cond-false, or_from, not_from_true, after, spot_address, DeclaredBlock, declared_at, next_take, Unreported, BoundRing, Matches, looked_is, seen, LookEnds, only_seen, only_crossed, only_taken, only_begun, behind_link, behind_block, command_of-with_cycle, AtFloor, at_floor, command_is_ring, command_at_is, OnlyRing, matches_command, stands_only, events_only, late_only, read_only, matches_transfer, transfer_driver, ring_shape, spot_lies, agrees_counted, number_after, crossed_unreported, taken_unreported, is_named, is_used, is_value}
 use Rattle.world_state.specs.Looks.{taken}
 use Rattle.safety.proofs.LookSpots.{CrossDone, cross_done, TakeDone, take_done}
 
@@ -135,10 +135,13 @@ only_begins : (h : Header) (w : World) → OnlyRing w (begun h w) (command_id h)
 unfolding begun
 only_begins h w = search (rules, only_begun, only_taken)
 
+open_used : (h : Header) (k : Known) → is_used h k ≡ false → (k.ring (command_id h)).held ≡ None → ⊥
+open_used h k unused none = false≢true (sym unused ∙ ap (λ o. not (is_value 0 o)) none)
+
 no_one : (o : Option UnderWay) (c : ℕ) → (c == c && is_some o) ≡ false → o ≡ None
 no_one o c free = grind (arith, is_some, and_cases, false≢true, eq-eqb)
 
-module _ (h : Header) (is : IsHeader h) (k : Known) (unread : List Block) (w : World) (d : DriverKeeps h k) (g : Agrees h k unread w) (on : k.started ≡ true) where
+module _ (h : Header) (is : IsHeader h) (k : Known) (unread : List Block) (w : World) (d : DriverKeeps h k) (g : Agrees h k unread w) (on : is_named k ≡ true) (active : w.is_active (command_id h) ≡ true) where
   ring : IsDriverRing h (command_id h)
   ring = command_is_ring h k d on
 
@@ -153,6 +156,7 @@ module _ (h : Header) (is : IsHeader h) (k : Known) (unread : List Block) (w : W
       agrees_only h is k unread w d g (command_id h) v s o
       (matches_command h k w v (command_id h) s o g.matches refl on
       (record { spot = t; ring = subst (λ x. RingMatches (shape_of h (command_id h)) (k.ring (command_id h)) x t) (sym o.here) m; under_way = u })
+      (λ unused. absurd (open_used h k unused (c.ring.opened active)))
       scribbles (outside ∙ (inside_still h is k unread w d g (command_id h) ring c.spot c.ring)))
 
   command_waits : Agrees h k unread (counted h (seen_by_look h w (command_id h)))
@@ -197,18 +201,18 @@ module _ (h : Header) (is : IsHeader h) (k : Known) (unread : List Block) (w : W
     unfolding begun command_begun
     command_takes = search (rules, command_now, only_begins, number_after, here, taken_command, may_still, begun_outside)
 
-  pub command_looks : (v : World) → w.is_active (command_id h) ≡ true → LookEnds h w v (command_id h) → Agrees h k unread (counted h v)
-  command_looks v active (inl waits) = search (rules, command_waits, command_crosses, cross_done, ring, c, begun_is, command_takes, take_done, no_one)
-  command_looks v active (inr (inl link)) = search (rules, command_waits, command_crosses, cross_done, ring, c, begun_is, command_takes, take_done, no_one)
-  command_looks v active (inr (inr block)) = search (rules, command_waits, command_crosses, cross_done, ring, c, begun_is, command_takes, take_done, no_one)
+  pub command_looks : (v : World) → LookEnds h w v (command_id h) → Agrees h k unread (counted h v)
+  command_looks v (inl waits) = search (rules, command_waits, command_crosses, cross_done, ring, c, begun_is, command_takes, take_done, no_one)
+  command_looks v (inr (inl link)) = search (rules, command_waits, command_crosses, cross_done, ring, c, begun_is, command_takes, take_done, no_one)
+  command_looks v (inr (inr block)) = search (rules, command_waits, command_crosses, cross_done, ring, c, begun_is, command_takes, take_done, no_one)
 
 module _ (h : Header) (is : IsHeader h) (k : Known) (unread : List Block) (w : World) (d : DriverKeeps h k) (g : Agrees h k unread w) where
   command_agrees : (v : World) → looked h h w (command_id h) ≡ Some v → Agrees h k unread (counted h v)
   command_agrees v at =
       let l = looked_is h w v (command_id h) at in
-      elim (cases_Bool k.started) [
-        | inl on ↦ command_looks h is k unread w d g on v l.0 l.1
-        | inr off ↦ absurd (false≢true (sym (g.matches.before off).inactive ∙ l.0))
+      elim (cases_Bool (is_named k)) [
+        | inl on ↦ command_looks h is k unread w d g on l.0 v l.1
+        | inr off ↦ absurd (false≢true (sym (g.matches.before off).rests.inactive ∙ l.0))
       ]
 
   transfer_agrees : (v : World) (r : ℕ) → r ≢ command_id h → looked h h w r ≡ Some v → Agrees h k unread (counted h v)

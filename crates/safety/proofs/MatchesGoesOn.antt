@@ -1,5 +1,5 @@
 -- Where more is known of rings whose pointers stay, and the controller did nothing, what it did is still what is known of it
-use Rattle.safety.proofs.LowerLaws.{◌≡◌, ◌≢◌, ◌∙◌, ℕ, None, Some, refl, sym, ap, subst, arith, address_of, number, Command, named_context, Header, shape_of, command_id, World, UnderWay, Known, IsUnfinished, state_of, RingMatches, UnderWayMatches, CommandMatches, IsUnchanged, Matches, ◌+◌, Option, option_and_then, slice_get, rules, Spot, command_of, command_at, next_command, was_stop_seen, TakenCommand, RingGoesOn, bound_on, matches_on}
+use Rattle.safety.proofs.LowerLaws.{◌≡◌, ◌≢◌, ◌∙◌, ℕ, None, Some, refl, sym, ap, subst, arith, address_of, number, Command, named_context, Header, shape_of, command_id, World, UnderWay, Known, IsUnfinished, state_of, RingMatches, UnderWayMatches, CommandMatches, IsUnchanged, Matches, ◌+◌, Option, option_and_then, slice_get, rules, Spot, command_of, command_at, next_command, was_stop_seen, TakenCommand, RingGoesOn, bound_on, matches_on, is_used, Rests, false, is_named, next_take}
 
 -- Where the command ring's pointer stays and its next command is the same, so is what is said of the command under way
 module _ (h : Header) (k m : Known) (floor : (m.ring (command_id h)).floor ≡ (k.ring (command_id h)).floor) (stop_seen : m.stop_seen ≡ k.stop_seen) where
@@ -25,7 +25,8 @@ module _ (h : Header) (k m : Known) (floor : (m.ring (command_id h)).floor ≡ (
 
 -- the states of endpoints and slots are the same, and each ring goes on
 pub record KnownGoesOn (h : Header) (k m : Known) : Type 0 where
-  pub started : m.started ≡ k.started
+  pub named : is_named m ≡ is_named k
+  pub unused : is_used h m ≡ false → is_used h k ≡ false
   pub slot_state : m.slot_state ≡ k.slot_state
   pub endpoint_state : m.endpoint_state ≡ k.endpoint_state
   pub ring_of : m.ring_of ≡ k.ring_of
@@ -44,10 +45,11 @@ pub record SameController (w v : World) : Type 0 where
   pub scribbles : v.scribbles ≡ w.scribbles
   pub under_way : v.under_way ≡ w.under_way
   pub inside : v.looked_outside ≡ w.looked_outside
+  pub there : v.posted_nowhere ≡ w.posted_nowhere
   pub states : (r : ℕ) → state_of v r ≡ state_of w r
 
 pub same_controller : (w : World) → SameController w w
-same_controller w = record { slot_state = refl; endpoint_state = refl; ring_of = refl; isochronous = refl; scribbles = refl; under_way = refl; inside = refl; states = λ r. refl }
+same_controller w = record { slot_state = refl; endpoint_state = refl; ring_of = refl; isochronous = refl; scribbles = refl; under_way = refl; inside = refl; there = refl; states = λ r. refl }
 
 module _ (h : Header) (k m : Known) (w v : World) (g : KnownGoesOn h k m) (c : SameController w v) where
   command_matches : ((u : UnderWay) → w.under_way ≡ Some u → NextStays h k m (g.rings (command_id h)).floor g.stop_seen) → CommandMatches h k w → CommandMatches h m v
@@ -67,9 +69,14 @@ module _ (h : Header) (k m : Known) (w v : World) (g : KnownGoesOn h k m) (c : S
     ring_of = λ s i. ap (λ f. f s i) c.ring_of ∙ y.ring_of s i ∙ ap (λ f. f s i) (sym g.ring_of);
     isochronous = λ s i. ap (λ f. f s i) c.isochronous ∙ y.isochronous s i ∙ ap (λ f. f s i) (sym g.isochronous);
     rings = λ r other. grind (arith, shape_of, state_of, bound_on, number);
-    before = λ off. (grind (arith, y.before, c.states, g.started));
-    command = λ on. command_matches next (y.command (sym g.started ∙ on));
+    before = λ off. let b = y.before (sym g.named ∙ off) in record {
+      rests = subst (Rests (shape_of h (command_id h))) (sym (c.states (command_id h))) b.rests;
+      none = c.under_way ∙ b.none;
+    };
+    new = λ unused. ap (λ s. next_take (shape_of h (command_id h)) s.events) (c.states (command_id h)) ∙ y.new (g.unused unused);
+    command = λ on. command_matches next (y.command (sym g.named ∙ on));
     scribbles = λ s may. g.device s (y.scribbles s (ap (λ f. f s) (sym c.scribbles) ∙ may));
     contexts = contexts;
     inside = c.inside ∙ y.inside;
+    there = c.there ∙ y.there;
   }

@@ -1,5 +1,5 @@
 -- No access of memory or registers makes anything free, and none restores anything
-use Rattle.safety.proofs.Words.{◌≡◌, ◌∙◌, ℕ, List, refl, sym, ap, Block, Declares, Opens, Header, Row, command_id, Known, on_ring, with_device, with_word, written, run_or_stop, valued, register_written, endpoint_rung, rung, learned, kind, arith}
+use Rattle.safety.proofs.Words.{register_read, status_read, ◌≡◌, ◌∙◌, ℕ, List, refl, sym, ap, Block, Declares, Opens, Header, Row, command_id, Known, on_ring, with_device, with_word, written, run_or_stop, valued, register_written, endpoint_rung, rung, learned, kind, arith, runs_again, runs_once}
 use Rattle.safety.proofs.SameDriver.{view_after, on_ring_same, event_same}
 
 abbrev pub SameFree : Known → Known → Type 0
@@ -18,5 +18,5 @@ module _ (h : Header) where
 
   -- what is free stays so, and nothing more is
   pub free_same : (k : Known) (row : Row) → SameFree k (learned h k row)
-  unfolding learned register_written valued run_or_stop rung endpoint_rung
+  unfolding learned register_written valued run_or_stop runs_once runs_again register_read status_read rung endpoint_rung
   free_same k o = grind (arith, declared_free, written_free, valued, on_ring, command_id, endpoint_rung, opened_free, event_same, kind)

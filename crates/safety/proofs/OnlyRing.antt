@@ -1,5 +1,5 @@
 -- A world in which one ring alone has changed: all else that is said of it stays
-use Rattle.safety.proofs.Words.{◌≡◌, ◌≢◌, ◌+◌, ◌*◌, ◌∙◌, ℕ, true, false, List, length, Option, Some, None, arith, sym, ap, subst, inl, inr, rules, false≢true, none-some, Block, block_at, address_of, named_context, Header, shape_of, command_id, event_shape, World, Known, DriverKeeps, Stands, EventsStand, RingState, state_of, BoundRing, FreeRing, EndpointRing, CommandMatches, IsUnchanged, Matches}
+use Rattle.safety.proofs.Words.{◌≡◌, ◌≢◌, ◌+◌, ◌*◌, ◌∙◌, ℕ, true, false, List, length, Option, Some, None, arith, sym, ap, subst, inl, inr, rules, false≢true, none-some, Block, block_at, address_of, named_context, Header, shape_of, command_id, event_shape, World, Known, DriverKeeps, Stands, EventsStand, RingState, state_of, BoundRing, FreeRing, EndpointRing, CommandMatches, IsUnchanged, Matches, is_named, is_used, Rests, RingMatches, UnderWayMatches, cases_eq, next_take}
 use Rattle.world_state.specs.World.{event_at}
 use Rattle.safety.proofs.Stored.{Late}
 
@@ -9,6 +9,9 @@ pub record OnlyRing (w v : World) (r : ℕ) (s : RingState) : Type 0 where
   pub steps : v.steps ≡ w.steps
   pub started : v.started ≡ w.started
   pub stopped : v.stopped ≡ w.stopped
+  pub halting : v.halting ≡ w.halting
+  pub halted : v.halted ≡ w.halted
+  pub there : v.posted_nowhere ≡ w.posted_nowhere
   pub register : v.register ≡ w.register
   pub memory : v.memory ≡ w.memory
   pub changed : v.changed ≡ w.changed
@@ -48,9 +51,45 @@ module _ (h : Header) (k : Known) (w v : World) (r : ℕ) (s : RingState) (o : O
   -- where an endpoint's ring has changed
   pub matches_transfer : DriverKeeps h k → Matches h k w → r ≢ command_id h → BoundRing (shape_of h r) k.ring_of (k.ring r) s r →
       v.under_way ≡ w.under_way → v.scribbles ≡ w.scribbles → v.looked_outside ≡ false → Matches h k v
-  matches_transfer d m other bound under scribbles inside = search (rules, shape_of, other_ring, none-some, command_id, unchanged_only, address_of, named_context)
+  matches_transfer d m other bound under scribbles inside =
+      let command = o.others (command_id h) (λ e. other (sym e)) in
+      record {
+        slots = λ q. ap (λ f. f q) o.slot_state ∙ m.slots q;
+        endpoints = λ q i. ap (λ f. f q i) o.endpoint_state ∙ m.endpoints q i;
+        ring_of = λ q i. ap (λ f. f q i) o.ring_of ∙ m.ring_of q i;
+        isochronous = λ q i. ap (λ f. f q i) o.isochronous ∙ m.isochronous q i;
+        rings = λ q not_command. elim (cases_eq q r) [
+          | inl same ↦ subst (EndpointRing h k v) (sym same) (inl (subst (λ z. BoundRing (shape_of h r) k.ring_of (k.ring r) z r) (sym o.here) bound))
+          | inr apart ↦ other_ring q apart (m.rings q not_command)
+        ];
+        before = λ off. let b = m.before off in record { rests = subst (Rests (shape_of h (command_id h))) (sym command) b.rests; none = under ∙ b.none };
+        command = λ on. let c = m.command on in record {
+          spot = c.spot;
+          ring = subst (λ z. RingMatches (shape_of h (command_id h)) (k.ring (command_id h)) z c.spot) (sym command) c.ring;
+          under_way = subst (UnderWayMatches h k c.spot) (sym under) c.under_way;
+        };
+        new = λ unused. ap (λ z. next_take (shape_of h (command_id h)) z.events) command ∙ m.new unused;
+        scribbles = λ q may. m.scribbles q (ap (λ f. f q) (sym scribbles) ∙ may);
+        contexts = λ p c u. unchanged_only (address_of (shape_of h (command_id h)) p) (named_context c) (m.contexts p c u);
+        inside = inside;
+        there = o.there ∙ m.there;
+      }
 
   -- where the command ring has
-  pub matches_command : Matches h k w → r ≡ command_id h → k.started ≡ true → CommandMatches h k v →
+  pub matches_command : Matches h k w → r ≡ command_id h → is_named k ≡ true → CommandMatches h k v → (is_used h k ≡ false → next_take (shape_of h (command_id h)) (v.events (command_id h)) ≡ 0) →
       ((q : ℕ) → v.scribbles q ≡ true → k.device q ≢ None) → v.looked_outside ≡ false → Matches h k v
-  matches_command m command on new scribbles inside = search (rules, other_ring, false≢true, unchanged_only)
+  matches_command m command on now new scribbles inside =
+      record {
+        slots = λ q. ap (λ f. f q) o.slot_state ∙ m.slots q;
+        endpoints = λ q i. ap (λ f. f q i) o.endpoint_state ∙ m.endpoints q i;
+        ring_of = λ q i. ap (λ f. f q i) o.ring_of ∙ m.ring_of q i;
+        isochronous = λ q i. ap (λ f. f q i) o.isochronous ∙ m.isochronous q i;
+        rings = λ q not_command. other_ring q (λ e. not_command (e ∙ command)) (m.rings q not_command);
+        before = λ off. absurd (false≢true (sym off ∙ on));
+        command = λ _. now;
+        new = new;
+        scribbles = scribbles;
+        contexts = λ p c u. unchanged_only (address_of (shape_of h (command_id h)) p) (named_context c) (m.contexts p c u);
+        inside = inside;
+        there = o.there ∙ m.there;
+      }

@@ -20,7 +20,7 @@ module _ (h : Header) where
       let s = g.stands in
       let e = g.events in
       agrees_counted h k rest (one_read w)
-      (record { started = s.started; stopped = s.stopped; registers = s.registers; queues = s.queues; lengths = s.lengths; dequeue = s.dequeue; quiet = s.quiet })
+      (record { started = s.started; stopped = s.stopped; halting = s.halting; halted = s.halted; told = s.told; registers = s.registers; queues = s.queues; lengths = s.lengths; dequeue = s.dequeue; quiet = s.quiet })
       (record {
         order = record { dequeued = omega (arith, e.order.dequeued); read = omega (arith, unread); room = e.order.room };
         count = omega (arith, e.count);

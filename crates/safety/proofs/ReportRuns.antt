@@ -1,5 +1,5 @@
 -- Whatever the controller reports of a take, the run goes on
-use Rattle.safety.proofs.MiddleLaws.{event_read, is_set, word, not_from_false, not_from_true, or_from, or_left, or_right, and_right, transfer_read, event_at, transferred_at, transfer_kind, can_report_at, is_impossible_transfer, is_off, on_is, is_impossible_by_kind, IsOfService, told_same, is_code_of_profile, is_of_service, ◌⊎◌, code_told, [], ◌≡◌, ◌∙◌, false, List, Some, sym, inl, inr, cases_Bool, cond-false, none-some, Block, IsBlock, code, endpoint, pointer, slot, is_success, is_halting, is_trb_error, is_stopping, Header, IsHeader, World, posted, report_code, reported, counted, DriverKeeps, Agrees, Runs, all_read, Known, ◌≢◌, ◌+◌, ◌-◌, ◌<◌, ◌==◌, ◌&&◌, ◌||◌, ◌∷◌, ◌++◌, ℕ, Bool, true, not, length, Option, arith, refl, ap, subst, eq-eqb, lt-ltb, false≢true, and_from, cond-true, put_pair, kind, is_transfer_event, is_command_completion, is_other_event, Spot, Data, Shape, RingView, Reaches, Holds, floor_number, ceiling, given_count, is_stop_spot, named, stopped_number, cycle_of_bit, rank_least, command_of, is_stop_of, is_running, shape_of, command_id, UnderWay, is_stop_under_way, with_stopped, report_stop, command_at, next_command, on_ring, is_in_profile, RingState, state_of, BoundRing, RingMatches, Unreported, UnderWayMatches, CommandMatches, ◌≤◌, nat_lt, nat_le, drop, eqb-true, le-leb, rules, and_parts, not-false, same_Some, Link, number, is_way_given, Command, unreported, is_last, with_reported, stopped_with, was_stop_seen, Stands, EventsStand, TakenCommand, Matches, map, min, length-drop, drop-drop, range_with_len, address_of, rank, IsShape, declared, RingKeeps, rank_most, named_spot-near, given_count_declared, given_count_near, takes_of, IsReport, ReportKeeps, report_is, runs_more, success_keeps, where_bound, spot_named, in_profile_is, transfer_driver, transfer_not_command, ring_shape, command_of-with_cycle, ceiling_given, at_floor, command_is_ring, command_at_is, agrees_counted, with_reads, PostKeeps, post_keeps, learned_read, event_clean, stands_only, events_only, next_same, stands_learns, matches_learns, LearnsRing, open_takes, low, count, drop_range, last_is, last_take, cond_is, put_at, put_off, held_from}
+use Rattle.safety.proofs.MiddleLaws.{event_read, is_set, word, not_from_false, not_from_true, or_from, or_left, or_right, and_right, transfer_read, event_at, transferred_at, transfer_kind, can_report_at, is_impossible_transfer, is_off, on_is, is_impossible_by_kind, IsOfService, told_same, is_code_of_profile, is_of_service, ◌⊎◌, code_told, [], ◌≡◌, ◌∙◌, false, List, Some, sym, inl, inr, cases_Bool, cond-false, none-some, Block, IsBlock, code, endpoint, pointer, slot, is_success, is_halting, is_trb_error, is_stopping, Header, IsHeader, World, posted, report_code, reported, counted, DriverKeeps, Agrees, Runs, all_read, Known, ◌≢◌, ◌+◌, ◌-◌, ◌<◌, ◌==◌, ◌&&◌, ◌||◌, ◌∷◌, ◌++◌, ℕ, Bool, true, not, length, Option, arith, refl, ap, subst, eq-eqb, lt-ltb, false≢true, and_from, cond-true, put_pair, kind, is_transfer_event, is_command_completion, is_other_event, Spot, Data, Shape, RingView, Reaches, Holds, floor_number, ceiling, given_count, is_stop_spot, named, stopped_number, cycle_of_bit, rank_least, command_of, is_stop_of, is_running, shape_of, command_id, UnderWay, is_stop_under_way, with_stopped, report_stop, command_at, next_command, on_ring, is_in_profile, RingState, state_of, BoundRing, RingMatches, Unreported, UnderWayMatches, CommandMatches, ◌≤◌, nat_lt, nat_le, drop, eqb-true, le-leb, rules, and_parts, not-false, same_Some, Link, number, is_way_given, Command, unreported, is_last, with_reported, stopped_with, was_stop_seen, Stands, EventsStand, TakenCommand, Matches, map, min, length-drop, drop-drop, range_with_len, address_of, rank, IsShape, declared, RingKeeps, rank_most, named_spot-near, given_count_declared, given_count_near, takes_of, IsReport, ReportKeeps, report_is, runs_more, success_keeps, where_bound, spot_named, in_profile_is, transfer_driver, transfer_not_command, ring_shape, command_of-with_cycle, ceiling_given, at_floor, command_is_ring, command_at_is, agrees_counted, with_reads, PostKeeps, post_keeps, learned_read, event_clean, stands_only, events_only, next_same, stands_learns, matches_learns, LearnsRing, open_takes, low, count, drop_range, last_is, last_take, cond_is, put_at, put_off, held_from, is_named, under_way_named, is_some, Crcr, Register}
 use Rattle.safety.proofs.Other.{silent_agrees}
 use Rattle.safety.proofs.ReportError.{halted_keeps, erred_keeps, ended_ring, only_ended, works}
 use Rattle.safety.proofs.StopRead.{StopCode, stop_transfer_code, stop_read, stop_possible}
@@ -122,13 +122,13 @@ module _ (h : Header) (k : Known) (seen : ℕ → ℕ → Bool) (s i : ℕ) (may
   next_seen = refl
 
   pub stands_seen : (w : World) (o : Option UnderWay) → Stands h k w → Stands h with_seen (let v : World = record w { under_way = o } in v)
-  stands_seen w o s = record { started = s.started; stopped = s.stopped; registers = s.registers; queues = s.queues; lengths = s.lengths; dequeue = s.dequeue; quiet = s.quiet }
+  stands_seen w o s = record { started = s.started; stopped = s.stopped; halting = s.halting; halted = s.halted; told = s.told; registers = s.registers; queues = s.queues; lengths = s.lengths; dequeue = s.dequeue; quiet = s.quiet }
 
   pub events_seen : (w : World) (o : Option UnderWay) (unread : List Block) → EventsStand h w unread → EventsStand h (let v : World = record w { under_way = o } in v) unread
   unfolding of_world.event_at
   events_seen w o unread v = record { order = v.order; count = v.count; places = v.places; started = v.started; ring = v.ring }
 
-  pub matches_seen : (w : World) (o : Option UnderWay) → Matches h k w → ((t : Spot) → UnderWayMatches h k t w.under_way → UnderWayMatches h with_seen t o) → k.started ≡ true →
+  pub matches_seen : (w : World) (o : Option UnderWay) → Matches h k w → ((t : Spot) → UnderWayMatches h k t w.under_way → UnderWayMatches h with_seen t o) → is_named k ≡ true →
       Matches h with_seen (let v : World = record w { under_way = o } in v)
   unfolding command_at
   matches_seen w o m under on = search (rules, with_seen, false≢true)
@@ -219,13 +219,10 @@ module _ (h : Header) (is : IsHeader h) (k : Known) (unread : List Block) (w v :
             }
       ]
 
-  on : k.started ≡ true
-  on = sym g.stands.started ∙ p.can.started
-
   -- the Stop Endpoint under way is the next command
-  stop_next : (c : CommandMatches h k w) (y : UnderWay) → w.under_way ≡ Some y → is_stop_of (slot b) (endpoint b) (command_of y.block) ≡ true →
+  stop_next : is_named k ≡ true → (c : CommandMatches h k w) (y : UnderWay) → w.under_way ≡ Some y → is_stop_of (slot b) (endpoint b) (command_of y.block) ≡ true →
       (next_command h k < ceiling (shape_of h (command_id h)) (k.ring (command_id h))) × (is_stop_of (slot b) (endpoint b) (command_at h k (next_command h k)) ≡ true)
-  stop_next c y at stop =
+  stop_next on c y at stop =
       let under : UnderWayMatches h k c.spot (Some y) = subst (λ o. UnderWayMatches h k c.spot o) at c.under_way in
       let ring = command_is_ring h k d on in
       let high = ceiling_given (shape_of h (command_id h)) (ring_shape h is (command_id h) ring).is k.memory (k.ring (command_id h)) (d.rings (command_id h) ring) in
@@ -250,7 +247,8 @@ module _ (h : Header) (is : IsHeader h) (k : Known) (unread : List Block) (w v :
       let m : Known = with_reads (on_ring h (on_ring h k r (Holds n)) r (Reaches q.spot)) (k.reads + 1) in
       let seen : ℕ → ℕ → Bool = put_pair k.stop_seen (slot b) (endpoint b) true in
       let y = under_way_is h (slot b) (endpoint b) u.under_way f.under in
-      let stop = stop_next (g.matches.command on) y.0 (sym (posted_under_way h w b) ∙ y.1) y.2 in
+      let on = under_way_named h k w y.0 g.matches (sym (posted_under_way h w b) ∙ y.1) in
+      let stop = stop_next on (g.matches.command on) y.0 (sym (posted_under_way h w b) ∙ y.1) y.2 in
       let same_commands = learns.others (command_id h) (λ e. other (sym e)) in
       let may : seen (slot b) (endpoint b) ≡ true = put_pair_here k.stop_seen (slot b) (endpoint b) in
       let first : command_at h m (next_command h m) ≡ command_at h k (next_command h k) =
@@ -264,7 +262,7 @@ module _ (h : Header) (is : IsHeader h) (k : Known) (unread : List Block) (w v :
       subst (λ o. UnderWayMatches h (with_seen h m seen (slot b) (endpoint b) may) t o) (sym (ap (λ o. with_stopped h o) y.1 ∙ with_stopped_some h y.0)) (
         known_under.0 ∙ ap (λ n. n + 1) (sym (next_seen h m seen (slot b) (endpoint b) may)),
         taken_stopped h m seen (slot b) (endpoint b) may y.0 known_under.1 (λ c is_c. ap (λ o. is_stop_of (slot b) (endpoint b) o) (sym is_c ∙ first) ∙ stop.1),
-      )) (learns.started ∙ on))
+      )) (ap (λ (f : Register → Option ℕ). is_some (f Crcr)) learns.register ∙ on))
       p.posted_is p.late in
       let open_ring = bound.matches.opened f.active in
       let runs : is_running (k.endpoint_state (slot b) (endpoint b)) ≡ true = ap is_running (sym (p.matches.endpoints (slot b) (endpoint b))) ∙ f.runs in

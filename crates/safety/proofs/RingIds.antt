@@ -1,5 +1,6 @@
 -- No two rings of a header have one ID, so each is found by its own
-use Rattle.safety.proofs.Words.{[], ◌≡◌, ◌==◌, ◌&&◌, ◌∷◌, ◌∙◌, ℕ, not, Bool, true, false, List, nat_lt, Option, Some, None, find, refl, sym, ap, subst, inl, inr, eq-eqb, eqb-true, ltb-true, rules, list_any, list_all, cases_Bool, cond-true, cond-false, false≢true, and_parts, or_parts, not-true, none-some, same_Some, RingKind, is_inside, is_shape, Header, Ring, IsHeader, clash, may_stand_together, is_command_kind, is_transfer_kind, ring_with, id_of, id_or_none, command_ring, command_id, ring_having, is_driver_ring, is_transfer_ring, arith}
+use Rattle.traces.specs.Header.{event_id}
+use Rattle.safety.proofs.Words.{[], ◌≡◌, ◌==◌, ◌&&◌, ◌∷◌, ◌∙◌, ℕ, not, Bool, true, false, List, nat_lt, Option, Some, None, find, refl, sym, ap, subst, inl, inr, eq-eqb, eqb-true, ltb-true, rules, list_any, list_all, cases_Bool, cond-true, cond-false, false≢true, and_parts, or_parts, not-true, none-some, same_Some, RingKind, is_inside, is_shape, Header, Ring, IsHeader, clash, may_stand_together, is_command_kind, is_transfer_kind, ring_with, id_of, id_or_none, command_ring, command_id, ring_having, is_driver_ring, is_transfer_ring, arith, is_event_kind, event_ring}
 use Rattle.safety.specs.RingsKeep.{IsDriverRing}
 use Rattle.safety.specs.EndpointsKeep.{IsTransferRing}
 use Rattle.safety.proofs.RingsOfHeader.{found_passes, found_allowed}
@@ -66,6 +67,20 @@ module _ (h : Header) (is : IsHeader h) where
   pub command_not_transfer : IsTransferRing h (command_id h) → ⊥
   unfolding command_id command_ring
   command_not_transfer transfer = not_transfer (find (λ q. is_command_kind q.shape.kind) h.rings) refl transfer
+
+  no_two_kinds : (kind : RingKind) → is_event_kind kind ≡ true → is_transfer_kind kind ≡ true → ⊥
+  no_two_kinds o e t = grind (arith, false≢true)
+
+  event_not_transfer : (o : Option Ring) → find (λ q. is_event_kind q.shape.kind) h.rings ≡ o → IsTransferRing h (id_or_none o) → ⊥
+  event_not_transfer None found transfer = (grind (arith, false≢true, none_has_256))
+  event_not_transfer (Some q) found transfer =
+      no_two_kinds q.shape.kind (found_passes (λ q. is_event_kind q.shape.kind) h.rings q found)
+      (sym (ap is_transfer_ring (found_again (λ q. is_event_kind q.shape.kind) h.rings q together found)) ∙ transfer)
+
+  -- the event ring is no transfer ring
+  pub event_no_transfer : IsTransferRing h (event_id h) → ⊥
+  unfolding event_id event_ring
+  event_no_transfer transfer = event_not_transfer (find (λ q. is_event_kind q.shape.kind) h.rings) refl transfer
 
 pub transfer_driver : (h : Header) (r : ℕ) → IsTransferRing h r → IsDriverRing h r
 unfolding is_driver_ring

@@ -1,6 +1,7 @@
 -- A driver's row beneath the events that aren't read yet: they stay possible, and what is known when they are read differs from what
 -- the row adds to it at the end in the numbers at which rings are held, if at all
-use Rattle.safety.proofs.MiddleLaws.{[], ◌≡◌, ◌+◌, ◌≤◌, ◌∷◌, ◌∙◌, ℕ, false, List, length, Some, arith, refl, sym, ap, subst, inl, inr, same_Some, Block, kind, erdp_address, is_reached_within, Header, Row, Sub, Write, Reg, Bell, Read, Register, Erdp, IsHeader, event_shape, IsRow, World, stored, counted, Known, learned, may_pass, is_bad_erdp, lenient, DriverKeeps, KeptByRestoring, MayCome, IsDriverRow, Agrees, ArePossible, Runs, all_read, HeldMore, is_idle, Square, SquareLaw, MoreLaw, ◌≢◌, ◌<◌, ◌++◌, true, Option, option_and_then, slice_get, cases_Bool, none-some, put, address_of, RingView, Declares, changed, declared, is_due, slice_get-append, ceiling_within, given_count_declared, Command, command_of, named_context, shape_of, command_id, UnderWay, on_ring, command_at, next_command, IsDriverRing, IsUnfinished, EventsStand, UnderWayMatches, IsUnchanged, Matches, rules, clean_tests, register_facts, event_same, view_after, held_more_same, held_more_twice, weaker, erdp_says, ring_shape, due_has_ring, put_at, put_off, command_is_ring, Late, agrees_counted, RingGoesOn, goes_same, declares_goes_on, KnownGoesOn, SameController, matches_go_on, register_agrees}
+use Rattle.safety.proofs.PlainRows.{plain_done, status_agrees}
+use Rattle.safety.proofs.MiddleLaws.{[], ◌≡◌, ◌+◌, ◌≤◌, ◌∷◌, ◌∙◌, ℕ, false, List, length, Some, arith, refl, sym, ap, subst, inl, inr, same_Some, Block, kind, erdp_address, is_reached_within, Header, Row, Sub, Write, Reg, Bell, Read, Register, Erdp, IsHeader, event_shape, IsRow, World, stored, counted, Known, learned, may_pass, is_bad_erdp, lenient, DriverKeeps, KeptByRestoring, MayCome, IsDriverRow, Agrees, ArePossible, Runs, all_read, HeldMore, is_idle, Square, SquareLaw, MoreLaw, ◌≢◌, ◌<◌, ◌++◌, true, Option, option_and_then, slice_get, cases_Bool, none-some, put, address_of, RingView, Declares, changed, declared, is_due, slice_get-append, ceiling_within, given_count_declared, Command, command_of, named_context, shape_of, command_id, UnderWay, on_ring, command_at, next_command, IsDriverRing, IsUnfinished, EventsStand, UnderWayMatches, IsUnchanged, Matches, rules, clean_tests, register_facts, event_same, view_after, held_more_same, held_more_twice, weaker, erdp_says, ring_shape, due_has_ring, put_at, put_off, command_is_ring, Late, agrees_counted, RingGoesOn, goes_same, declares_goes_on, KnownGoesOn, SameController, matches_go_on, register_agrees, is_named, not, is_value, RegRead, resets_by, resets, Usbcmd, is_done, reset_bit, learned_read, ◌&&◌}
 use Rattle.safety.proofs.KeptCounts.{passable, read_counts}
 use Rattle.safety.proofs.RowRings.{rings_agree}
 use Rattle.safety.proofs.RowRegisters.{MayMove}
@@ -13,7 +14,7 @@ use Rattle.world_state.specs.World as of_world
 -- a command under way is declared
 pub under_way_declared : (h : Header) → IsHeader h → (k : Known) (w : World) → DriverKeeps h k → Matches h k w → (u : UnderWay) → w.under_way ≡ Some u → next_command h k < declared (k.ring (command_id h))
 under_way_declared h is k w d m u at =
-    elim (cases_Bool k.started) [
+    elim (cases_Bool (is_named k)) [
       | inl on ↦
           let c = m.command on in
           let ring : IsDriverRing h (command_id h) = command_is_ring h k d on in
@@ -43,7 +44,8 @@ module _ (h : Header) (is : IsHeader h) (k : Known) (unread : List Block) (w : W
   goes_on : KnownGoesOn h k m
   unfolding m on_ring
   goes_on = record {
-    started = refl;
+    named = refl;
+    unused = λ unused. after (λ n x. not (is_value 0 x.held) ≡ false → not (is_value 0 (k.ring n).held) ≡ false) (command_id h) (λ u. u) (λ other u. u) unused;
     slot_state = refl;
     endpoint_state = refl;
     ring_of = refl;
@@ -56,7 +58,7 @@ module _ (h : Header) (is : IsHeader h) (k : Known) (unread : List Block) (w : W
 
   controller : SameController w v
   unfolding v driver.declared
-  controller = record { slot_state = refl; endpoint_state = refl; ring_of = refl; isochronous = refl; scribbles = refl; under_way = refl; inside = refl; states = λ q. refl }
+  controller = record { slot_state = refl; endpoint_state = refl; ring_of = refl; isochronous = refl; scribbles = refl; under_way = refl; inside = refl; there = refl; states = λ q. refl }
 
   queue_stays : (q p : ℕ) → p < declared (k.ring q) → slice_get (m.ring q).queue p ≡ slice_get (k.ring q).queue p
   queue_stays q p = after (λ n x. p < declared (k.ring n) → slice_get x.queue p ≡ slice_get (k.ring n).queue p) q (λ low. slice_get-append (k.ring r).queue blocks p low) (λ other low. refl)
@@ -132,7 +134,7 @@ module _ (h : Header) where
   may_move k w _ x reads dequeue low good = tt
 
   row_agrees : IsHeader h → (now k : Known) (unread : List Block) (w v : World) (d : Row) → IsDriverRow d → DriverKeeps h k → Agrees h k unread w → w.reads ≡ now.reads → w.dequeue ≡ now.dequeue →
-      lenient h now d ≡ [] → MayCome h k d → (learned h k d).stopped ≡ false → driver.row_done h w d ≡ Some v → Agrees h (learned h k d) unread (counted h v)
+      lenient h now d ≡ [] → MayCome h k d → (learned h k d).stopped ≡ false → plain_done h w d ≡ Some v → Agrees h (learned h k d) unread (counted h v)
   unfolding driver.row_done
   row_agrees is now k unread w v (Sub r blocks) driver_row keeps g reads dequeue before clean on at =
       subst (λ u. Agrees h (learned h k (Sub r blocks)) unread (counted h u)) (same_Some (driver.declared h w r blocks) v at) (declares_agree h is k unread w r blocks keeps g clean.0)
@@ -140,12 +142,23 @@ module _ (h : Header) where
       subst (λ u. Agrees h (learned h k (Write a x)) unread (counted h u)) (same_Some (stored w a x) v at) (writes_agree h is k unread w a x keeps g clean.0)
   row_agrees is now k unread w v (Reg r x) driver_row keeps g reads dequeue before clean on at =
       subst (λ u. Agrees h (learned h k (Reg r x)) unread (counted h u)) (same_Some (driver.register_row h w r x) v at)
-      (register_agrees h is k unread w keeps g r x (may_move now w r x reads dequeue g.events.order.dequeued (register_facts h now r x before).erdp) clean.0 (clean_tests h k (Reg r x) clean.0).0 on)
+      (register_agrees h is k unread w keeps g r x (may_move now w r x reads dequeue g.events.order.dequeued (register_facts h now r x before).erdp) clean.0 on)
   row_agrees is now k unread w v (Bell s t) driver_row keeps g reads dequeue before clean on at =
       subst (λ u. Agrees h (learned h k (Bell s t)) unread (counted h u)) (same_Some (driver.bell_row h w s t) v at) (rings_agree h is k unread w keeps g s t clean.0)
+  row_agrees is now k unread w v (RegRead r x) driver_row keeps g reads dequeue before clean on at = status_agrees h k unread w keeps g r x v at
   row_agrees is now k unread w v _ driver_row keeps g reads dequeue before clean on at = absurd driver_row
 
   -- ---- along the unread events
+
+  -- an event changes no phase
+  reset_same : (k l : Known) (r : Register) (x : ℕ) → l.halt ≡ k.halt → resets k r x ≡ false → resets l r x ≡ false
+  unfolding resets
+  reset_same k l Usbcmd x same stays = ap (λ a. is_done a && reset_bit x) same ∙ stays
+  reset_same k l r x same stays = refl
+
+  still_stays : (k : Known) (e : Block) (d : Row) → resets_by k d ≡ false → resets_by (learned h k (Read e)) d ≡ false
+  still_stays k e (Reg r x) stays = reset_same k (learned h k (Read e)) r x (ap (λ m. m.halt) (learned_read h k e) ∙ (event_same h k (kind e) e).halt) stays
+  still_stays k e d stays = refl
 
   -- what is known, and what is known with the row d somewhere beneath
   record Beside (d : Row) (k m : Known) : Type 0 where
@@ -154,12 +167,13 @@ module _ (h : Header) where
     pub possible : MayCome h k d
     pub awake : is_idle h k d ≡ false
     pub on : (learned h k d).stopped ≡ false
+    pub stays : resets_by k d ≡ false
     pub held : HeldMore (learned h k d) m
 
   module _ (is : IsHeader h) (square : SquareLaw h) (more : MoreLaw h) (kept : KeptByRestoring h (DriverKeeps h)) (d : Row) (is_row : IsRow d) (driver_row : IsDriverRow d) where
     one_on : (k m : Known) (e : Block) → lenient h k (Read e) ≡ [] → Beside d k m → (lenient h m (Read e) ≡ []) × Beside d (learned h k (Read e)) (learned h m (Read e))
     one_on k m e event b =
-        let s : Square h k d e = square k d e is is_row driver_row b.keeps b.possible event b.awake b.on in
+        let s : Square h k d e = square k d e is is_row driver_row b.keeps b.possible event b.awake b.on b.stays in
         let both = more (learned h k d) m e (kept is k d b.keeps b.possible b.on) b.keeps_beneath b.held s.event in (
           both.0,
           record {
@@ -168,6 +182,7 @@ module _ (h : Header) where
             possible = s.row;
             awake = s.awake;
             on = ap (λ x. x.stopped) s.after.rest ∙ read_on (learned h k d) e ∙ b.on;
+            stays = still_stays k e d b.stays;
             held = held_more_twice (learned h (learned h k (Read e)) d) (learned h (learned h k d) (Read e)) (learned h m (Read e)) s.after both.1;
           },
         )
@@ -180,15 +195,16 @@ module _ (h : Header) where
         ((one.0, later.0), later.1)
 
     -- the run goes on behind a row that isn't idle
-    pub awake_runs : (now : Known) (w v : World) → DriverKeeps h now → (run : Runs h now w) → MayCome h now d → is_idle h now d ≡ false → (learned h now d).stopped ≡ false →
-        driver.row_done h w d ≡ Some v → Runs h (learned h now d) (counted h v)
-    awake_runs now w v keeps run possible awake on at =
+    pub awake_runs : (now : Known) (w v : World) → DriverKeeps h now → (run : Runs h now w) → MayCome h now d → is_idle h now d ≡ false → (learned h now d).stopped ≡ false → resets_by now d ≡ false →
+        plain_done h w d ≡ Some v → Runs h (learned h now d) (counted h v)
+    awake_runs now w v keeps run possible awake on stays at =
         let first : Beside d now (learned h now d) = record {
           keeps = keeps;
           keeps_beneath = kept is now d keeps possible on;
           possible = possible;
           awake = awake;
           on = on;
+          stays = stays;
           held = held_more_same (learned h now d);
         } in
         let b = all_on run.unread now (learned h now d) run.possible first in

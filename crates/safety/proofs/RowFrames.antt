@@ -1,5 +1,6 @@
 -- What each row of the driver leaves as it is
-use Rattle.safety.proofs.Words.{◌≡◌, ℕ, List, refl, rules, Block, RingView, Writes, changed, Header, Register, Sub, Write, Reg, Bell, shape_of, command_id, Known, on_ring, with_device, with_word, written, run_or_stop, valued, register_written, endpoint_rung, rung, learned, arith}
+use Rattle.safety.proofs.RunOrStop.{runs_leave}
+use Rattle.safety.proofs.Words.{is_asked, is_done, ◌≡◌, ◌⊎◌, ℕ, true, and_left, List, RegRead, register_read, status_read, refl, rules, Block, RingView, Writes, changed, Header, Register, Sub, Write, Reg, Bell, shape_of, command_id, Known, on_ring, with_device, with_word, written, run_or_stop, valued, register_written, endpoint_rung, rung, learned, arith, runs_again, runs_once, Usbcmd, Erdp}
 use Rattle.safety.proofs.SameDriver.{view_after}
 
 -- how far a controller may be on a ring
@@ -13,6 +14,7 @@ same_pointer v = record { floor = refl; held = refl }
 pub record SameRegisters (k l : Known) : Type 0 where
   pub started : l.started ≡ k.started
   pub stopped : l.stopped ≡ k.stopped
+  pub halt : l.halt ≡ k.halt
   pub register : l.register ≡ k.register
   pub reads : l.reads ≡ k.reads
   pub dequeue : l.dequeue ≡ k.dequeue
@@ -50,6 +52,22 @@ pub record RegisterLeaves (k l : Known) : Type 0 where
   pub endpoint_state : l.endpoint_state ≡ k.endpoint_state
   pub ring : l.ring ≡ k.ring
 
+-- a register that is read tells at most that the controller has halted
+pub record StatusLeaves (k l : Known) : Type 0 where
+  pub started : l.started ≡ k.started
+  pub stopped : l.stopped ≡ k.stopped
+  pub halting : is_asked l.halt ≡ is_asked k.halt
+  pub halted : is_done k.halt ≡ true → is_done l.halt ≡ true
+  pub told : is_done l.halt ≡ true → is_asked k.halt ≡ true
+  pub register : l.register ≡ k.register
+  pub reads : l.reads ≡ k.reads
+  pub dequeue : l.dequeue ≡ k.dequeue
+  pub memory : SameMemory k l
+  pub slots : SameSlots k l
+  pub endpoint_state : l.endpoint_state ≡ k.endpoint_state
+  pub must_move : l.must_move ≡ k.must_move
+  pub ring : l.ring ≡ k.ring
+
 pub record BellLeaves (k l : Known) : Type 0 where
   pub registers : SameRegisters k l
   pub memory : SameMemory k l
@@ -70,9 +88,15 @@ module _ (h : Header) where
   written_view k a w r = grind arith
 
   pub register_leaves : (k : Known) (r : Register) (x : ℕ) → RegisterLeaves k (learned h k (Reg r x))
-  unfolding learned register_written valued run_or_stop
-  register_leaves k r x = grind arith
+  unfolding learned register_written valued
+  register_leaves k Usbcmd x = let same = runs_leave h (valued k Usbcmd x) x in (search rules)
+  register_leaves k Erdp x = search rules
+  register_leaves k r x = search rules
 
   pub bell_leaves : (k : Known) (s t : ℕ) → BellLeaves k (learned h k (Bell s t))
   unfolding learned rung on_ring endpoint_rung
   bell_leaves k s t = search (rules, on_ring, command_id, endpoint_rung, k.ring_of)
+
+  pub status_leaves : (k : Known) (r : Register) (x : ℕ) → StatusLeaves k (learned h k (RegRead r x))
+  unfolding learned register_read status_read
+  status_leaves k o x = grind (arith, and_left)

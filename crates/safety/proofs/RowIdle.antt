@@ -1,5 +1,5 @@
 -- The doorbell of a ring that is open: nothing is learned, and where all events are read the world agrees with what is known as before
-use Rattle.safety.proofs.MiddleLaws.{[], ◌≡◌, ◌==◌, ◌||◌, ◌∙◌, ℕ, not, nat_lt, true, false, List, Option, None, Some, refl, sym, ap, subst, inl, inr, rules, cond-true, cond-false, or_parts, not-false, false≢true, put_pair, Block, Opens, is_open, EndpointState, Running, Halted, Error, is_running, is_stopped, Header, Bell, IsHeader, command_id, World, counted, Known, learned, on_ring, endpoint_rung, rung, is_bad_bell, is_touched, lenient, DriverKeeps, Agrees, is_open_if, is_idle, MayRing, activated, bell_row, endpoint_bell, arith, bell_facts, agrees_once_counted, put_at, put_off, open_held}
+use Rattle.safety.proofs.MiddleLaws.{[], ◌≡◌, ◌==◌, ◌||◌, ◌∙◌, ℕ, not, nat_lt, true, false, List, Option, None, Some, refl, sym, ap, subst, inl, inr, rules, cond-true, cond-false, or_parts, not-false, false≢true, put_pair, Block, Opens, is_open, EndpointState, Running, Halted, Error, is_running, is_stopped, Header, Bell, IsHeader, command_id, World, counted, Known, learned, on_ring, endpoint_rung, rung, is_bad_bell, is_touched, lenient, DriverKeeps, Agrees, is_open_if, is_idle, MayRing, activated, bell_row, endpoint_bell, arith, bell_facts, agrees_once_counted, put_at, put_off, open_held, is_named}
 use Rattle.safety.proofs.RowRings.{endpoint_agrees, command_agrees}
 
 pub opens_same : (h : Header) (k : Known) (r : ℕ) → (k.ring r).held ≡ None → on_ring h k r Opens ≡ k
@@ -71,6 +71,6 @@ module _ (h : Header) (is : IsHeader h) (k : Known) (unread : List Block) (w : W
         | inr down ↦ rests s t (k.ring_of s t) (elim down [ inl halted ↦ halted_rests (k.endpoint_state s t) halted | inr failed ↦ failed_rests (k.endpoint_state s t) failed ])
       ])
 
-  pub command_rung : is_open (k.ring (command_id h)) ≡ true → k.started ≡ true → Agrees h k unread (counted h (activated h w (command_id h)))
+  pub command_rung : is_open (k.ring (command_id h)) ≡ true → is_named k ≡ true → Agrees h k unread (counted h (activated h w (command_id h)))
   command_rung opened on =
       subst (λ m. Agrees h m unread (counted h (activated h w (command_id h)))) (opens_same h k (command_id h) (open_held (k.ring (command_id h)) opened)) (command_agrees h is k unread w d g on)

@@ -1,5 +1,5 @@
 -- A write of a register where all events are read: what is known agrees with the world
-use Rattle.safety.proofs.LowerLaws.{◌≡◌, ◌+◌, ◌≤◌, if◌then◌else◌, ℕ, nat_lt, true, false, List, Some, slice_get, arith, ap, ltb-true, rules, list_any, range_with_len, some_of, and_parts, cond-true, cond-false, Block, Shape, Header, Register, command_id, event_shape, with_register, same_register, address_of, place_count, position_from, is_reached_within, is_event_place, World, counted, Known, Matches, Agrees, command_at, next_command, valued, no_place_stays, place_of, position_within, agrees_counted}
+use Rattle.safety.proofs.LowerLaws.{◌≡◌, ◌+◌, ◌≤◌, if◌then◌else◌, ℕ, nat_lt, true, false, List, Some, slice_get, arith, ap, ltb-true, rules, list_any, range_with_len, some_of, and_parts, cond-true, cond-false, Block, Shape, Header, Register, command_id, event_shape, with_register, same_register, address_of, place_count, position_from, is_reached_within, is_event_place, World, counted, Known, Matches, Agrees, command_at, next_command, valued, no_place_stays, place_of, position_within, agrees_counted, is_named, is_used, is_value, not, sym, ◌∙◌, ◌≢◌, Crcr, is_some}
 use Rattle.safety.proofs.DriverGoesOn.{goes_same}
 use Rattle.safety.proofs.MatchesGoesOn.{SameController, matches_go_on}
 use Rattle.world_state.specs.World as of_world
@@ -11,7 +11,7 @@ agrees_once_counted h k unread w g = agrees_counted h k unread w g.stands g.even
 -- the same rings are known
 pub record SameRings (k m : Known) : Type 0 where
   pub rings : m.ring ≡ k.ring
-  pub started : m.started ≡ k.started
+  pub crcr : is_named m ≡ is_named k
   pub slot_state : m.slot_state ≡ k.slot_state
   pub endpoint_state : m.endpoint_state ≡ k.endpoint_state
   pub ring_of : m.ring_of ≡ k.ring_of
@@ -21,21 +21,28 @@ pub record SameRings (k m : Known) : Type 0 where
   pub device : m.device ≡ k.device
 
 module _ (h : Header) (k m : Known) (w v : World) (s : SameRings k m) (c : SameController w v) where
+  same_used : is_used h m ≡ false → is_used h k ≡ false
+  same_used unused = ap (λ f. not (is_value 0 (f (command_id h)).held)) (sym s.rings) ∙ unused
+
   pub same_matches : v.changed ≡ w.changed → v.written ≡ w.written → Matches h k w → Matches h m v
   unfolding command_at
   same_matches changed written y =
-      matches_go_on h k m w v (search (rules, goes_same)) c
+      matches_go_on h k m w v (search (rules, goes_same, same_used)) c
       (λ u at. ap (λ f. slice_get (f (command_id h)).queue (next_command h k)) s.rings)
       (λ p d u. grind arith) y
 
 module _ (h : Header) (k : Known) (unread : List Block) (w : World) (g : Agrees h k unread w) where
   -- a value that changes nothing else
-  with_same : (r q : Register) (x : ℕ) → with_register w.register r x q ≡ with_register k.register r x q
-  with_same r q x = ap (λ o. if same_register q r then Some x else o) (g.stands.registers q)
+  pub with_same : (r q : Register) (x : ℕ) → q ≢ Crcr → with_register w.register r x q ≡ with_register k.register r x q
+  with_same r q x other = ap (λ o. if same_register q r then Some x else o) (g.stands.registers q other)
 
-  pub valued_agrees : (r : Register) (x : ℕ) → Agrees h (valued k r x) unread (driver.valued w r x)
+  -- of another register than CRCR
+  other_named : (r : Register) (x : ℕ) → r ≢ Crcr → is_some (with_register k.register r x Crcr) ≡ is_named k
+  other_named r x other = grind arith
+
+  pub valued_agrees : (r : Register) (x : ℕ) → r ≢ Crcr → Agrees h (valued k r x) unread (driver.valued w r x)
   unfolding valued driver.valued of_world.event_at
-  valued_agrees r x = search (rules, with_same, same_matches)
+  valued_agrees r x other = search (rules, with_same, same_matches, other_named)
 
 -- ---- ERDP
 

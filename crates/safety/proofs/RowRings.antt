@@ -1,5 +1,5 @@
 -- A doorbell where all events are read: what is known agrees with the world
-use Rattle.safety.proofs.MiddleLaws.{[], ◌≡◌, ◌==◌, ◌&&◌, ◌||◌, if◌then◌else◌, ◌∙◌, ℕ, not, nat_lt, true, List, Option, None, Some, option_and_then, slice_get, arith, refl, sym, ap, subst, inl, inr, rules, cases_Bool, cond-true, cond-false, and_from, or_parts, or_cases, not-false, false≢true, put_pair, Block, RingView, Opens, changed, EndpointState, Running, is_running, is_stopped, Header, Bell, IsHeader, shape_of, command_id, World, counted, Known, learned, on_ring, command_at, next_command, endpoint_rung, rung, is_bad_bell, lenient, IsDriverRing, DriverKeeps, Stands, EventsStand, state_of, RingMatches, BoundRing, UnderWayMatches, CommandMatches, Matches, Agrees, Spot, RingState, activated, bell_row, endpoint_bell, transfer_driver, transfer_not_command, ring_shape, command_is_ring, BellFacts, bell_facts, at_pair, Late, agrees_counted, stands_only, events_only, late_only, read_only, matches_command, OnlyRing, stands_learns, matches_learns, LearnsRing, known_states, world_states, stands_states, events_states, matches_states, RingGoesOn, bound_on, goes_same, opens_goes_on, KnownGoesOn, same_controller, matches_go_on, view_after, put_at, put_off}
+use Rattle.safety.proofs.MiddleLaws.{[], ◌≡◌, ◌==◌, ◌&&◌, ◌||◌, if◌then◌else◌, ◌∙◌, ℕ, not, nat_lt, true, List, Option, None, Some, option_and_then, slice_get, arith, refl, sym, ap, subst, inl, inr, rules, cases_Bool, cond-true, cond-false, and_from, or_parts, or_cases, not-false, false≢true, put_pair, Block, RingView, Opens, changed, EndpointState, Running, is_running, is_stopped, Header, Bell, IsHeader, shape_of, command_id, World, counted, Known, learned, on_ring, command_at, next_command, endpoint_rung, rung, is_bad_bell, lenient, IsDriverRing, DriverKeeps, Stands, EventsStand, state_of, RingMatches, BoundRing, UnderWayMatches, CommandMatches, Matches, Agrees, Spot, RingState, activated, bell_row, endpoint_bell, transfer_driver, transfer_not_command, ring_shape, command_is_ring, BellFacts, bell_facts, at_pair, Late, agrees_counted, stands_only, events_only, late_only, read_only, matches_command, OnlyRing, stands_learns, matches_learns, LearnsRing, known_states, world_states, stands_states, events_states, matches_states, RingGoesOn, bound_on, goes_same, opens_goes_on, KnownGoesOn, same_controller, matches_go_on, view_after, put_at, put_off, is_named, Crcr, is_some, is_value, false, Register, named_in_run}
 use Rattle.safety.proofs.StatesRung.{running_is}
 
 abbrev pub activated_ring : World → ℕ → RingState
@@ -113,7 +113,7 @@ module _ (h : Header) (is : IsHeader h) (k : Known) (unread : List Block) (w : W
 
   -- ---- the command ring
 
-  command_goes : k.started ≡ true → KnownGoesOn h k (on_ring h k (command_id h) Opens)
+  command_goes : is_named k ≡ true → KnownGoesOn h k (on_ring h k (command_id h) Opens)
   command_goes on =
       let l = learns_opened h k (command_id h) in
       search (rules, view_after, shape_of, command_id, changed, goes, command_is_ring, goes_same)
@@ -130,19 +130,19 @@ module _ (h : Header) (is : IsHeader h) (k : Known) (unread : List Block) (w : W
       (λ same. subst (λ n. StaysBut (k.ring n) (changed (shape_of h (command_id h)) (k.ring (command_id h)) Opens)) (sym same) (record { queue = refl; given = refl; floor = refl }))
       (λ other. record { queue = refl; given = refl; floor = refl })
 
-  command_known : k.started ≡ true → Matches h (on_ring h k (command_id h) Opens) w
+  command_known : is_named k ≡ true → Matches h (on_ring h k (command_id h) Opens) w
   unfolding command_at
   command_known on =
       matches_go_on h k (on_ring h k (command_id h) Opens) w w (command_goes on) (same_controller w)
       (λ u at. ap (λ q. slice_get q (next_command h k)) (command_stays (command_id h)).queue)
       (λ p c u. g.matches.contexts p c (search (rules, command_stays, option_and_then, slice_get))) g.matches
 
-  command_opened : k.started ≡ true → Matches h (on_ring h k (command_id h) Opens) (activated h w (command_id h))
+  command_opened : is_named k ≡ true → Matches h (on_ring h k (command_id h) Opens) (activated h w (command_id h))
   command_opened on =
       let m : Known = on_ring h k (command_id h) Opens in
       let l = learns_opened h k (command_id h) in
       let y : Matches h m w = command_known on in
-      let started : m.started ≡ true = l.started ∙ on in
+      let started : is_named m ≡ true = ap (λ (f : Register → Option ℕ). is_some (f Crcr)) l.register ∙ on in
       let c : CommandMatches h m w = y.command started in
       let o = only_activated h w (command_id h) in
       let rest = activated_rest h w (command_id h) in
@@ -153,9 +153,10 @@ module _ (h : Header) (is : IsHeader h) (k : Known) (unread : List Block) (w : W
             (active_matches h (command_id h) (m.ring (command_id h)) (state_of w (command_id h)) c.spot (ap (λ x. x.held) l.here) c.ring);
         under_way = subst (λ x. UnderWayMatches h m c.spot x) (sym rest.under_way) c.under_way;
       })
+      (λ unused. absurd (false≢true (sym unused ∙ ap (λ x. not (is_value 0 x.held)) l.here)))
       (λ s may. y.scribbles s (ap (λ f. f s) (sym rest.scribbles) ∙ may)) (rest.inside ∙ y.inside)
 
-  pub command_agrees : k.started ≡ true → Agrees h (on_ring h k (command_id h) Opens) unread (counted h (activated h w (command_id h)))
+  pub command_agrees : is_named k ≡ true → Agrees h (on_ring h k (command_id h) Opens) unread (counted h (activated h w (command_id h)))
   command_agrees on =
       let l = learns_opened h k (command_id h) in
       let o = only_activated h w (command_id h) in
@@ -178,7 +179,7 @@ module _ (h : Header) (is : IsHeader h) (k : Known) (unread : List Block) (w : W
             (subst (λ v. Agrees h (on_ring h k (command_id h) Opens) unread (counted h v))
             (sym (cond-true (s == 0) (if t == 0 && w.started then activated h w (command_id h) else w) (endpoint_bell h w s t (w.ring_of s t)) command
             ∙ cond-true (t == 0 && w.started) (activated h w (command_id h)) w (and_from (t == 0) w.started zero (g.stands.started ∙ facts.started))))
-            (command_agrees facts.started))
+            (command_agrees (named_in_run h k d facts.started facts.on)))
         | inr endpoint ↦
             subst (λ m. Agrees h m unread (counted h (bell_row h w s t))) (sym (cond-false (s == 0) (on_ring h k (command_id h) Opens) (endpoint_rung h k s t (k.ring_of s t)) endpoint))
             (subst (λ v. Agrees h (endpoint_rung h k s t (k.ring_of s t)) unread (counted h v))

@@ -1,11 +1,16 @@
 -- Behind a row of the driver the run goes on, whatever is unread
-use Rattle.safety.proofs.UpperLaws.{[], ◌≡◌, ◌==◌, ◌&&◌, if◌then◌else◌, ◌∷◌, ◌∙◌, ℕ, not, true, false, List, Some, sym, subst, inl, inr, rules, cases_Bool, cond-true, and_from, not-false, same_Some, Block, is_open, Header, Row, Bell, Read, IsHeader, MayCome, command_id, IsRow, World, counted, Known, learned, is_bad_bell, lenient, DriverKeeps, KeptByRestoring, IsDriverRow, Agrees, ArePossible, Runs, all_read, is_idle, is_open_if, MayRing, SquareLaw, MoreLaw, None, event_read, EndpointsKeep, activated, bell_row, endpoint_bell, row_done, arith, BellFacts, bell_facts, endpoints_of, transfer_command, open_held, held_open, read_counts, awake_runs, read_on, idle, rings, rung_agrees, command_rung, completed_view}
+use Rattle.safety.proofs.PlainRows.{plain_done}
+use Rattle.safety.proofs.UpperLaws.{[], ◌≡◌, ◌==◌, ◌&&◌, if◌then◌else◌, ◌∷◌, ◌∙◌, ℕ, not, true, false, List, Some, sym, subst, inl, inr, rules, cases_Bool, cond-true, and_from, not-false, same_Some, Block, is_open, Header, Row, Bell, Read, IsHeader, MayCome, command_id, IsRow, World, counted, Known, learned, is_bad_bell, lenient, DriverKeeps, KeptByRestoring, IsDriverRow, Agrees, ArePossible, Runs, all_read, is_idle, is_open_if, MayRing, SquareLaw, MoreLaw, None, event_read, EndpointsKeep, activated, bell_row, endpoint_bell, row_done, arith, BellFacts, bell_facts, endpoints_of, transfer_command, open_held, held_open, read_counts, awake_runs, read_on, idle, rings, rung_agrees, command_rung, completed_view, is_named, is_used, is_value, Option, is_none, ap, resets_by}
 
 -- No event holds the command ring
 module _ (h : Header) (is : IsHeader h) (k : Known) (keeps : EndpointsKeep h k) (b : Block) where
   read_held : (k.ring (command_id h)).held ≡ None → ((learned h k (Read b)).ring (command_id h)).held ≡ None
   unfolding learned event_read
   read_held none = grind (arith, transfer_command, completed_view)
+
+-- an open command ring was started
+open_used : (h : Header) (k : Known) → is_open (k.ring (command_id h)) ≡ true → is_used h k ≡ true
+open_used h k opened = ap (λ o. not (is_value 0 o)) (open_held (k.ring (command_id h)) opened)
 
 -- behind an event it is open still
 pub still_open : (h : Header) → IsHeader h → (k : Known) (b : Block) → DriverKeeps h k → is_open (k.ring (command_id h)) ≡ true → is_open ((learned h k (Read b)).ring (command_id h)) ≡ true
@@ -39,11 +44,12 @@ module _ (h : Header) where
           sym (cond-true (s == 0) (is_open (now.ring (command_id h))) (is_open_if now (now.ring_of s t)) command) ∙ idles in
           let l = along (λ k. is_open (k.ring (command_id h)) ≡ true) (λ k e d o b. still_open h is k e d o) run.unread now now_keeps run.possible run.on opened in
           let started = l.2 facts.started in
+          let named : is_named (all_read h now run.unread) ≡ true = l.1.run.used started (open_used h (all_read h now run.unread) l.0) in
           let zero : (t == 0) ≡ true = not-false (t == 0) (sym (cond-true (s == 0) (not (t == 0)) (is_bad_bell h now s t) command) ∙ facts.good) in
           subst (λ u. Agrees h (all_read h now run.unread) run.unread (counted h u))
           (sym (cond-true (s == 0) (if t == 0 && w.started then activated h w (command_id h) else w) (endpoint_bell h w s t (w.ring_of s t)) command
           ∙ cond-true (t == 0 && w.started) (activated h w (command_id h)) w (and_from (t == 0) w.started zero (run.agrees.stands.started ∙ started))))
-          (command_rung h is (all_read h now run.unread) run.unread w l.1 run.agrees l.0 started)
+          (command_rung h is (all_read h now run.unread) run.unread w l.1 run.agrees l.0 named)
 
       endpoint_agrees : (s == 0) ≡ false → Agrees h later run.unread (counted h (bell_row h w s t))
       unfolding later
@@ -60,11 +66,11 @@ module _ (h : Header) where
 
     -- any row of the driver that doesn't stop the controller
     module _ (square : SquareLaw h) (more : MoreLaw h) where
-      pub row_runs : (now : Known) (row : Row) (w v : World) → IsRow row → IsDriverRow row → DriverKeeps h now → Runs h now w → MayCome h now row → (learned h now row).stopped ≡ false →
-          row_done h w row ≡ Some v → Runs h (learned h now row) (counted h v)
-      row_runs now (Bell s t) w v is_row driver_row keeps run possible on at =
+      pub row_runs : (now : Known) (row : Row) (w v : World) → IsRow row → IsDriverRow row → DriverKeeps h now → Runs h now w → MayCome h now row → (learned h now row).stopped ≡ false → resets_by now row ≡ false →
+          plain_done h w row ≡ Some v → Runs h (learned h now row) (counted h v)
+      row_runs now (Bell s t) w v is_row driver_row keeps run possible on stays at =
           elim (cases_Bool (is_idle h now (Bell s t))) [
             | inl idles ↦ idle_runs now w v s t keeps run possible.0 idles at
-            | inr awake ↦ awake_runs h is square more kept (Bell s t) is_row driver_row now w v keeps run possible awake on at
+            | inr awake ↦ awake_runs h is square more kept (Bell s t) is_row driver_row now w v keeps run possible awake on stays at
           ]
-      row_runs now z w v is_row driver_row keeps run possible on at = search (rules, awake_runs)
+      row_runs now z w v is_row driver_row keeps run possible on stays at = search (rules, awake_runs)

@@ -1,5 +1,5 @@
 -- A write of memory where all events are read: what is known agrees with the world
-use Rattle.safety.proofs.MiddleLaws.{[], ◌≡◌, ◌≢◌, ◌+◌, ◌*◌, ◌/◌, ◌<◌, ◌⊎◌, ◌∙◌, ℕ, false, List, Option, None, Some, option_and_then, slice_get, arith, refl, sym, ap, inl, inr, add-zero, ne_eqb, rules, list_any, or_parts, or_cases, false≢true, not_from_false, slice_get_within, put, Block, address_of, is_in, is_inside, Writes, changed, put_here, put_elsewhere, gives_is, address_inside, Command, named_context, device_context_bytes, input_context_bytes, Header, Write, IsHeader, shape_of, command_id, event_shape, World, stored, counted, Known, learned, command_at, next_command, with_device, with_word, written, command_given, taken_device, covers, lease_start, lease_bytes, segment_ranges, device_ranges, lenient, IsUnfinished, DriverKeeps, touches_events, IsUnchanged, Matches, Agrees, is_the_controllers, any_of_map, EventRing, event_ring_is, byte_apart, clean_word, context_lies, context_free, word_elsewhere, word_free, free_or_same, not_the_controllers, none_of_both, same_block_at, at_number, Late, late_stored, memory_stored, unchanged_stored, agrees_counted, writes_goes_on, KnownGoesOn, SameController, matches_go_on, WriteLeaves, write_leaves}
+use Rattle.safety.proofs.MiddleLaws.{[], ◌≡◌, ◌≢◌, ◌+◌, ◌*◌, ◌/◌, ◌<◌, ◌⊎◌, ◌∙◌, ℕ, false, List, Option, None, Some, option_and_then, slice_get, arith, refl, sym, ap, inl, inr, add-zero, ne_eqb, rules, list_any, or_parts, or_cases, false≢true, not_from_false, slice_get_within, put, Block, address_of, is_in, is_inside, Writes, changed, put_here, put_elsewhere, gives_is, address_inside, Command, named_context, device_context_bytes, input_context_bytes, Header, Write, IsHeader, shape_of, command_id, event_shape, World, stored, counted, Known, learned, command_at, next_command, with_device, with_word, written, command_given, taken_device, covers, lease_start, lease_bytes, segment_ranges, device_ranges, lenient, IsUnfinished, DriverKeeps, touches_events, IsUnchanged, Matches, Agrees, is_the_controllers, any_of_map, EventRing, event_ring_is, byte_apart, clean_word, context_lies, context_free, word_elsewhere, word_free, free_or_same, not_the_controllers, none_of_both, same_block_at, at_number, Late, late_stored, memory_stored, unchanged_stored, agrees_counted, writes_goes_on, KnownGoesOn, SameController, matches_go_on, WriteLeaves, write_leaves, Register, is_some, Crcr, is_value, not}
 use Rattle.world_state.specs.World.{event_at}
 
 -- ---- what the write adds
@@ -80,11 +80,24 @@ module _ (h : Header) (is : IsHeader h) (k : Known) (unread : List Block) (w : W
 
   goes_on : KnownGoesOn h k m
   unfolding m learned written with_word
-  goes_on = search (rules, m, write_leaves, device_kept, with_word, option_and_then, taken_device, command_given, written_rings, writes_goes_on)
+  goes_on =
+      let same = write_leaves h k a x in
+      record {
+        named = ap (λ (f : Register → Option ℕ). is_some (f Crcr)) same.registers.register;
+        unused = λ unused. ap (λ o. not (is_value 0 o)) (sym (same.pointers (command_id h)).held) ∙ unused;
+        slot_state = same.slots.slot_state;
+        endpoint_state = same.endpoint_state;
+        ring_of = same.slots.ring_of;
+        isochronous = same.slots.isochronous;
+        was_bound = same.slots.was_bound;
+        stop_seen = same.slots.stop_seen;
+        device = (search (rules, m, write_leaves, device_kept, with_word, option_and_then, taken_device, command_given));
+        rings = (search (rules, m, written_rings, writes_goes_on));
+      }
 
   controller : SameController w v
   unfolding v stored
-  controller = record { slot_state = refl; endpoint_state = refl; ring_of = refl; isochronous = refl; scribbles = refl; under_way = refl; inside = refl; states = λ q. refl }
+  controller = record { slot_state = refl; endpoint_state = refl; ring_of = refl; isochronous = refl; scribbles = refl; under_way = refl; inside = refl; there = refl; states = λ q. refl }
 
   queue_same : (r : ℕ) → (m.ring r).queue ≡ (k.ring r).queue
   unfolding m
@@ -95,13 +108,19 @@ module _ (h : Header) (is : IsHeader h) (k : Known) (unread : List Block) (w : W
   unfolding command_at m
   was_or_now p c u = search (rules, m, written_rings, or_cases, option_and_then, slice_get, queue_same, gives_is)
 
+  -- nothing was changed later than the word that is written now
+  written_now : (p : ℕ) (o : Option ℕ) → a ≡ address_of (shape_of h (command_id h)) p + 12 → IsUnchanged h v (address_of (shape_of h (command_id h)) p) o
+  unfolding v stored
+  written_now p None now = tt
+  written_now p (Some n) now = λ i low. (grind (arith, v, late_stored, late, put_here))
+
   contexts : (p : ℕ) (c : Command) → IsUnfinished h m p c → IsUnchanged h v (address_of (shape_of h (command_id h)) p) (named_context c)
   unfolding v stored
   contexts p c u =
       elim (was_or_now p c u) [
         | inl was ↦
             unchanged_stored h w a x (address_of (shape_of h (command_id h)) p) (named_context c) late (λ n i named low. in_context_same p n i c was named low) (g.matches.contexts p c was)
-        | inr now ↦ grind (arith, v, late_stored, late, put_here)
+        | inr now ↦ written_now p (named_context c) now
       ]
 
   matches : Matches h m v

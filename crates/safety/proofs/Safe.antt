@@ -1,5 +1,5 @@
 -- A world that agrees with what a rule-keeping driver's rows lead to is safe: harm by harm
-use Rattle.safety.proofs.LowerLaws.{[], ◌≡◌, ◌+◌, ◌-◌, ◌<◌, ◌≤◌, ◌==◌, ◌&&◌, ◌∷◌, ◌∙◌, ℕ, Bool, false, not, List, nat_lt, nat_le, None, find, arith, refl, sym, ap, subst, inl, inr, eq-eqb, le-ltb, rules, list_any, cases_Bool, cases_eq, and_left, and_right, or_from, lt-leb, not_from_true, Block, block_at, cycle, number, spot_address, Spot, Header, Ring, IsHeader, shape_of, command_id, event_size, Harm, TakenOutOfOrder, TakenOtherWords, WaitsInsideDescriptor, LooksOutside, PostsOverUnread, InputContextChanged, World, is_out_of_order, has_other_words, is_inside_descriptor, waits, harms, harm_of, IsSafe, has_changed_context, Known, IsDriverRing, DriverKeeps, Stands, RingMatches, state_of, Agrees, Runs, all_read, transfer_driver, ring_shape, MayStand, ceiling_given, inside_given, cycle_inside, block_at_spot, changed_none, command_is_ring, under_way_unchanged}
+use Rattle.safety.proofs.LowerLaws.{[], ◌≡◌, ◌+◌, ◌-◌, ◌<◌, ◌≤◌, ◌==◌, ◌&&◌, ◌∷◌, ◌∙◌, ℕ, Bool, false, not, List, nat_lt, nat_le, None, find, arith, refl, sym, ap, subst, inl, inr, eq-eqb, le-ltb, rules, list_any, cases_Bool, cases_eq, and_left, and_right, or_from, lt-leb, not_from_true, Block, block_at, cycle, number, spot_address, Spot, Header, Ring, IsHeader, shape_of, command_id, event_size, Harm, TakenOutOfOrder, TakenOtherWords, WaitsInsideDescriptor, LooksOutside, PostsOverUnread, InputContextChanged, World, is_out_of_order, has_other_words, is_inside_descriptor, waits, harms, harm_of, IsSafe, has_changed_context, Known, IsDriverRing, DriverKeeps, Stands, RingMatches, state_of, Agrees, Runs, all_read, transfer_driver, ring_shape, MayStand, ceiling_given, inside_given, cycle_inside, block_at_spot, changed_none, command_is_ring, under_way_unchanged, ◌||◌, is_named}
 use Rattle.std.proofs.Common.{option_map}
 use Rattle.traces.specs.Header.{some_ring}
 
@@ -20,8 +20,12 @@ unfolding waits
 waits_inactive w r off = and_left (w.is_active r) (not (cycle (block_at w.memory (w.pointer_of r)) == w.cycle_state r)) off
 
 -- events posted and not yet read are fewer than the ring has places
-room_left : (size posted reads dequeue : ℕ) → dequeue ≤ reads → reads ≤ posted → (0 < posted → posted + 1 ≤ dequeue + size) → (nat_lt 0 size && nat_le size (posted - reads)) ≡ false
-room_left size posted reads dequeue low read room = search (rules, nat_lt, nat_le, and_left, le-ltb, and_right, lt-leb)
+fits : (size posted reads dequeue : ℕ) → dequeue ≤ reads → reads ≤ posted → (0 < posted → posted + 1 ≤ dequeue + size) → (nat_lt 0 size && nat_le size (posted - reads)) ≡ false
+fits size posted reads dequeue low read room = search (rules, nat_lt, nat_le, and_left, le-ltb, and_right, lt-leb)
+
+room_left : (nowhere : Bool) (size posted reads dequeue : ℕ) → nowhere ≡ false → dequeue ≤ reads → reads ≤ posted → (0 < posted → posted + 1 ≤ dequeue + size) →
+    (nowhere || (nat_lt 0 size && nat_le size (posted - reads))) ≡ false
+room_left nowhere size posted reads dequeue there low read room = or_from nowhere (nat_lt 0 size && nat_le size (posted - reads)) there (fits size posted reads dequeue low read room)
 
 module _ (h : Header) (is : IsHeader h) (k : Known) (w : World) (d : DriverKeeps h k) (s : Stands h k w) where
   -- the pointer of a ring stands where it may
@@ -55,7 +59,7 @@ nothing_found a b c d e f ha hb hc hd he hf = rw (ha, hb, hc, hd, he, hf) refl
 
 pub safe_from : (h : Header) (w : World) → some_ring h (λ r. is_out_of_order (shape_of h r) (w.events r)) ≡ false →
     some_ring h (λ r. has_other_words (shape_of h r) (w.events r)) ≡ false → some_ring h (λ r. waits w r && is_inside_descriptor (w.events r)) ≡ false →
-    w.looked_outside ≡ false → (nat_lt 0 (event_size h) && nat_le (event_size h) (w.posted - w.reads)) ≡ false → has_changed_context h w w.under_way ≡ false → IsSafe h w
+    w.looked_outside ≡ false → (w.posted_nowhere || (nat_lt 0 (event_size h) && nat_le (event_size h) (w.posted - w.reads))) ≡ false → has_changed_context h w w.under_way ≡ false → IsSafe h w
 unfolding harm_of harms
 safe_from h w a b c d e f = nothing_found _ _ _ _ _ _ a b c d e f
 
@@ -73,11 +77,10 @@ module _ (h : Header) (is : IsHeader h) (k : Known) (unread : List Block) (w : W
   idle_safe r off order words = record { in_order = order; as_declared = words; no_wait = and_left (waits w r) (is_inside_descriptor (w.events r)) (waits_inactive w r off) }
 
   command_safe : IsSafeRing (command_id h)
-  unfolding is_out_of_order has_other_words
   command_safe =
-      elim (cases_Bool k.started) [
+      elim (cases_Bool (is_named k)) [
         | inl on ↦ let c = g.matches.command on in matched_safe (command_id h) c.spot (command_is_ring h k d on) c.ring
-        | inr off ↦ let b = g.matches.before off in idle_safe (command_id h) b.inactive (ap (is_out_of_order (shape_of h (command_id h))) b.no_events) (ap (has_other_words (shape_of h (command_id h))) b.no_events)
+        | inr off ↦ let b = g.matches.before off in idle_safe (command_id h) b.rests.inactive b.rests.in_order b.rests.as_declared
       ]
 
   ring_safe : (r : ℕ) → IsSafeRing r

@@ -1,5 +1,5 @@
 -- The input context of the command under way is as it was when the command was given
-use Rattle.safety.proofs.Words.{[], ◌≡◌, ◌+◌, ◌<◌, ◌≤◌, ◌∙◌, ℕ, suc, zero, Bool, true, false, nat_lt, Option, Some, None, is_some, option_and_then, slice_get, arith, refl, sym, ap, inl, inr, get_or, le-ltb, rules, list_any, range_with_len, false≢true, or_from, slice_get-get_or, Block, Spot, floor_number, is_due, given_count, cases_option, cycle_of_bit, due_from, given_below, step_is, given_count_declared, given_count_near, Command, command_of, named_context, input_context_bytes, Header, Crcr, IsHeader, shape_of, command_id, World, UnderWay, is_changed_since, is_context_changed, has_changed_context, Known, command_at, next_command, IsDriverRing, DriverKeeps, RingMatches, state_of, UnderWayMatches, IsUnchanged, Matches}
+use Rattle.safety.proofs.Words.{[], ◌≡◌, ◌+◌, ◌<◌, ◌≤◌, ◌∙◌, ℕ, suc, zero, Bool, true, false, nat_lt, Option, Some, None, is_some, option_and_then, slice_get, arith, refl, sym, ap, inl, inr, get_or, le-ltb, rules, list_any, range_with_len, false≢true, or_from, slice_get-get_or, Block, Spot, floor_number, is_due, given_count, ceiling, unwrap_or, cases_Bool, none-some, is_named, is_asked, is_done, HaltState, cases_option, cycle_of_bit, due_from, given_below, step_is, given_count_declared, given_count_near, Command, command_of, named_context, input_context_bytes, Header, Crcr, IsHeader, shape_of, command_id, World, UnderWay, is_changed_since, is_context_changed, has_changed_context, Known, command_at, next_command, IsDriverRing, DriverKeeps, RingMatches, state_of, UnderWayMatches, IsUnchanged, Matches}
 use Rattle.safety.proofs.Headers.{ring_shape}
 use Rattle.safety.proofs.SameCommand.{command_of-with_cycle}
 use Rattle.safety.proofs.NoWait.{ceiling_given}
@@ -31,13 +31,31 @@ changed_some : (h : Header) (w : World) (u : UnderWay) (o : Option Command) → 
 unfolding has_changed_context
 changed_some h w u o is = ap (λ x. is_context_changed h w (w.written (u.address + 12)) (option_and_then named_context x)) is
 
--- the command ring is declared once the controller is started
-pub command_is_ring : (h : Header) (k : Known) → DriverKeeps h k → k.started ≡ true → IsDriverRing h (command_id h)
-command_is_ring h k d started =
-    elim (cases_option (k.register Crcr)) [
-      | inl none ↦ absurd (false≢true (sym (ap (λ o. is_some o) none) ∙ d.crcr_written started))
-      | inr some ↦ (d.crcr some.0 some.1).is_ring
+-- the command ring is declared once CRCR names it
+pub command_is_ring : (h : Header) (k : Known) → DriverKeeps h k → is_named k ≡ true → IsDriverRing h (command_id h)
+command_is_ring h k d named = d.run.named named
+
+-- and it does while a command is under way
+pub under_way_named : (h : Header) (k : Known) (w : World) (u : UnderWay) → Matches h k w → w.under_way ≡ Some u → is_named k ≡ true
+under_way_named h k w u m at =
+    elim (cases_Bool (is_named k)) [
+      | inl named ↦ named
+      | inr off ↦ absurd (none-some u (sym (m.before off).none ∙ at))
     ]
+
+-- what isn't to halt hasn't
+pub not_done : (o : HaltState) → is_asked o ≡ false → is_done o ≡ false
+not_done o on = grind (arith, false≢true)
+
+-- and while the controller runs, also before it was seen to have halted
+pub named_in_run : (h : Header) (k : Known) → DriverKeeps h k → k.started ≡ true → is_asked k.halt ≡ false → is_named k ≡ true
+named_in_run h k d started on = d.run.running started (not_done k.halt on)
+
+-- and where a command can have been taken
+pub named_if_taken : (h : Header) (k : Known) → DriverKeeps h k → k.started ≡ true → next_command h k < ceiling (shape_of h (command_id h)) (k.ring (command_id h)) → is_named k ≡ true
+unfolding ceiling
+named_if_taken h k d started below =
+    d.run.used started (grind (arith, unwrap_or, next_command, (k.ring (command_id h)).held))
 
 -- the command that was taken: what is declared at the floor, given and unfinished
 pub record AtFloor (h : Header) (k : Known) : Type 0 where

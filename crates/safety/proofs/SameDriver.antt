@@ -14,6 +14,7 @@ pub record SameGiven (v w : RingView) : Type 0 where
 pub record SameDriver (k l : Known) : Type 0 where
   pub started : l.started ≡ k.started
   pub stopped : l.stopped ≡ k.stopped
+  pub halt : l.halt ≡ k.halt
   pub register : l.register ≡ k.register
   pub memory : l.memory ≡ k.memory
   pub soiled : l.soiled ≡ k.soiled
@@ -51,7 +52,7 @@ module _ (h : Header) where
   pub on_ring_same : (k : Known) (r : ℕ) (change : RingChange) → IsPointerChange change → SameDriver k (on_ring h k r change)
   unfolding on_ring
   on_ring_same k r change is =
-      record { started = refl; stopped = refl; register = refl; memory = refl; soiled = refl; reads = refl; dequeue = refl; rings = on_rings k r change is }
+      record { started = refl; stopped = refl; halt = refl; register = refl; memory = refl; soiled = refl; reads = refl; dequeue = refl; rings = on_rings k r change is }
 
   -- ---- a Transfer Event
 

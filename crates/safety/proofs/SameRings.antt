@@ -1,5 +1,5 @@
 -- Rows that give no endpoint another ring than it had
-use Rattle.safety.proofs.Words.{◌≡◌, ◌==◌, if◌then◌else◌, ℕ, Bool, refl, rules, cond_both, Block, Opens, Command, Header, Register, command_id, Known, on_ring, with_device, with_word, written, run_or_stop, valued, register_written, endpoint_rung, rung, passed, broken_off, stopped_at, transferred, transferred_at, transfer_read, stop_ended, arith}
+use Rattle.safety.proofs.Words.{register_read, status_read, ◌≡◌, ◌==◌, if◌then◌else◌, ℕ, Bool, refl, rules, cond_both, Block, Opens, Command, Header, Register, command_id, Known, on_ring, with_device, with_word, written, run_or_stop, valued, register_written, endpoint_rung, rung, passed, broken_off, stopped_at, transferred, transferred_at, transfer_read, stop_ended, arith, runs_again, runs_once}
 
 -- the same endpoints have rings, and the same ones
 abbrev pub SameRings : Known → Known → Type 0
@@ -14,8 +14,12 @@ module _ (h : Header) where
   written_same k a w = grind arith
 
   pub register_same : (k : Known) (r : Register) (x : ℕ) → SameRings k (register_written h k r x)
-  unfolding register_written valued run_or_stop
+  unfolding register_written valued run_or_stop runs_once runs_again
   register_same k r x = grind (arith, either_same)
+
+  pub status_same : (k : Known) (r : Register) (x : ℕ) → SameRings k (register_read k r x)
+  unfolding register_read status_read
+  status_same k o x = grind (arith, either_same)
 
   pub rung_same : (k : Known) (s t : ℕ) → SameRings k (rung h k s t)
   unfolding rung on_ring endpoint_rung

@@ -1,5 +1,5 @@
 -- The controller writes a word of a device context that it may write: the run goes on
-use Rattle.safety.proofs.Words.{◌≡◌, ◌≢◌, ◌+◌, ◌*◌, ◌<◌, ◌≤◌, ◌∙◌, ℕ, true, false, List, nat_lt, nat_le, Option, Some, None, slice_get, unwrap_or, arith, refl, sym, ap, subst, inl, inr, add-zero, leb-true, ltb-true, list_any, range_with_len, cases_lt, and_parts, cond_some, slice_get_within, Block, address_of, is_in, is_inside, address_inside, device_context, device_context_bytes, slot_entry, Header, Dcbaap, IsHeader, event_shape, event_size, touches_ring, register_or_zero, World, stored, is_scribbled, scribbled, counted, Known, device_named, entry_of, some_of, DeviceKeeps, DriverKeeps, EventsStand, touches_events, Agrees, Runs, all_read, rules, touches}
+use Rattle.safety.proofs.Words.{◌≡◌, ◌≢◌, ◌+◌, ◌*◌, ◌<◌, ◌≤◌, ◌∙◌, ℕ, true, false, List, nat_lt, nat_le, Option, Some, None, slice_get, unwrap_or, arith, refl, sym, ap, subst, inl, inr, add-zero, leb-true, ltb-true, list_any, range_with_len, cases_lt, and_parts, cond_some, slice_get_within, Block, address_of, is_in, is_inside, address_inside, device_context, device_context_bytes, slot_entry, Header, Dcbaap, IsHeader, event_shape, event_size, touches_ring, register_or_zero, World, stored, is_scribbled, scribbled, counted, Known, device_named, entry_of, some_of, DeviceKeeps, DriverKeeps, EventsStand, touches_events, Agrees, Runs, all_read, rules, touches, length}
 use Rattle.world_state.specs.World.{event_at}
 use Rattle.safety.proofs.Headers.{EventRing, event_ring_is, no_events}
 use Rattle.safety.proofs.RingMemory.{same_block_at}
@@ -78,7 +78,16 @@ module _ (h : Header) (is : IsHeader h) (k : Known) (unread : List Block) (w : W
 
   events_stored : (a x c s : ℕ) → DeviceKeeps h k s c → is_in a c (device_context_bytes h.context_size) ≡ true → EventsStand h (stored w a x) unread
   unfolding stored
-  events_stored a x c s dev inside = search (rules, g.events, event_stays, event_ring_is, slice_get, slice_get_within)
+  events_stored a x c s dev inside = record {
+    order = g.events.order;
+    count = g.events.count;
+    places = λ i e at.
+        let low : i < length unread = slice_get_within unread i e at in
+        let some : 0 < w.posted = omega (arith, low, g.events.count) in
+        event_stays a x c s (event_ring_is h is (g.events.ring some)) dev inside (w.reads + i) ∙ g.events.places i e at;
+    started = g.events.started;
+    ring = g.events.ring;
+  }
 
   agrees_stored : (a x : ℕ) → list_any (is_scribbled h w a) (range_with_len 0 256) ≡ true → Agrees h k unread (counted h (stored w a x))
   unfolding stored

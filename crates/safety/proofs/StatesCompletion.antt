@@ -1,5 +1,5 @@
 -- A Command Completion Event keeps what is known of states
-use Rattle.safety.proofs.MiddleLaws.{typed, typed_by_context, [], ◌≡◌, ◌==◌, if◌then◌else◌, ◌∙◌, ℕ, true, Option, None, Some, refl, sym, ap, cond_both, cond-true, and_parts, false≢true, same_Some, Block, code, slot, Spot, after, Reaches, Command, StopEndpoint, may_answer_slot, changes, Header, Config, IsHeader, shape_of, command_id, register_or_zero, Known, on_ring, command_at, next_command, succeeded, stop_ended, finished, completed, can_finish, CommandKeeps, DriverKeeps, ◌∷◌, Bool, List, rules, target, Stopped, is_off, Change, Places, Stops, ring_having, set_to, bound_to, moved_to, moved, pointed, disabled, in_state, held_at_ceiling, changed_by, changed_by_all, ◌≢◌, false, inl, inr, NoOp, EnableSlot, DisableSlot, AddressDevice, ConfigureEndpoint, EvaluateContext, ResetEndpoint, SetTrDequeue, ResetDevice, named_slot, Resets, RingsKeep, StillHolds, EndpointsKeep, ◌&&◌, nat_le, nat_lt, map, subst, eq-eqb, leb-false, ltb-true, cond-false, and_from, and_right, none-some, EndpointState, Off, Running, SlotGoesOn, DeviceLeft, Disables, placed_by_context, is_above_control, added_endpoints, is_dropped, context_pointer, context_cycle, is_bad_command, arith, endpoints_of, rings_of, view_after, SeenStand, endpoints_part, slots_part, seen_part, endpoints_same, slots_same, EndpointsStand, SlotsStand, SlotStands, at_pair, IsPlaced, placed_is, pointed_on, on_is, some_ring, GetsRing, stops_slot, resets_slot, placed_leaves, SameSlot, changes_elsewhere, placed_of_slot, placed_all, RestsThere, changes_stand, slot_deconfigured, slot_reset, state_after, slot_enabled, slot_disabled, slot_addressed, slot_configured}
+use Rattle.safety.proofs.MiddleLaws.{typed, typed_by_context, [], ◌≡◌, ◌==◌, if◌then◌else◌, ◌∙◌, ℕ, true, Option, None, Some, refl, sym, ap, cond_both, cond-true, and_parts, false≢true, same_Some, Block, code, slot, Spot, after, Reaches, Command, StopEndpoint, may_answer_slot, changes, Header, Config, IsHeader, shape_of, command_id, register_or_zero, Known, on_ring, command_at, next_command, succeeded, stop_ended, finished, completed, can_finish, CommandKeeps, DriverKeeps, ◌∷◌, Bool, List, rules, target, Stopped, is_off, Change, Places, Stops, ring_having, set_to, bound_to, moved_to, moved, pointed, disabled, in_state, held_at_ceiling, changed_by, changed_by_all, ◌≢◌, false, inl, inr, NoOp, EnableSlot, DisableSlot, AddressDevice, ConfigureEndpoint, EvaluateContext, ResetEndpoint, SetTrDequeue, ResetDevice, named_slot, Resets, RingsKeep, StillHolds, EndpointsKeep, ◌&&◌, nat_le, nat_lt, map, subst, eq-eqb, leb-false, ltb-true, cond-false, and_from, and_right, none-some, EndpointState, Off, Running, SlotGoesOn, DeviceLeft, Disables, placed_by_context, is_above_control, added_endpoints, is_dropped, context_pointer, context_cycle, is_bad_command, arith, endpoints_of, rings_of, view_after, SeenStand, endpoints_part, slots_part, seen_part, endpoints_same, slots_same, EndpointsStand, SlotsStand, SlotStands, at_pair, IsPlaced, placed_is, pointed_on, on_is, some_ring, GetsRing, stops_slot, resets_slot, placed_leaves, SameSlot, changes_elsewhere, placed_of_slot, placed_all, RestsThere, changes_stand, slot_deconfigured, slot_reset, state_after, slot_enabled, slot_disabled, slot_addressed, slot_configured, cases_eq, fun_ext}
 use Rattle.safety.proofs.KeptRings.{CompletionFacts, next_unfinished, command_holds}
 use Rattle.safety.proofs.StatesFit.{Succeeds, succeeds_is, moving_rests, slot_there, no_slot_zero, success_fits}
 use Rattle.safety.proofs.StatesTransfer.{PartsStand}
@@ -10,7 +10,18 @@ slots_as k l was same = search (rules)
 
 -- all slots but one are as they were
 but_one : (k l : Known) (s : ℕ) → s ≢ 0 → SlotsStand k → ((t : ℕ) → t ≢ s → SameSlot k l t) → SlotStands (l.slot_state s) (l.ring_of s) (l.device s) → SlotsStand l
-but_one k l s slot was others here = search (rules)
+but_one k l s slot was others here = record {
+  no_slot = (others 0 (λ e. slot (sym e))).state ∙ was.no_slot;
+  each = λ t. elim (cases_eq t s) [
+    | inl same ↦ subst (λ n. SlotStands (l.slot_state n) (l.ring_of n) (l.device n)) (sym same) here
+    | inr apart ↦ let o = others t apart in record_of t o (was.each t)
+  ];
+}
+  where
+    record_of : (t : ℕ) → SameSlot k l t → SlotStands (k.slot_state t) (k.ring_of t) (k.device t) → SlotStands (l.slot_state t) (l.ring_of t) (l.device t)
+    record_of t o stands =
+        subst (λ x. SlotStands x (l.ring_of t) (l.device t)) (sym o.state)
+        (subst (λ x. SlotStands (k.slot_state t) x (l.device t)) (sym (fun_ext o.rings)) (subst (λ x. SlotStands (k.slot_state t) (k.ring_of t) x) (sym o.device) stands))
 
 off_runs : {x : EndpointState} → x ≡ Off → x ≡ Running → ⊥
 off_runs a b = cc

@@ -1,5 +1,5 @@
 -- Declarations, writes of memory and of registers keep what is known of states
-use Rattle.safety.proofs.MiddleLaws.{[], ◌≡◌, ◌≢◌, ◌≤◌, ◌⊎◌, ◌∙◌, ℕ, List, Option, None, Some, option_and_then, slice_get, arith, refl, sym, ap, subst, inl, inr, ne_eqb, rules, cond-false, or_parts, false≢true, none-some, slice_get_within, Block, Shape, RingView, Declares, Writes, changed, floor_number, ceiling, cases_option, slice_get-append, given_count-writes, ceiling_held, Command, SlotState, Disabled, Enabled, Configured, command_of, Header, Register, Sub, Write, Reg, IsHeader, shape_of, command_id, Known, command_at, with_device, with_word, written, command_given, taken_device, learned, names_disabled_slot, is_bad_command, lenient, StatesKeep, DriverKeeps, ceiling_declares, endpoints_of, view_after, next_is, SlotsStand, StopsNext, endpoints_part, slots_part, seen_part, from_parts, endpoints_same, slots_same, seen_same, DeclarationLeaves, WriteLeaves, RegisterLeaves, declaration_leaves, write_leaves, written_view, register_leaves}
+use Rattle.safety.proofs.MiddleLaws.{[], ◌≡◌, ◌≢◌, ◌≤◌, ◌⊎◌, ◌∙◌, ℕ, List, Option, None, Some, option_and_then, slice_get, arith, refl, sym, ap, subst, inl, inr, ne_eqb, rules, cond-false, or_parts, false≢true, none-some, slice_get_within, Block, Shape, RingView, Declares, Writes, changed, floor_number, ceiling, cases_option, slice_get-append, given_count-writes, ceiling_held, Command, SlotState, Disabled, Enabled, Configured, command_of, Header, Register, Sub, Write, Reg, IsHeader, shape_of, command_id, Known, command_at, with_device, with_word, written, command_given, taken_device, learned, names_disabled_slot, is_bad_command, lenient, StatesKeep, DriverKeeps, ceiling_declares, endpoints_of, view_after, next_is, SlotsStand, StopsNext, endpoints_part, slots_part, seen_part, from_parts, endpoints_same, slots_same, seen_same, DeclarationLeaves, WriteLeaves, RegisterLeaves, declaration_leaves, write_leaves, written_view, register_leaves, RegRead, StatusLeaves, status_leaves}
 use Rattle.safety.proofs.EndpointHistories.{row_keeps}
 use Rattle.segments.proofs.Named.{ceiling_open}
 use Rattle.safety.proofs.KeptClean.{CleanTaking, taking}
@@ -64,6 +64,16 @@ module _ (h : Header) where
       let same : RegisterLeaves k l = register_leaves h k r x in
       let held : (q : ℕ) → (l.ring q).held ≡ (k.ring q).held = λ q. ap (λ f. (f q).held) same.ring in
       from_parts h l (row_keeps h is k (Reg r x) (endpoints_of h k d.states)) (endpoints_same k l same.slots.ring_of same.endpoint_state held (endpoints_part h k d.states))
+      (slots_same k l same.slots.slot_state same.slots.ring_of same.memory.device (slots_part h k d.states))
+      (seen_same h k l same.slots.stop_seen same.endpoint_state same.slots.ring_of held
+      (stops_on k l (view_same (shape_of h (command_id h)) (k.ring (command_id h)) (l.ring (command_id h)) (ap (λ f. f (command_id h)) same.ring))) (seen_part h k d.states))
+
+  pub states_status : IsHeader h → (k : Known) (r : Register) (x : ℕ) → DriverKeeps h k → StatesKeep h (learned h k (RegRead r x))
+  states_status is k r x d =
+      let l : Known = learned h k (RegRead r x) in
+      let same : StatusLeaves k l = status_leaves h k r x in
+      let held : (q : ℕ) → (l.ring q).held ≡ (k.ring q).held = λ q. ap (λ f. (f q).held) same.ring in
+      from_parts h l (row_keeps h is k (RegRead r x) (endpoints_of h k d.states)) (endpoints_same k l same.slots.ring_of same.endpoint_state held (endpoints_part h k d.states))
       (slots_same k l same.slots.slot_state same.slots.ring_of same.memory.device (slots_part h k d.states))
       (seen_same h k l same.slots.stop_seen same.endpoint_state same.slots.ring_of held
       (stops_on k l (view_same (shape_of h (command_id h)) (k.ring (command_id h)) (l.ring (command_id h)) (ap (λ f. f (command_id h)) same.ring))) (seen_part h k d.states))

@@ -80,12 +80,25 @@ module _ (h : Header) where
           one_seen k l s t r e one h (seen_part h k d.states) own (stops_on h k l (view_same (shape_of h (command_id h)) (k.ring (command_id h)) (l.ring (command_id h)) command)),
         )
 
+    -- the command ring is that of no endpoint
+    command_stands : EndpointsStand (on_ring h k (command_id h) Opens)
+    unfolding on_ring
+    command_stands =
+        let e = endpoints_part h k d.states in
+        record {
+          no_endpoint = e.no_endpoint;
+          off = e.off;
+          on = e.on;
+          one_endpoint = e.one_endpoint;
+          open_runs = λ q i r at held. e.open_runs q i r at (sym (ap (λ (v : RingView). v.held) (ring_elsewhere h k (command_id h) r Opens (not_command q i r at))) ∙ held);
+        }
+
     both_stand : (s t : ℕ) → lenient h k (Bell s t) ≡ [] → EndpointsStand (learned h k (Bell s t)) × SeenStand h (learned h k (Bell s t))
     unfolding learned rung is_bad_bell
     both_stand s t clean =
         let facts : BellFacts h k s t = bell_facts h k s t clean in
         cond_both (s == 0) (on_ring h k (command_id h) Opens) (endpoint_rung h k s t (k.ring_of s t)) (λ l. EndpointsStand l × SeenStand h l)
-        (λ first. ((search (rules, on_ring, command_id, opened, endpoints_part, d.states, k.ring_of, ring_elsewhere, not_command)), command_seen))
+        (λ first. (command_stands, command_seen))
         (λ other. endpoint_stands s t (k.ring_of s t) facts.started refl (search (rules, or_parts, nat_lt, not-false)))
 
     pub states_rung : (s t : ℕ) → lenient h k (Bell s t) ≡ [] → StatesKeep h (learned h k (Bell s t))

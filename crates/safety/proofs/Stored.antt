@@ -52,11 +52,13 @@ module _ (h : Header) where
     ring_of = m.ring_of;
     isochronous = m.isochronous;
     rings = m.rings;
-    before = λ off. let b = m.before off in record { inactive = b.inactive; no_events = b.no_events; none = b.none };
+    before = λ off. let b = m.before off in record { rests = b.rests; none = b.none };
+    new = m.new;
     command = λ on. let c = m.command on in record { spot = c.spot; ring = c.ring; under_way = c.under_way };
     scribbles = m.scribbles;
     contexts = λ p c u. unchanged_stored w a x (address_of (shape_of h (command_id h)) p) (named_context c) late (λ n i is l here. absurd (apart p n i c u is l here)) (m.contexts p c u);
     inside = m.inside;
+    there = m.there;
   }
 
   -- a word that the controller may write: it is soiled, or belongs to the event ring

@@ -1,5 +1,5 @@
 -- Behind an event the commands that stay unfinished were unfinished before, and the endpoints that they concern have the same rings
-use Rattle.safety.proofs.MiddleLaws.{[], ◌≡◌, ◌≢◌, ◌==◌, if◌then◌else◌, ◌∷◌, ◌∙◌, ℕ, not, true, List, Option, None, Some, refl, sym, ap, inl, inr, rules, filter_map, cons_option, false≢true, and_parts, and_from, Block, BlockKind, TransferEvent, CommandCompletion, kind, code, slot, due_positions, due_from, Command, AddressDevice, EndpointState, Off, can_succeed, is_off, Header, Read, Config, IsHeader, command_id, is_ring, register_or_zero, Known, command_at, next_command, unfinished_positions, unfinished, completed, event_read, learned, was_stop_seen, moves_ring, is_being_moved, lenient, IsIn, some_of, any_of, from_filter, IsDriverRing, IsUnfinished, DriverKeeps, is_command_completion, EventFacts, event_facts, command_is_ring, transfer_slots, Concerns, in_filter_map}
+use Rattle.safety.proofs.MiddleLaws.{[], ◌≡◌, ◌≢◌, ◌==◌, if◌then◌else◌, ◌∷◌, ◌∙◌, ℕ, not, true, List, Option, None, Some, refl, sym, ap, inl, inr, rules, filter_map, cons_option, false≢true, and_parts, and_from, Block, BlockKind, TransferEvent, CommandCompletion, kind, code, slot, due_positions, due_from, Command, AddressDevice, EndpointState, Off, can_succeed, is_off, Header, Read, Config, IsHeader, command_id, is_ring, register_or_zero, Known, command_at, next_command, unfinished_positions, unfinished, completed, event_read, learned, was_stop_seen, moves_ring, is_being_moved, lenient, IsIn, some_of, any_of, from_filter, IsDriverRing, IsUnfinished, DriverKeeps, is_command_completion, EventFacts, event_facts, command_is_ring, transfer_slots, Concerns, in_filter_map, named_if_taken}
 use Rattle.safety.proofs.KeptRings.{CompletionFacts, completion_facts, next_unfinished}
 use Rattle.safety.proofs.CommandsFinished.{unfinished_before}
 use Rattle.safety.proofs.CommandsCompleted.{Changed, changed_by_code, may_answer}
@@ -50,7 +50,7 @@ module _ (h : Header) (is : IsHeader h) (k : Known) (d : DriverKeeps h k) where
     rings_kind CommandCompletion at p c t i u its =
         let finish : CompletionFacts h k e = completion_facts h k e (ap is_command_completion at) facts.possible in
         let answer = may_answer h is k d e (command_at h k (next_command h k)) finish.finishes in
-        staying e answer.0 answer.1 (next_unfinished h is k d facts.started finish.below answer.0 answer.1) (command_is_ring h k d facts.started) answer.2 p c t i u its
+        staying e answer.0 answer.1 (next_unfinished h is k d facts.started finish.below answer.0 answer.1) (command_is_ring h k d (named_if_taken h k d facts.started finish.below)) answer.2 p c t i u its
     rings_kind _ at p c t i u its = refl
 
     pub rings_behind : (p : ℕ) (c : Command) (t i : ℕ) → IsUnfinished h (learned h k (Read e)) p c → Concerns c t i → (learned h k (Read e)).ring_of t i ≡ k.ring_of t i

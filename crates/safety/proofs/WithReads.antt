@@ -6,7 +6,7 @@ with_reads k n = record k { reads = n }
 
 module _ (h : Header) where
   pub stands_with_reads : (n : ℕ) (k : Known) (w : World) → Stands h k w → Stands h (with_reads k n) w
-  stands_with_reads n k w s = record { started = s.started; stopped = s.stopped; registers = s.registers; queues = s.queues; lengths = s.lengths; dequeue = s.dequeue; quiet = s.quiet }
+  stands_with_reads n k w s = record { started = s.started; stopped = s.stopped; halting = s.halting; halted = s.halted; told = s.told; registers = s.registers; queues = s.queues; lengths = s.lengths; dequeue = s.dequeue; quiet = s.quiet }
 
   taken_with_reads : (n : ℕ) (k : Known) (u : UnderWay) → TakenCommand h k u → TakenCommand h (with_reads k n) u
   unfolding next_command command_at was_stop_seen
@@ -28,9 +28,11 @@ module _ (h : Header) where
     ring_of = m.ring_of;
     isochronous = m.isochronous;
     rings = m.rings;
-    before = m.before;
+    before = λ off. let b = m.before off in record { rests = b.rests; none = b.none };
+    new = m.new;
     command = λ on. let c = m.command on in record { spot = c.spot; ring = c.ring; under_way = under_way_with_reads n k c.spot w.under_way c.under_way };
     scribbles = m.scribbles;
     contexts = λ p c u. m.contexts p c (unfinished_with_reads n k p c u);
     inside = m.inside;
+    there = m.there;
   }

@@ -30,9 +30,9 @@ unfoldable pub use Rattle.ownership_rules.specs.OnLiterals.{rules_on_literals}
 pub use Rattle.ownership_rules.specs.OpenLeases.{DeviceContext, InputContext, Leased, Range, SegmentTable, SlotEntry, Use}
 unfoldable pub use Rattle.ownership_rules.specs.OpenLeases.{context_ranges, covers, device_ranges, entry_ranges, is_leased, is_the_controllers, lease_bytes, lease_start, open_leases, open_on, open_ranges, range_of_command, range_of_context, range_of_device, range_of_entry, segment_ranges, slots, table_range}
 pub use Rattle.ownership_rules.specs.Refusal.{Test, broken_of}
-unfoldable pub use Rattle.ownership_rules.specs.Registers.{is_bad_crcr, is_bad_erdp, is_bad_register, is_early_start, is_late_reset, is_no_first_block, is_unwritten, is_wrong_start, may_pass, names_no_place, register_tests}
+unfoldable pub use Rattle.ownership_rules.specs.Registers.{has_gap, is_bad_command_register, is_bad_crcr, is_bad_erdp, is_bad_register, is_early_reset, is_early_resume, is_early_start, is_impossible_read, is_impossible_status, is_late_reset, is_no_first_block, is_unwritten, is_wrong_start, may_pass, names_no_place, read_tests, register_tests}
 pub use Rattle.ownership_rules.specs.Rings.{is_transfer_ring}
-unfoldable pub use Rattle.ownership_rules.specs.Rings.{is_bad_free, is_bad_ring, is_bad_segment, is_had, shows_first_lap}
+unfoldable pub use Rattle.ownership_rules.specs.Rings.{goes_badly, is_bad_free, is_bad_kind, is_bad_ring, is_bad_segment, is_had, is_in_use, shows_first_lap}
 unfoldable pub use Rattle.ownership_rules.specs.Rules.{broken, lenient, lenient_tests, tests}
 unfoldable pub use Rattle.ownership_rules.specs.Withdrawals.{has_stopped, is_bad_withdraw, is_left, rests_with, some_flips}
 unfoldable pub use Rattle.ownership_rules.specs.Writes.{changes_owned, holds_of, on_crossing, on_position, some_command, some_crossed, some_given, write_tests}
@@ -42,30 +42,30 @@ pub use Rattle.ring_knowledge.proofs.Ranges.{none_each}
 pub use Rattle.ring_knowledge.proofs.StopSpots.{way_without}
 unfoldable pub use Rattle.ring_knowledge.specs.Completions.{bound_to, changed_by, changed_by as known_changed_by, changed_by_all, changed_by_all as known_changed_by_all, completed, disabled, disabled as known_disabled, finished, finished as known_finished, held_at_ceiling, in_state, in_state as known_in_state, moved, moved_to, pointed, set_to, stop_ended, succeeded, succeeded as known_succeeded, typed, typed as known_typed}
 pub use Rattle.ring_knowledge.specs.Histories.{header_now, known_after, known_now, restored}
-unfoldable pub use Rattle.ring_knowledge.specs.Histories.{forgotten, restored_on, ring_moved, ring_restored}
+unfoldable pub use Rattle.ring_knowledge.specs.Histories.{forgotten, gone, restored_on, ring_moved, ring_restored}
 pub use Rattle.ring_knowledge.specs.Known.{Known}
 unfoldable pub use Rattle.ring_knowledge.specs.Known.{nothing}
 unfoldable pub use Rattle.ring_knowledge.specs.Learned.{event_read, learned}
-unfoldable pub use Rattle.ring_knowledge.specs.Registers.{endpoint_rung, register_written, run_or_stop, rung, valued}
+unfoldable pub use Rattle.ring_knowledge.specs.Registers.{endpoint_rung, register_read, register_written, run_or_stop, rung, runs_again, runs_once, status_read, valued}
 pub use Rattle.ring_knowledge.specs.Rings.{Crossing, Given, Position, RingSpot}
 unfoldable pub use Rattle.ring_knowledge.specs.Rings.{code_told, command_at, event_at, given_by, given_of, next_command, on_ring, spot_on, unfinished, unfinished_positions}
 unfoldable pub use Rattle.ring_knowledge.specs.Transfers.{broken_off, passed, passed as transfers_passed, stopped_at, transfer_read, transferred, transferred_at}
 unfoldable pub use Rattle.ring_knowledge.specs.Writes.{command_given, device_named, entry_of, no_device, taken_device, with_device, with_word, written}
-pub use Rattle.safety.specs.Beneath.{HeldMore, IsHeldMore, IsIdleEndpoint, MayRing, MoreLaw, Square, SquareLaw, is_idle, is_open_if}
+pub use Rattle.safety.specs.Beneath.{HeldMore, IsHeldMore, IsIdleEndpoint, MayRing, MoreLaw, Square, SquareLaw, is_idle, is_open_if, resets_by}
 pub use Rattle.safety.specs.EndpointsKeep.{EndpointsKeep, IsTransferRing as IsTransferTest}
 pub use Rattle.safety.specs.Headline.{Headline}
 pub use Rattle.safety.specs.Invariant.{ArePossible, Ended, Runs, all_read}
-pub use Rattle.safety.specs.Keeps.{CommandKeeps, CommandRingKeeps, CommandRingNamed, DeviceKeeps, DriverKeeps, IsDriverRing, IsTransferRing, IsUnfinished, MovesIf, StatesKeep, Stays, StaysIf, Unstarted}
+pub use Rattle.safety.specs.Keeps.{CommandKeeps, CommandRingKeeps, DeviceKeeps, DriverKeeps, IsDriverRing, IsTransferRing, IsUnfinished, MovesIf, RunKeeps, StatesKeep, Stays, StaysIf, Unstarted}
 pub use Rattle.safety.specs.KeptHistories.{IsDriverRow, MayRead, StillReads}
 pub use Rattle.safety.specs.KeptStep.{CommandsKeep, DevicesKeep, KeptByRestoring, KeptByRows}
 pub use Rattle.safety.specs.LazyRuns.LateEvents.{IsTimely, is_report_of_success}
 unfoldable pub use Rattle.safety.specs.LazyRuns.LateEvents.{is_held_ring, is_late}
 pub use Rattle.safety.specs.LazyRuns.Law.{AllAreRead, AreAtFloors, ContainsAll, FewSteps, GoesSoFar, LazyLaw}
 pub use Rattle.safety.specs.LazyRuns.Lazy.{further as lazy_further}
-unfoldable pub use Rattle.safety.specs.LazyRuns.Lazy.{behind_taken, brought, brought as lazy_brought, command_taken, further, goals, goals as lazy_goals, lazy_run, lazy_steps, looks_to, open_goals, pointers_after, pointers_at, pointers_for, post_of, report_goals, spots_before, steps_before, steps_for, stop_goal, stopped_goals, taken_up_to}
+unfoldable pub use Rattle.safety.specs.LazyRuns.Lazy.{brought, brought as lazy_brought, command_taken, further, goals, goals as lazy_goals, is_first_halt, lazy_run, lazy_steps, looks_to, open_goals, pointers_after, pointers_at, pointers_for, post_of, report_goals, spots_before, steps_before, steps_for, stop_goal, stopped_goals, taken_up_to}
 unfoldable pub use Rattle.safety.specs.LazyRuns.Needs.{begins_anew, ends_need, is_placed_by, is_placed_by_all, need, number_behind, number_reported, ring_placed}
 unfoldable pub use Rattle.safety.specs.LazyRuns.OnLiterals.{lazy_on_literals}
-pub use Rattle.safety.specs.Matches.{Agrees, BoundRing, CommandMatches, EndpointRing, FreeRing, IsUnchanged, Matches, Newest, NotStarted, Rests, RingMatches, RingState, TakenCommand, UnderWayMatches, Unreported, state_of}
+pub use Rattle.safety.specs.Matches.{Agrees, BoundRing, CommandMatches, EndpointRing, FreeRing, IsUnchanged, Matches, Newest, NotNamed, Rests, RingMatches, RingState, TakenCommand, UnderWayMatches, Unreported, state_of}
 pub use Rattle.safety.specs.Placings.{AreFree, MayChange, MayChangeAll, MayFinish, MayPoint, StillHolds}
 pub use Rattle.safety.specs.Restoring.{EndpointRestored, KeepsPassed, MayCome, MovesRestored}
 pub use Rattle.safety.specs.RingChanges.Histories.{AreKept, IsKept}
@@ -132,15 +132,15 @@ pub use Rattle.traces.specs.LivingRings.{header_after}
 unfoldable pub use Rattle.traces.specs.LivingRings.{with_ring, without_ring}
 pub use Rattle.traces.specs.Register.{base_address, command_abort, command_stop, register_or_zero, reset_bit, ring_cycle_state, run_bit, same_register, with_register}
 pub use Rattle.traces.specs.Rows.{AreSteps, IsComing, IsRow, IsStep, is_ring_row}
-pub use Rattle.traces.specs.Versions.{has_isoch, profile_of}
+pub use Rattle.traces.specs.Versions.{has_isoch, profile_of, has_runs}
 pub use Rattle.traces.specs.declared.header.Header.{Header}
 pub use Rattle.traces.specs.declared.register.Register.{Register}
-pub use Rattle.traces.specs.declared.register.Register.TheVariants.{Config, Crcr, Dcbaap, Erdp, Erstba, Erstsz, Usbcmd}
+pub use Rattle.traces.specs.declared.register.Register.TheVariants.{Config, Crcr, Dcbaap, Erdp, Erstba, Erstsz, Usbcmd, Usbsts}
 pub use Rattle.traces.specs.declared.ring.Ring.{Ring}
 pub use Rattle.traces.specs.declared.row.Row.{Row}
-pub use Rattle.traces.specs.declared.row.Row.TheVariants.{Bell, Free as FreeRow, Nop as NopRow, Read, Reg, Ring as RingRow, Sub, Write}
+pub use Rattle.traces.specs.declared.row.Row.TheVariants.{Bell, Free as FreeRow, Nop as NopRow, Read, Reg, RegRead, Ring as RingRow, Sub, Write}
 pub use Rattle.traces.specs.declared.step.Step.{Step}
-pub use Rattle.traces.specs.declared.step.Step.TheVariants.{Finish, Look, NextRow, Other, Report, Scribble}
+pub use Rattle.traces.specs.declared.step.Step.TheVariants.{Finish, Halt, Look, NextRow, Other, Report, Scribble}
 pub use Rattle.traces.specs.declared.version.Version.TheVariants.{One, Three}
 pub use Rattle.trb.proofs.BlockLemmas.{cycle-with_cycle, endpoint-with_cycle, is_set-with_cycle, kind-with_cycle, slot-with_cycle}
 pub use Rattle.trb.specs.Bits.{is_set}
@@ -160,7 +160,7 @@ pub use Rattle.world_state.proofs.Pairs.{put_pair_same}
 pub use Rattle.world_state.proofs.Ranges.{any_in_range}
 unfoldable pub use Rattle.world_state.specs.Bindings.{changed_by as world_changed_by, changed_by_all as world_changed_by_all, disabled as world_disabled, effect, effect as bindings_effect, has_one_of, in_state as world_in_state, inactive, is_had_by_another, placed, placed_on, typed as world_typed}
 pub use Rattle.world_state.specs.DriverRows.{event_read as driver_event_read}
-unfoldable pub use Rattle.world_state.specs.DriverRows.{activated, bell_row, declared as driver_declared, endpoint_bell, endpoint_bell as driver_endpoint_bell, register_row, row_done, run_or_stop as driver_run_or_stop, started_with, valued as driver_valued, with_dequeue}
+unfoldable pub use Rattle.world_state.specs.DriverRows.{activated, bell_row, command_placed, declared as driver_declared, endpoint_bell, endpoint_bell as driver_endpoint_bell, is_command_ring, register_row, reset as driver_reset, resets as driver_resets, row_done, run_or_stop as driver_run_or_stop, runs_again as driver_runs_again, runs_once as driver_runs_once, shows, valued as driver_valued, with_command_ring, with_dequeue}
 unfoldable pub use Rattle.world_state.specs.Finishes.{ended, ended_with, finished as finish_finished, finished_as, passes_end, succeeded as finish_succeeded}
 pub use Rattle.world_state.specs.Harms.{IsSafe}
 unfoldable pub use Rattle.world_state.specs.Harms.{harm_of, harms, has_changed_context, has_other_words, is_changed_since, is_context_changed, is_end, is_inside_descriptor, is_out_of_order, is_right_place, waits}
@@ -168,13 +168,18 @@ unfoldable pub use Rattle.world_state.specs.Looks.{command_begun, crossed, looke
 unfoldable pub use Rattle.world_state.specs.OnLiterals.{world_on_literals}
 unfoldable pub use Rattle.world_state.specs.Posts.{can_post, code_posted, is_last, is_stop_under_way, other_posted, posted, posted as posts_posted, report_code, report_error, report_stop, report_success, reported, reported_on, stopped_with, with_reported, with_stopped}
 pub use Rattle.world_state.specs.RingRows.{is_in_way}
-unfoldable pub use Rattle.world_state.specs.RingRows.{emptied, listed, may_come, without_descriptor}
+unfoldable pub use Rattle.world_state.specs.RingRows.{emptied, listed, may_come, resting, without_descriptor}
 pub use Rattle.world_state.specs.Scenes.{Scene, row_next, scene_ending, scene_reached, step_made, with_coming, with_left, with_world}
 pub use Rattle.world_state.specs.Steps.{NoHarm}
-unfoldable pub use Rattle.world_state.specs.Steps.{counted, is_scribbled, made, made as steps_made, scribbled, while_running}
+unfoldable pub use Rattle.world_state.specs.Steps.{counted, halts, is_scribbled, made, made as steps_made, noting_post, scribbled, until_halted, while_running}
 unfoldable pub use Rattle.world_state.specs.Takes.{declared_next, first_at, is_as_declared, is_place, next_take, takes_of, unreported, was_placed}
 pub use Rattle.world_state.specs.World.{Placed, RingEvent, Took, UnderWay, World}
 unfoldable pub use Rattle.world_state.specs.World.{opening, stored, stored_block}
 pub use Rattle.world_state.specs.declared.harm.Harm.{Harm}
 pub use Rattle.world_state.specs.declared.harm.Harm.TheVariants.{InputContextChanged, LooksOutside, PostsOverUnread, TakenOtherWords, TakenOutOfOrder, WaitsInsideDescriptor}
 pub use native.Mathlib.Numerals.{unary_clauses}
+unfoldable pub use Rattle.ring_knowledge.specs.Resets.{behind_blocks, first_free, given_up, held_at_given, reset, resets}
+pub use Rattle.ownership_rules.specs.Registers.{is_named, is_value, is_in_run, is_restored, is_run, is_used}
+pub use Rattle.traces.specs.Halts.{is_asked, is_done}
+pub use Rattle.traces.specs.declared.halt.Halt.{Halt as HaltState}
+pub use Rattle.traces.specs.declared.halt.Halt.TheVariants.{Asked, Done, Not as NotHalting}

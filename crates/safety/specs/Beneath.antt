@@ -6,11 +6,12 @@ use Rattle.segments.specs.Ceiling.{is_open}
 use Rattle.commands.specs.declared.state.EndpointState.TheVariants.{Running, Halted, Error}
 use Rattle.traces.specs.declared.header.Header.{Header}
 use Rattle.traces.specs.declared.row.Row.{Row}
-use Rattle.traces.specs.declared.row.Row.TheVariants.{Bell, Read}
+use Rattle.traces.specs.declared.row.Row.TheVariants.{Reg, Bell, Read}
 use Rattle.traces.specs.Header.{IsHeader, command_id}
 use Rattle.traces.specs.Rows.{IsRow}
 use Rattle.ring_knowledge.specs.Known.{Known}
 use Rattle.ring_knowledge.specs.Learned.{learned}
+use Rattle.ring_knowledge.specs.Resets.{resets}
 use Rattle.ownership_rules.specs.Rules.{lenient}
 use Rattle.ownership_rules.specs.Doorbells.{is_touched}
 use Rattle.safety.specs.Restoring.{MayCome}
@@ -38,6 +39,11 @@ abbrev pub is_open_if : Known → Option ℕ → Bool
 is_open_if k None = true
 is_open_if k (Some r) = is_open (k.ring r)
 
+-- the row resets the controller
+abbrev pub resets_by : Known → Row → Bool
+resets_by k (Reg r v) = resets k r v
+resets_by k _ = false
+
 module _ (h : Header) where
   -- the doorbell of a ring that is open: nothing is learned
   abbrev pub is_idle : Known → Row → Bool
@@ -63,10 +69,10 @@ module _ (h : Header) where
     pub after : HeldMore (learned h (learned h k (Read e)) d) (learned h (learned h k d) (Read e))
     pub awake : is_idle (learned h k (Read e)) d ≡ false
 
-  -- any row but a stop and an idle doorbell
+  -- any row but a stop, a reset and an idle doorbell
   abbrev pub SquareLaw : Type 0
   SquareLaw = (k : Known) (d : Row) (e : Block) → IsHeader h → IsRow d → IsDriverRow d → DriverKeeps h k → MayCome h k d → lenient h k (Read e) ≡ [] →
-      is_idle k d ≡ false → (learned h k d).stopped ≡ false → Square k d e
+      is_idle k d ≡ false → (learned h k d).stopped ≡ false → resets_by k d ≡ false → Square k d e
 
   -- where rings are held at greater numbers, the same events are possible, and what they lead to is the same but for these numbers
   abbrev pub MoreLaw : Type 0

@@ -1,8 +1,9 @@
 -- The invariant of a run, told of what is known: the unread events, read on top of that, lead to knowledge that agrees with the world
-use Rattle.std.specs.Prelude.{◌≡◌, ◌⊎◌, true, false, List, [], ◌∷◌, All}
+use Rattle.std.specs.Prelude.{◌≡◌, ◌⊎◌, ◌<◌, true, false, List, [], ◌∷◌, All}
 use Rattle.trb.specs.declared.block.Block.{Block}
 use Rattle.trb.specs.Block.{IsBlock}
 use Rattle.traces.specs.declared.header.Header.{Header}
+use Rattle.traces.specs.Header.{event_size}
 use Rattle.traces.specs.declared.row.Row.TheVariants.{Read}
 use Rattle.world_state.specs.World.{World}
 use Rattle.world_state.specs.Harms.{IsSafe}
@@ -33,6 +34,7 @@ module _ (h : Header) where
   pub record Ended (k : Known) (w : World) : Type 0 where
     pub stopped : k.stopped ≡ true
     pub also : w.stopped ≡ true
+    pub ring : 0 < w.posted → 0 < event_size h
     pub safe : IsSafe h w
 
   abbrev pub Holds : Known → World → Type 0

@@ -1,9 +1,9 @@
 -- What a driver that keeps the rules keeps, told of what is known after its rows, without any world
-use Rattle.std.specs.Prelude.{◌≡◌, ◌≢◌, ℕ, ◌+◌, ◌%◌, ◌^◌, ◌<◌, ◌≤◌, ◌⊎◌, Bool, true, false, map, All, Some, None, slice_get, is_some}
+use Rattle.std.specs.Prelude.{◌≡◌, ◌≢◌, ℕ, ◌+◌, ◌%◌, ◌^◌, ◌<◌, ◌≤◌, ◌⊎◌, Bool, true, false, [], map, All, Some, None, slice_get, is_some}
 use Rattle.trb.specs.declared.block.Block.{Block}
 use Rattle.segments.specs.declared.spot.Spot.TheVariants.{Data}
 use Rattle.segments.specs.Places.{address_of, is_in, is_inside, overlap}
-use Rattle.segments.specs.RingView.{floor_number, is_due}
+use Rattle.segments.specs.RingView.{RingView, floor_number, is_due}
 use Rattle.segments.specs.RingKeeps.{RingKeeps, IsRestored}
 use Rattle.segments.specs.Moves.{is_move}
 use Rattle.commands.specs.declared.command.Command.{Command}
@@ -13,10 +13,12 @@ use Rattle.commands.specs.declared.state.EndpointState.TheVariants.{Disabled as 
 use Rattle.commands.specs.Command.{command_of, exclude}
 use Rattle.contexts.specs.Contexts.{device_context_bytes, context_pointer, context_cycle}
 use Rattle.traces.specs.declared.header.Header.{Header}
-use Rattle.traces.specs.declared.register.Register.TheVariants.{Crcr, Dcbaap, Erstsz, Erstba}
+use Rattle.traces.specs.declared.register.Register.TheVariants.{Dcbaap, Erstsz, Erstba}
 use Rattle.traces.specs.declared.ring.Ring.{Ring}
-use Rattle.traces.specs.Header.{ring_with, shape_of, command_id, event_shape, event_size, touches_ring, is_driver_kind, is_transfer_kind}
-use Rattle.traces.specs.Register.{base_address, ring_cycle_state}
+use Rattle.traces.specs.Header.{ring_with, shape_of, command_id, event_shape, event_size, touches_ring, is_driver_kind, is_transfer_kind, no_id}
+use Rattle.traces.specs.Halts.{is_asked, is_done}
+use Rattle.traces.specs.Versions.{has_runs}
+use Rattle.traces.specs.Register.{base_address}
 use Rattle.event_ring.specs.EventRing.{table_bytes}
 use Rattle.ring_knowledge.specs.Known.{Known}
 use Rattle.ring_knowledge.specs.Rings.{command_at}
@@ -25,7 +27,17 @@ use Rattle.ownership_rules.specs.Areas.{is_soiled}
 use Rattle.ownership_rules.specs.Commands as commands
 use Rattle.ownership_rules.specs.Moves as moves
 use Rattle.ownership_rules.specs.Events.{is_stopping_now}
+use Rattle.ownership_rules.specs.Registers.{is_named, is_used}
 use Rattle.safety.specs.Restoring.{MovesRestored}
+
+-- nothing was declared or given of this ring
+pub record IsNobodys (v : RingView) : Type 0 where
+  pub queue : v.queue ≡ []
+  pub lengths : v.lengths ≡ []
+  pub held : v.held ≡ Some 0
+  pub floor : v.floor ≡ Data 0
+  pub given : (p : ℕ) → v.given p ≡ false
+  pub free : (p : ℕ) → v.free p ≡ false
 
 module _ (h : Header) where
   -- r is the ID of a command or transfer ring
@@ -64,15 +76,27 @@ module _ (h : Header) where
     pub first : (s : ℕ) → (k.slot_state s ≡ Disabled) ⊎ (k.slot_state s ≡ Enabled) ⊎ (k.ring_of s 1 ≢ None)
     pub no_device : (s : ℕ) → k.slot_state s ≡ Disabled → k.device s ≡ None
 
-  -- before the start nothing is known of the controller
+  -- before a start nothing is known of the controller
   pub record Unstarted (k : Known) : Type 0 where
     pub reads : k.reads ≡ 0
     pub dequeue : k.dequeue ≡ 0
     pub slots : (s : ℕ) → k.slot_state s ≡ Disabled
     pub rings : (s i : ℕ) → k.ring_of s i ≡ None
-    pub floors : (r : ℕ) → (k.ring r).floor ≡ Data 0
-    pub held : (r : ℕ) → (k.ring r).held ≡ Some 0
     pub seen : (s i : ℕ) → k.stop_seen s i ≡ false
+
+  -- whether the controller runs, and whether CRCR names the command ring
+  pub record RunKeeps (k : Known) : Type 0 where
+    -- what is to halt was started, and runs more than once
+    pub again : is_asked k.halt ≡ true → has_runs h.version ≡ true
+    pub started : is_asked k.halt ≡ true → k.started ≡ true
+    -- while it runs CRCR names the command ring, and while it halts the one that was started
+    pub running : k.started ≡ true → is_done k.halt ≡ false → is_named k ≡ true
+    pub used : k.started ≡ true → is_used h k ≡ true → is_named k ≡ true
+    -- it names a ring that is there; one that isn't wasn't started
+    pub named : is_named k ≡ true → IsDriverRing (command_id h)
+    pub absent : is_used h k ≡ true → IsDriverRing (command_id h)
+    -- before a start it names one that wasn't started
+    pub unused : k.started ≡ false → is_named k ≡ true → is_used h k ≡ false
 
   -- the device context at d, which slot s has under lease
   pub record DeviceKeeps (k : Known) (s d : ℕ) : Type 0 where
@@ -129,12 +153,6 @@ module _ (h : Header) where
     -- nothing is free of a ring that it moves
     pub restored : MovesRestored k c
 
-  -- what is known once the command ring's base is written
-  pub record CommandRingNamed (value : ℕ) : Type 0 where
-    pub is_ring : IsDriverRing (command_id h)
-    pub base : base_address value ≡ address_of (shape_of h (command_id h)) 0
-    pub cycle : ring_cycle_state value ≡ 1
-
   pub record DriverKeeps (k : Known) : Type 0 where
     pub rings : (r : ℕ) → IsDriverRing r → RingKeeps (shape_of h r) k.memory (k.ring r)
     -- no command is withdrawn
@@ -146,8 +164,7 @@ module _ (h : Header) where
     -- an endpoint that has a ring has the numbers of a slot and of an endpoint
     pub numbered : (s i r : ℕ) → k.ring_of s i ≡ Some r → (s < 256) × (i < 32)
     pub unstarted : k.started ≡ false → Unstarted k
-    pub crcr : (v : ℕ) → k.register Crcr ≡ Some v → CommandRingNamed v
-    pub crcr_written : k.started ≡ true → is_some (k.register Crcr) ≡ true
+    pub run : RunKeeps k
     -- there is an event ring before the start: without one an event that is read would have no room
     pub sized : is_some (k.register Erstsz) ≡ true → 0 < event_size h
     pub erstsz_written : k.started ≡ true → is_some (k.register Erstsz) ≡ true
@@ -155,3 +172,5 @@ module _ (h : Header) where
     pub read_room : 0 < k.reads → k.reads + 1 ≤ k.dequeue + event_size h
     pub devices : (s d : ℕ) → k.device s ≡ Some d → DeviceKeeps k s d
     pub unfinished : (p : ℕ) (c : Command) → IsUnfinished k p c → CommandKeeps k p c
+    -- nothing is known of the ID that no ring has: it is the command ring's where none is there
+    pub nobody : (r : ℕ) → r ≡ no_id → IsNobodys (k.ring r)

@@ -5,17 +5,18 @@ use Rattle.trb.specs.Kind.{is_command_completion}
 use Rattle.commands.specs.declared.command.Command.{Command}
 use Rattle.traces.specs.declared.header.Header.{Header}
 use Rattle.traces.specs.declared.row.Row.{Row}
-use Rattle.traces.specs.declared.row.Row.TheVariants.{Sub, Write, Reg, Bell, Read}
+use Rattle.traces.specs.declared.row.Row.TheVariants.{Sub, Write, Reg, Bell, Read, RegRead}
 use Rattle.ring_knowledge.specs.Known.{Known}
 use Rattle.ring_knowledge.specs.Rings.{command_at, next_command}
 use Rattle.safety.specs.Placings.{MayFinish, StillHolds}
 
--- the row declares a descriptor, or writes a word, a register or a doorbell
+-- the row declares a descriptor, writes a word, a register or a doorbell, or reads a register
 abbrev pub IsDriverRow : Row → Type 0
 IsDriverRow (Sub r blocks) = Unit {0}
 IsDriverRow (Write a w) = Unit {0}
 IsDriverRow (Reg r v) = Unit {0}
 IsDriverRow (Bell s t) = Unit {0}
+IsDriverRow (RegRead r v) = Unit {0}
 IsDriverRow _ = ⊥
 
 module _ (h : Header) where

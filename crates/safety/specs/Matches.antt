@@ -22,6 +22,7 @@ use Rattle.world_state.specs.Harms.{is_end, is_out_of_order, has_other_words}
 use Rattle.ring_knowledge.specs.Known.{Known}
 use Rattle.ring_knowledge.specs.Rings.{command_at, next_command}
 use Rattle.ownership_rules.specs.Events.{was_stop_seen}
+use Rattle.ownership_rules.specs.Registers.{is_named, is_used}
 use Rattle.safety.specs.Keeps.{IsUnfinished}
 use Rattle.safety.specs.Stands.{Stands, EventsStand}
 
@@ -109,10 +110,9 @@ module _ (h : Header) where
     pub ring : RingMatches (shape_of h (command_id h)) (k.ring (command_id h)) (state_of w (command_id h)) spot
     pub under_way : UnderWayMatches k spot w.under_way
 
-  -- before the start the command ring's pointer is nowhere yet
-  pub record NotStarted (w : World) : Type 0 where
-    pub inactive : w.is_active (command_id h) ≡ false
-    pub no_events : w.events (command_id h) ≡ []
+  -- while CRCR doesn't name it, the controller has no pointer into the command ring
+  pub record NotNamed (w : World) : Type 0 where
+    pub rests : Rests (shape_of h (command_id h)) (state_of w (command_id h))
     pub none : w.under_way ≡ None
 
   -- no word of the input context was changed after the control word at address at + 12 was last written
@@ -127,12 +127,15 @@ module _ (h : Header) where
     pub isochronous : (s i : ℕ) → w.isochronous s i ≡ k.isochronous s i
     -- any number but the command ring's, also one that no ring has
     pub rings : (r : ℕ) → r ≢ command_id h → EndpointRing k w r
-    pub before : k.started ≡ false → NotStarted w
-    pub command : k.started ≡ true → CommandMatches k w
+    pub before : is_named k ≡ false → NotNamed w
+    pub command : is_named k ≡ true → CommandMatches k w
+    -- nothing was taken of a command ring that wasn't started
+    pub new : is_used h k ≡ false → next_take (shape_of h (command_id h)) (w.events (command_id h)) ≡ 0
     pub scribbles : (s : ℕ) → w.scribbles s ≡ true → k.device s ≢ None
     -- an input context wasn't changed since its command was given
     pub contexts : (p : ℕ) (c : Command) → IsUnfinished h k p c → IsUnchanged w (address_of (shape_of h (command_id h)) p) (named_context c)
     pub inside : w.looked_outside ≡ false
+    pub there : w.posted_nowhere ≡ false
 
   -- a world whose unread events, read beside it, lead to what is known in k
   pub record Agrees (k : Known) (unread : List Block) (w : World) : Type 0 where

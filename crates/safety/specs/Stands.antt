@@ -1,10 +1,12 @@
 -- What the driver did stands in the world, and the events that it hasn't read lie in the event ring
-use Rattle.std.specs.Prelude.{◌≡◌, ℕ, ◌+◌, ◌<◌, Bool, true, false, List, length, Some, slice_get}
+use Rattle.std.specs.Prelude.{◌≡◌, ◌≢◌, ℕ, ◌+◌, ◌<◌, Bool, true, false, List, length, Some, slice_get}
 use Rattle.trb.specs.declared.block.Block.{Block}
 use Rattle.segments.specs.Places.{touches}
 use Rattle.event_ring.specs.EventRing.{AreInOrder}
 use Rattle.traces.specs.declared.header.Header.{Header}
 use Rattle.traces.specs.declared.register.Register.{Register}
+use Rattle.traces.specs.declared.register.Register.TheVariants.{Crcr}
+use Rattle.traces.specs.Halts.{is_asked, is_done}
 use Rattle.traces.specs.Header.{event_shape, event_size}
 use Rattle.world_state.specs.World.{World, event_at}
 use Rattle.ring_knowledge.specs.Known.{Known}
@@ -17,7 +19,12 @@ module _ (h : Header) where
   pub record Stands (k : Known) (w : World) : Type 0 where
     pub started : w.started ≡ k.started
     pub stopped : w.stopped ≡ k.stopped
-    pub registers : (r : Register) → w.register r ≡ k.register r
+    pub halting : w.halting ≡ is_asked k.halt
+    -- a controller that was seen to have halted has; one that has was told to
+    pub halted : is_done k.halt ≡ true → w.halted ≡ true
+    pub told : w.halted ≡ true → is_asked k.halt ≡ true
+    -- (CRCR was read when it was written)
+    pub registers : (r : Register) → r ≢ Crcr → w.register r ≡ k.register r
     pub queues : (r : ℕ) → w.queue r ≡ (k.ring r).queue
     pub lengths : (r : ℕ) → w.lengths r ≡ (k.ring r).lengths
     pub dequeue : w.dequeue ≡ k.dequeue

@@ -1,5 +1,5 @@
 -- The one law of lines that are data: what is read of a line is spelled by it, and what is spelled is read
-use Rattle.trace_reader.proofs.LowerLaws.{rules, ◌≡◌, ◌≢◌, ◌<◌, ◌^◌, ◌∷◌, ◌∙◌, ℕ, inl, inr, true, List, [], length, map, Some, All, refl, sym, ap, subst, arith, eq-eqb, w8, w32, w64, is_some, flat_map, option_map, option_and_then, bytes_eq, and_parts, and_from, cases_Bool, digits_of, bytes_of_8, bytes_of_32, bytes_of_64, IsBlock, ring_name, is_wide, register_name, IsWordAddress, register_named, Kind, Byte, Long, WordAddress, KindOfRing, TransferKind, Tail, Nothing, Event, RegisterValue, Blocks, Segments, Told, Behind, Values, is_known, are_behind, are_fields, told, values, FormOf, form_as, line_named, value_in, Field, Word, Digits, may_be_written, are_written, block_fields, segment_field, register_value_of, Xfer, both_there, both_of, mapped_there, then_there, cond_there, same_bytes, are_same_bytes, number_written, number_read, FitsSegment, segments_written, segments_read, blocks_written, blocks_read, event_written, event_read, only}
+use Rattle.trace_reader.proofs.LowerLaws.{rules, ◌≡◌, ◌≢◌, ◌<◌, ◌^◌, ◌∷◌, ◌∙◌, ℕ, inl, inr, true, false, List, [], length, map, Some, All, refl, sym, ap, subst, arith, eq-eqb, w8, w32, w64, is_some, flat_map, option_map, option_and_then, bytes_eq, and_parts, and_from, cases_Bool, digits_of, bytes_of_8, bytes_of_32, bytes_of_64, IsBlock, ring_name, is_wide, register_name, IsWordAddress, register_named, Kind, Byte, Long, WordAddress, KindOfRing, Tail, Nothing, Event, RegisterValue, Blocks, Segments, Told, Behind, Values, is_known, are_behind, are_fields, told, values, FormOf, form_as, line_named, value_in, Field, Word, Digits, may_be_written, are_written, block_fields, segment_field, register_value_of, Xfer, both_there, both_of, mapped_there, then_there, cond_there, same_bytes, are_same_bytes, number_written, number_read, FitsSegment, segments_written, segments_read, blocks_written, blocks_read, event_written, event_read, only}
 use Rattle.trace_reader.specs.Grammar.{behind, Line, Number, form_in}
 use Rattle.trace_reader.proofs.SpelledWords.{address_there, address_of_number, two_of, two_written, kind_word, word_kind, register_word, word_register, value_there, value_of_number, some_blocks, four_for_each}
 
@@ -10,16 +10,15 @@ Fits Byte n = n < 2 ^ 8
 Fits Number n = n < 2 ^ 32
 Fits Long n = n < 2 ^ 64
 Fits WordAddress n = IsWordAddress n
-Fits KindOfRing kind = Unit {0}
-Fits TransferKind kind = kind ≡ Xfer
+Fits (KindOfRing true) kind = Unit {0}
+Fits (KindOfRing false) kind = kind ≡ Xfer
 
 abbrev pub kind_field : (k : Kind) → Told k → Field
 kind_field Byte n = Digits (digits_of w8 n)
 kind_field Number n = Digits (digits_of w32 n)
 kind_field Long n = Digits (digits_of w64 n)
 kind_field WordAddress n = Digits (digits_of w64 n)
-kind_field KindOfRing kind = Word (ring_name kind)
-kind_field TransferKind kind = Word (ring_name kind)
+kind_field (KindOfRing any) kind = Word (ring_name kind)
 
 told_written : (k : Kind) (field : List ℕ) (v : Told k) → told k field ≡ Some v → (may_be_written (kind_field k v) field ≡ true) × Fits k v
 told_written Byte field v is = number_written w8 bytes_of_8 field v is
@@ -28,16 +27,16 @@ told_written Long field v is = number_written w64 bytes_of_64 field v is
 told_written WordAddress field v is =
     let n = number_written w64 bytes_of_64 field v (address_there field v is).0 in
     (n.0, ((address_there field v is).1, n.1))
-told_written KindOfRing field v is = (kind_word field v is, tt)
-told_written TransferKind field v is = search (rules, cond_there)
+told_written (KindOfRing true) field v is = (kind_word field v is, tt)
+told_written (KindOfRing false) field v is = search (rules, cond_there)
 
 told_read : (k : Kind) (field : List ℕ) (v : Told k) → Fits k v → may_be_written (kind_field k v) field ≡ true → (told k field ≡ Some v) × (is_known k field ≡ true)
 told_read Byte field v fits is = (number_read w8 bytes_of_8 field v fits is, refl)
 told_read Number field v fits is = (number_read w32 bytes_of_32 field v fits is, refl)
 told_read Long field v fits is = (number_read w64 bytes_of_64 field v fits is, refl)
 told_read WordAddress field v fits is = (address_of_number field v (number_read w64 bytes_of_64 field v fits.1 is) fits.0, refl)
-told_read KindOfRing field v fits is = let kind = word_kind field v is in (kind, ap is_some kind)
-told_read TransferKind field v fits is = search rules
+told_read (KindOfRing true) field v fits is = let kind = word_kind field v is in (kind, ap is_some kind)
+told_read (KindOfRing false) field v fits is = search rules
 
 -- ---- the fields that come last
 
@@ -110,14 +109,10 @@ all_read (k ∷ ks) tail (field ∷ fields) v fits is =
 
 -- ---- a table of lines
 
--- nothing more is told of what a line says
-abbrev pub AnySort : {T : Type 0} → Line T → T → Type 0
-AnySort l t = Unit {0}
-
-module _ {T : Type 0} (fields_said : T → List Field) (FitsValue : T → Type 0) (IsSort : Line T → T → Type 0) where
+module _ {T : Type 0} (fields_said : T → List Field) (FitsValue : T → Type 0) where
   -- what a line says is spelled by its word and its fields
   abbrev pub IsLine : Line T → Type 0
-  IsLine l = (v : Values l.kinds l.tail) → (fields_said (l.make v) ≡ Word l.word ∷ all_fields l.kinds l.tail v) × (AllFit l.kinds l.tail v → FitsValue (l.make v)) × IsSort l (l.make v)
+  IsLine l = (v : Values l.kinds l.tail) → (fields_said (l.make v) ≡ Word l.word ∷ all_fields l.kinds l.tail v) × (AllFit l.kinds l.tail v → FitsValue (l.make v))
 
   abbrev pub AreLines : List (Line T) → Type 0
   AreLines [] = Unit {0}
@@ -142,7 +137,7 @@ module _ {T : Type 0} (fields_said : T → List Field) (FitsValue : T → Type 0
 
   module _ (lines : List (Line T)) where
     pub table_written : AreLines lines → (fields : List (List ℕ)) (form : FormOf T) (t : T) → form_in lines fields ≡ Some form → value_in form ≡ Some t →
-        (are_written (fields_said t) fields ≡ true) × FitsValue t × IsSort form.0 t
+        (are_written (fields_said t) fields ≡ true) × FitsValue t
     table_written are [] form t is says = cc is
     table_written are (word ∷ fields) form t is says =
         let p = then_there (λ l. form_as l fields) (line_named lines word) form is in

@@ -24,10 +24,8 @@ pub mod Unspelled
 pub mod Lowered
 pub mod LineByLine
 pub mod SpelledPlans
-pub mod RingLines
 pub mod LineSteps
 pub mod PlanSteps
-pub mod EventLines
 pub mod SpelledSchedules
 pub mod ScheduleSteps
 pub mod RowsAhead

@@ -1,14 +1,14 @@
 -- A line without a fault: what it says, and that it spells it
-use Rattle.trace_reader.proofs.LowerLaws.{rules, ◌≡◌, ◌≤◌, ◌||◌, ◌∙◌, ℕ, Bool, true, false, not, nat_lt, Option, Some, None, Ok, Err, is_none, refl, sym, ap, arith, le-ltb, ltb-false, ne_eqb, option_and_then, option_map_or, not-false, or_parts, fields_of, has_empty_field, TextLine, length-fields_of, is_shape, LineFault, Ring, Row, has_ring_rows, row_fields, Form, most_of, most_declared, State, next_number, form_in, said_in, is_bad_row, is_bad_number, is_too_much, is_past_limit, is_too_long, is_misplaced, is_bad_shape, row_fault, line_fault, with_said, after, read_line, said_of, Said, SaysRing, AllSound, all_filled, then_there, written_lengths}
+use Rattle.trace_reader.proofs.LowerLaws.{rules, ◌≡◌, ◌≤◌, ◌||◌, ◌∙◌, ℕ, Bool, true, false, not, nat_lt, Option, Some, None, Ok, Err, is_none, refl, sym, ap, arith, le-ltb, ltb-false, ne_eqb, option_and_then, option_map_or, not-false, or_parts, fields_of, has_empty_field, TextLine, length-fields_of, is_shape, LineFault, Ring, Row, row_fields, Form, most_of, most_declared, State, next_number, form_in, said_in, is_bad_row, is_bad_number, is_too_much, is_past_limit, is_too_long, is_misplaced, is_bad_shape, row_fault, line_fault, with_said, after, read_line, said_of, Said, SaysRing, AllSound, all_filled, then_there, written_lengths}
 use Rattle.trace_reader.proofs.SpelledSaid.{IsRead, IsSpelled, fields_said, read_from_spelled, spelled_from_read, stands}
 use Rattle.trace_reader.proofs.SpelledHeaders.{shape_says}
-use Rattle.trace_reader.proofs.SpelledSizes.{row_sound, ring_sound, sub_length, write_length, reg_length, bell_length, read_length, ring_length, goes_length, withdraws_length}
+use Rattle.trace_reader.proofs.SpelledSizes.{row_sound, ring_sound, sub_length, write_length, reg_length, reg_read_length, bell_length, read_length, ring_length, goes_length, withdraws_length}
 
 -- the line spells it, and it may stand there
 pub record IsGood (st : State) (line : TextLine) (s : Said) : Type 0 where
   pub ended : line.is_ended ≡ true
   pub spelled : IsSpelled s (fields_of line.content)
-  pub ordered : stands (has_ring_rows st.version) st.begun s ≡ true
+  pub ordered : stands st.version st.begun s ≡ true
   pub within : next_number st ≤ most_of st
   pub few : is_too_much s ≡ false
   pub placed : is_misplaced st.rings st.later s ≡ false
@@ -52,7 +52,7 @@ record SaidBy (st : State) (line : TextLine) (s : Said) : Type 0 where
   formed : form_in st line ≡ Some form
   says : said_of form ≡ Some s
   spelled : IsSpelled s (fields_of line.content)
-  ordered : stands (has_ring_rows st.version) st.begun s ≡ true
+  ordered : stands st.version st.begun s ≡ true
 
 said_by : (st : State) (line : TextLine) (s : Said) → said_in st line ≡ Some s → SaidBy st line s
 unfolding said_in form_in
@@ -96,7 +96,7 @@ allowed ring other placed = not-false (is_shape ring.shape) ((or_parts (not (is_
 
 short_line : (st : State) (line : TextLine) (s : Said) → IsGood st line s → is_too_long line ≡ false
 unfolding is_too_long row_fields
-short_line st line s good = search (rules, length-fields_of, written_lengths, fields_said, sub_length, few_blocks, write_length, reg_length, bell_length, read_length, ring_length, shape_says, allowed, goes_length, withdraws_length)
+short_line st line s good = search (rules, length-fields_of, written_lengths, fields_said, sub_length, few_blocks, write_length, reg_length, reg_read_length, bell_length, read_length, ring_length, shape_says, allowed, goes_length, withdraws_length)
 
 read_in : (st : State) (line : TextLine) (s : Said) → IsRead st.version st.begun s (fields_of line.content) → said_in st line ≡ Some s
 unfolding said_in form_in

@@ -1,5 +1,5 @@
 -- What is read of a text is the valid plan that the text spells
-use Rattle.trace_reader.proofs.UpperLaws.{rules, ◌≡◌, ◌<◌, ◌≤◌, ◌^◌, ◌∷◌, ◌∙◌, ℕ, inl, inr, true, false, List, [], length, map, None, Result, Ok, All, IsTrue, refl, sym, ap, arith, codes, le-ltb, and_parts, and_from, cases_Bool, or_parts, fields_of, TextLine, lines_of, is_shape, IsBlock, RingKind, Evt, LineFault, PlanLine, Ret, Ring, is_event_kind, most_lines, lines_say, PlanText, declares_too_much, is_plan_version, plan_form_of, plan_in, plan_line, plan_line_fault, plan_of, plan_ring, plan_ring_fault, plan_value, ret_line, ring_alone, ring_line_form, ring_value, plan_sub_line, with_ring, IsPlan, plan_line_fields, plan_text_lines, plan_version_fields, spells_plan, IsPlanLine, are_written, is_written, lines_written, ring_fields, AnySort, AreLines, IsSaid, table_read, table_written, AreSpelled, IsSpelling, line_read, line_spells, lines_read, lines_spell, two_words, words_written, are_same_bytes, FitsRing, ring_fits, shape_says, few_blocks, blocks_length, blocks_sound, digits_64, digits_8, ring_length, ring_sound, sixteen_digits, sound_named, two_digits}
+use Rattle.trace_reader.proofs.UpperLaws.{rules, ◌≡◌, ◌<◌, ◌≤◌, ◌^◌, ◌∷◌, ◌∙◌, ℕ, inl, inr, true, false, List, [], length, map, None, Result, Ok, All, IsTrue, refl, sym, ap, arith, codes, le-ltb, and_parts, and_from, cases_Bool, or_parts, fields_of, TextLine, lines_of, is_shape, IsBlock, RingKind, Evt, LineFault, PlanLine, Ret, Ring, is_event_kind, most_lines, lines_say, PlanText, declares_too_much, is_plan_version, plan_form_of, plan_in, plan_line, plan_line_fault, plan_of, plan_ring, plan_ring_fault, plan_value, ret_line, ring_alone, ring_line_form, ring_value, plan_sub_line, with_ring, IsPlan, plan_line_fields, plan_text_lines, plan_version_fields, spells_plan, IsPlanLine, are_written, is_written, lines_written, ring_fields, AreLines, IsSaid, table_read, table_written, AreSpelled, IsSpelling, line_read, line_spells, lines_read, lines_spell, two_words, words_written, are_same_bytes, FitsRing, ring_fits, shape_says, few_blocks, blocks_length, blocks_sound, digits_64, digits_8, ring_length, ring_sound, sixteen_digits, sound_named, two_digits}
 use Rattle.traces.specs.declared.plan.PlanLine.TheVariants.{Sub}
 
 -- ---- the ring's line
@@ -7,11 +7,11 @@ use Rattle.traces.specs.declared.plan.PlanLine.TheVariants.{Sub}
 plan_ring_tests : (ring : Ring) → plan_ring_fault ring ≡ None → (is_shape ring.shape ≡ true) × (is_event_kind ring.shape.kind ≡ false)
 plan_ring_tests ring none = search (rules, or_parts)
 
-ring_is_line : AreLines ring_fields FitsRing AnySort (ring_alone ∷ [])
+ring_is_line : AreLines ring_fields FitsRing (ring_alone ∷ [])
 unfolding ring_fields
-ring_is_line = ((λ v. (refl, (λ fits. record { id = fits.0; some = fits.1.1.1; segments = fits.1.1.0 }), tt)), tt)
+ring_is_line = ((λ v. (refl, (λ fits. record { id = fits.0; some = fits.1.1.1; segments = fits.1.1.0 }))), tt)
 
-ring_is_said : (ring : Ring) → IsSaid ring_fields FitsRing AnySort (ring_alone ∷ []) ring
+ring_is_said : (ring : Ring) → IsSaid ring_fields FitsRing (ring_alone ∷ []) ring
 unfolding ring_fields
 ring_is_said ring =
     record { line = ring_alone; says = (ring.id, (ring.shape.kind, ring.shape.segments)); makes = refl; named = refl; spelled = refl; fits = λ is. (is.id, (tt, (is.segments, is.some))) }
@@ -19,8 +19,8 @@ ring_is_said ring =
 ring_spelling : IsSpelling ring_line_form ring_value plan_ring_fault ring_fields FitsRing
 unfolding ring_line_form ring_value
 ring_spelling = record {
-  to_fields = λ fields form ring formed valued. let p = table_written ring_fields FitsRing AnySort (ring_alone ∷ []) ring_is_line fields form ring formed valued in (p.0, p.1);
-  to_form = λ fields ring fits written. table_read ring_fields FitsRing AnySort (ring_alone ∷ []) ring_is_said fields ring fits written;
+  to_fields = table_written ring_fields FitsRing (ring_alone ∷ []) ring_is_line;
+  to_form = table_read ring_fields FitsRing (ring_alone ∷ []) ring_is_said;
   sound = ring_sound;
   short = λ ring fits none. ring_length ring ((shape_says ring.shape ((plan_ring_tests ring none).0)).few);
 }
@@ -31,11 +31,11 @@ FitsPlanLine : PlanLine → Type 0
 FitsPlanLine (Sub ring blocks) = (ring < 256) × All IsBlock blocks × (0 < length blocks)
 FitsPlanLine (Ret upto) = upto < 2 ^ 64
 
-plan_are_lines : AreLines plan_line_fields FitsPlanLine AnySort (plan_sub_line ∷ ret_line ∷ [])
+plan_are_lines : AreLines plan_line_fields FitsPlanLine (plan_sub_line ∷ ret_line ∷ [])
 unfolding plan_line_fields FitsPlanLine
-plan_are_lines = ((λ v. (refl, (λ fits. (fits.0, fits.1.0, fits.1.1)), tt)), ((λ v. (refl, (λ fits. fits.0), tt)), tt))
+plan_are_lines = ((λ v. (refl, (λ fits. (fits.0, fits.1.0, fits.1.1)))), ((λ v. (refl, (λ fits. fits.0))), tt))
 
-each_is_said : (line : PlanLine) → IsSaid plan_line_fields FitsPlanLine AnySort (plan_sub_line ∷ ret_line ∷ []) line
+each_is_said : (line : PlanLine) → IsSaid plan_line_fields FitsPlanLine (plan_sub_line ∷ ret_line ∷ []) line
 unfolding plan_line_fields FitsPlanLine
 each_is_said (Sub ring blocks) = record { line = plan_sub_line; says = (ring, blocks); makes = refl; named = refl; spelled = refl; fits = λ is. (is.0, (is.1, is.2)) }
 each_is_said (Ret upto) = record { line = ret_line; says = (upto, tt); makes = refl; named = refl; spelled = refl; fits = λ is. (is, tt) }
@@ -46,8 +46,8 @@ line_limits number line none = search (rules, or_parts)
 line_spelling : (number : ℕ) → IsSpelling plan_form_of plan_value (plan_line_fault number) plan_line_fields FitsPlanLine
 unfolding plan_form_of plan_value plan_line_fields FitsPlanLine
 line_spelling number = record {
-  to_fields = λ fields form line formed valued. let p = table_written plan_line_fields FitsPlanLine AnySort (plan_sub_line ∷ ret_line ∷ []) plan_are_lines fields form line formed valued in (p.0, p.1);
-  to_form = λ fields line fits written. table_read plan_line_fields FitsPlanLine AnySort (plan_sub_line ∷ ret_line ∷ []) each_is_said fields line fits written;
+  to_fields = table_written plan_line_fields FitsPlanLine (plan_sub_line ∷ ret_line ∷ []) plan_are_lines;
+  to_form = table_read plan_line_fields FitsPlanLine (plan_sub_line ∷ ret_line ∷ []) each_is_said;
   sound = (search (rules, sound_named, digits_8, blocks_sound, digits_64));
   short = (search (rules, few_blocks, line_limits, two_digits, blocks_length, sixteen_digits));
 }

@@ -1,10 +1,10 @@
 -- What is read of a text is the valid schedule that the text spells
-use Rattle.trace_reader.proofs.UpperLaws.{rules, ◌≡◌, ◌∷◌, ℕ, inl, inr, true, List, [], map, Ok, IsTrue, refl, arith, codes, le-ltb, ltb-false, and_parts, and_from, cases_Bool, fields_of, TextLine, lines_of, Step, NextRow, Look, Report, Finish, Other, Scribble, most_schedule_lines, IsStep, finish_line, is_schedule_version, look_line, other_line, report_line, row_line, schedule_in, schedule_of, scrib_line, step_fault, step_form_of, step_line, step_lines, step_value, IsSchedule, printed_schedule, schedule_lines, schedule_version_fields, spells_schedule, step_fields, are_written, is_written, lines_written, AnySort, IsSaid, table_read, table_written, AreSpelled, IsSpelling, line_read, line_spells, lines_read, lines_spell, two_words, words_written, AllSound, are_same_bytes, block_length, block_sound, digits_32, digits_64, digits_8, eight_digits, sixteen_digits, sound_named, two_digits}
+use Rattle.trace_reader.proofs.UpperLaws.{rules, ◌≡◌, ◌∷◌, ℕ, inl, inr, true, List, [], map, Ok, IsTrue, refl, arith, codes, le-ltb, ltb-false, and_parts, and_from, cases_Bool, fields_of, TextLine, lines_of, Step, NextRow, Look, Report, Finish, Other, Scribble, most_schedule_lines, IsStep, finish_line, is_schedule_version, look_line, other_line, report_line, row_line, schedule_in, schedule_of, scrib_line, step_fault, step_form_of, step_line, step_lines, step_value, IsSchedule, printed_schedule, schedule_lines, schedule_version_fields, spells_schedule, step_fields, are_written, is_written, lines_written, IsSaid, table_read, table_written, AreSpelled, IsSpelling, line_read, line_spells, lines_read, lines_spell, two_words, words_written, AllSound, are_same_bytes, block_length, block_sound, digits_32, digits_64, digits_8, eight_digits, sixteen_digits, sound_named, two_digits, Halt, halt_line}
 use Rattle.trace_reader.proofs.Printed.{AllSoundLines, IsSoundLine, printed_lines, sound_lines_map}
 
 -- ---- each step's line
 
-each_is_said : (step : Step) → IsSaid step_fields IsStep AnySort step_lines step
+each_is_said : (step : Step) → IsSaid step_fields IsStep step_lines step
 unfolding step_fields
 each_is_said NextRow = record { line = row_line; says = tt; makes = refl; named = refl; spelled = refl; fits = λ is. is }
 each_is_said (Look ring) = record { line = look_line; says = (ring, tt); makes = refl; named = refl; spelled = refl; fits = λ is. (is, tt) }
@@ -12,6 +12,7 @@ each_is_said (Report event) = record { line = report_line; says = event; makes =
 each_is_said (Finish event) = record { line = finish_line; says = event; makes = refl; named = refl; spelled = refl; fits = λ is. is }
 each_is_said (Other event) = record { line = other_line; says = event; makes = refl; named = refl; spelled = refl; fits = λ is. is }
 each_is_said (Scribble at word) = record { line = scrib_line; says = (at, (word, tt)); makes = refl; named = refl; spelled = refl; fits = λ is. (is.0, (is.1, tt)) }
+each_is_said Halt = record { line = halt_line; says = tt; makes = refl; named = refl; spelled = refl; fits = λ is. is }
 
 -- ---- a line
 
@@ -22,8 +23,8 @@ step_sound step = search (rules, sound_named, digits_8, block_sound, digits_64, 
 step_spelling : (number : ℕ) → IsSpelling step_form_of step_value (step_fault number) step_fields IsStep
 unfolding step_form_of step_value step_fields
 step_spelling number = record {
-  to_fields = λ fields form step formed valued. let p = table_written step_fields IsStep AnySort step_lines (grind arith) fields form step formed valued in (p.0, p.1);
-  to_form = λ fields step is written. table_read step_fields IsStep AnySort step_lines each_is_said fields step is written;
+  to_fields = table_written step_fields IsStep step_lines (grind arith);
+  to_form = table_read step_fields IsStep step_lines each_is_said;
   sound = step_sound;
   short = λ step is none. (search (rules, two_digits, block_length, sixteen_digits, eight_digits));
 }

@@ -1,5 +1,5 @@
 -- The fields of rows and rings: none is empty or has a space, and all fit a line
-use Rattle.trace_reader.proofs.LowerLaws.{rules, common_steps, ◌≡◌, ◌*◌, ◌<◌, ◌≤◌, ◌∷◌, ◌∙◌, ℕ, true, List, [], length, map, All, refl, ap, arith, codes, nat_lt, w8, w32, w64, ltb-true, flat_map, list_all, map-append, AllPass-from_list_all, All-weaker, All-append, All-head, All-tail, digits_of, digits_stay_lower, length-digits_of, spaced_length, IsBlock, ring_name, Block, RingKind, Segment, register_name, most_bytes, most_declared, Word, Digits, printed, block_fields, segment_field, row_fields, ring_fields, Register, Ring, Sub, Write, Reg, Bell, Read, Row, FreeRow, NopRow, IsSound, AllSound, sound_word, sound_digits, sound_append, sound_map, plain_digits, are_same_bytes, spaced_length-append, word_field}
+use Rattle.trace_reader.proofs.LowerLaws.{rules, common_steps, ◌≡◌, ◌*◌, ◌<◌, ◌≤◌, ◌∷◌, ◌∙◌, ℕ, true, List, [], length, map, All, refl, ap, arith, codes, nat_lt, w8, w32, w64, ltb-true, flat_map, list_all, map-append, AllPass-from_list_all, All-weaker, All-append, All-head, All-tail, digits_of, digits_stay_lower, length-digits_of, spaced_length, IsBlock, ring_name, Block, RingKind, Segment, register_name, most_bytes, most_declared, Word, Digits, printed, block_fields, segment_field, row_fields, ring_fields, Register, Ring, Sub, Write, Reg, Bell, Read, Row, FreeRow, NopRow, IsSound, AllSound, sound_word, sound_digits, sound_append, sound_map, plain_digits, are_same_bytes, spaced_length-append, word_field, RegRead}
 
 -- ---- soundness
 
@@ -88,6 +88,10 @@ write_length at word = omega (arith, sixteen_digits at, eight_digits word)
 pub reg_length : (register : Register) (value : ℕ) → spaced_length (map printed (row_fields (Reg register value))) ≤ most_bytes
 unfolding row_fields
 reg_length register value = omega (arith, register_length register, sixteen_digits value)
+
+pub reg_read_length : (register : Register) (value : ℕ) → spaced_length (map printed (row_fields (RegRead register value))) ≤ most_bytes
+unfolding row_fields
+reg_read_length register value = omega (arith, register_length register, sixteen_digits value)
 
 pub bell_length : (slot target : ℕ) → spaced_length (map printed (row_fields (Bell slot target))) ≤ most_bytes
 unfolding row_fields

@@ -46,7 +46,7 @@ pub use Rattle.trace_reader.specs.Entries.{Answers, AnswersRow, IfBadLine, IfFau
 unfoldable pub use Rattle.trace_reader.specs.Entries.{content_fault, said_by_fields, said_by_line, word_named}
 pub use Rattle.trace_reader.specs.Forms.{are_blocks, named}
 unfoldable pub use Rattle.trace_reader.specs.Forms.{kind_named, register_named}
-pub use Rattle.trace_reader.specs.Grammar.{Behind, Blocks, Byte, Event, FormOf, Kind, KindOfRing, Long, Nothing, RegisterValue, Segments, Tail, Told, TransferKind, Values, WordAddress, are_behind, are_fields, form_as, is_known, line_named, told, value_in, values}
+pub use Rattle.trace_reader.specs.Grammar.{Behind, Blocks, Byte, Event, FormOf, Kind, KindOfRing, Long, Nothing, RegisterValue, Segments, Tail, Told, Values, WordAddress, are_behind, are_fields, form_as, is_known, line_named, told, value_in, values}
 pub use Rattle.trace_reader.specs.LineAnswers.{AnswersBy, faulted_by, valued_by}
 pub use Rattle.trace_reader.specs.LineByLine.{next_value}
 unfoldable pub use Rattle.trace_reader.specs.LineByLine.{line_says, lines_say}
@@ -60,10 +60,10 @@ unfoldable pub use Rattle.trace_reader.specs.Reading.{after, form_in, is_bad_num
 pub use Rattle.trace_reader.specs.RowsAhead.{BeginsWithRow}
 pub use Rattle.trace_reader.specs.ScheduleSpelling.{IsSchedule, schedule_version_fields}
 unfoldable pub use Rattle.trace_reader.specs.ScheduleSpelling.{printed_schedule, schedule_lines, spells_schedule, step_fields}
-pub use Rattle.trace_reader.specs.Schedules.{event_form, finish_line, look_line, other_line, report_line, row_line, schedule_in, scrib_line, step_fault, step_line, step_lines}
+pub use Rattle.trace_reader.specs.Schedules.{finish_line, look_line, other_line, report_line, row_line, schedule_in, scrib_line, step_fault, step_line, step_lines, halt_line}
 unfoldable pub use Rattle.trace_reader.specs.Schedules.{is_schedule_version, schedule_of, step_form_of, step_value}
 pub use Rattle.trace_reader.specs.SegmentsApart.{AreSegmentsOf, LieApart, is_second}
-pub use Rattle.trace_reader.specs.Spelling.{Digits, Field, Word, are_written, block_fields, is_written, lines_written, may_be_written, printed, segment_field, size_fields, version_fields}
+pub use Rattle.trace_reader.specs.Spelling.{Digits, Field, Word, are_written, block_fields, is_written, lines_written, may_be_written, printed, segment_field, size_fields, version_fields, version_word}
 unfoldable pub use Rattle.trace_reader.specs.Spelling.{printed_line, printed_trace, ring_fields, row_fields, spells, trace_lines}
 pub use Rattle.trace_reader.specs.Streaming.Ahead.{Comes, IsFilled, IsHeld, OfLater, OfText, ahead_of, has_come}
 pub use Rattle.trace_reader.specs.Streaming.Answers.{IsCall, behind_answer, fault_of, has_ended}
@@ -72,14 +72,13 @@ pub use Rattle.trace_reader.specs.Streaming.RowByRow.{Call, Progress, behind_lin
 unfoldable pub use Rattle.trace_reader.specs.Streaming.RowByRow.{next_row, opened, opened_in}
 pub use Rattle.trace_reader.specs.Streaming.Streams.{IsReadTo, OfStream, read_with, IsBadLine}
 pub use Rattle.trace_reader.specs.Streaming.WholeTexts.{AreNumbered, AreOfLines, GivenRows, IsBehind, answered, joined, joined_behind, rows_given}
-pub use Rattle.trace_reader.specs.TraceLines.{Form, bell_line, comes_line, driver_lines, event_line, goes_line, reg_line, ring_line, ring_lines, sub_line, withdraws_line, write_line}
+pub use Rattle.trace_reader.specs.TraceLines.{Form, bell_line, comes_line, event_line, goes_line, reg_line, ring_line, sub_line, withdraws_line, write_line, reg_read_line, said_lines}
 unfoldable pub use Rattle.trace_reader.specs.TraceLines.{form_of, said_of}
 pub use Rattle.trace_reader.specs.Valid.{IsTrace}
 pub use Rattle.trace_reader.specs.Values.{Said, SaysRing, SaysRow, both, cons, event_of}
 unfoldable pub use Rattle.trace_reader.specs.Values.{block_of, blocks_of, register_value_of, segments_of, word_address_of}
 pub use Rattle.trace_reader.specs.declared.entry.FirstWord.{FirstWord}
-pub use Rattle.trace_reader.specs.declared.entry.FirstWord.TheVariants.{Db, Ev, Free as FreeWord, Nop as NopWord, Reg as RegWord, Ring as RingWord, Sub as SubWord, W}
-pub use Rattle.trace_reader.specs.declared.entry.RingEntry.{RingEntry}
+pub use Rattle.trace_reader.specs.declared.entry.FirstWord.TheVariants.{Db, Ev, Reg as RegWord, Sub as SubWord, W}
 pub use Rattle.trace_reader.specs.declared.fault.LineError.{LineError}
 pub use Rattle.trace_reader.specs.declared.fault.LineError.TheVariants.{Fault, Memory}
 pub use Rattle.trace_reader.specs.declared.fault.LineFault.{LineFault}
@@ -96,7 +95,7 @@ pub use Rattle.traces.specs.PlanLines.{IsPlanLine}
 pub use Rattle.traces.specs.Register.{is_wide, register_name}
 pub use Rattle.traces.specs.Rows.{FitsLine, IsRow, IsStep, IsWordAddress}
 pub use Rattle.traces.specs.TraceRows.{IsTraceRow, begins_with_ring, has_used_id, have_new_ids, ids_with, is_of_version, AreRowsOf, IsRowOf}
-pub use Rattle.traces.specs.Versions.{has_ring_rows}
+pub use Rattle.traces.specs.Versions.{has_runs}
 pub use Rattle.traces.specs.declared.header.Header.{Header}
 pub use Rattle.traces.specs.declared.plan.PlanLine.{PlanLine}
 pub use Rattle.traces.specs.declared.plan.PlanLine.TheVariants.{Ret}
@@ -104,11 +103,11 @@ pub use Rattle.traces.specs.declared.register.Register.{Register}
 pub use Rattle.traces.specs.declared.register.Register.TheVariants.{Config, Crcr, Dcbaap, Dnctrl, Erdp, Erstba, Erstsz, Iman, Imod, Usbcmd, Usbsts}
 pub use Rattle.traces.specs.declared.ring.Ring.{Ring}
 pub use Rattle.traces.specs.declared.row.Row.{Row}
-pub use Rattle.traces.specs.declared.row.Row.TheVariants.{Bell, Read, Reg, Sub, Write, Ring as RingRow, Free as FreeRow, Nop as NopRow}
+pub use Rattle.traces.specs.declared.row.Row.TheVariants.{Bell, Read, Reg, Sub, Write, Ring as RingRow, Free as FreeRow, Nop as NopRow, RegRead}
 pub use Rattle.traces.specs.declared.step.Step.{Step}
-pub use Rattle.traces.specs.declared.step.Step.TheVariants.{Finish, Look, NextRow, Other, Report, Scribble}
+pub use Rattle.traces.specs.declared.step.Step.TheVariants.{Finish, Look, NextRow, Other, Report, Scribble, Halt}
 pub use Rattle.traces.specs.declared.version.Version.{Version}
-pub use Rattle.traces.specs.declared.version.Version.TheVariants.{One, Two}
+pub use Rattle.traces.specs.declared.version.Version.TheVariants.{One, Two, Three, Four}
 pub use Rattle.trb.specs.Block.{IsBlock}
 pub use Rattle.trb.specs.RingKind.{ring_name}
 pub use Rattle.trb.specs.declared.block.Block.{Block}

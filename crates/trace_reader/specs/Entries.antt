@@ -1,8 +1,10 @@
 -- What the reader's functions answer, in the words of Reading
-use Rattle.std.specs.Prelude.{◌≡◌, ℕ, Bool, true, false, not, List, [], ◌∷◌, ◌++◌, length, Option, Some, None, Result, Ok, Err, nat_lt, codes, if◌then◌else◌}
+use Rattle.std.specs.Prelude.{◌≡◌, ℕ, Bool, true, false, not, List, [], ◌∷◌, ◌++◌, length, map, Option, Some, None, Result, Ok, Err, nat_lt, codes, if◌then◌else◌}
 use Rattle.std.specs.Option.{option_map_or}
 use Rattle.std.specs.Str.{bytes_eq}
-use Rattle.segments.specs.ShapeValue.{shape_of}
+use Rattle.segments.specs.ShapeValue.{segment_of, shape_of}
+use Rattle.segments.specs.declared.segment.Segment.{Segment}
+use Rattle.trb.specs.declared.ring_kind.RingKind.{RingKind}
 use Rattle.line_text.specs.Fields.{fields_of, has_empty_field}
 use Rattle.line_text.specs.Lines.{TextLine}
 use Rattle.trace_reader.specs.declared.fault.LineFault.{LineFault}
@@ -19,14 +21,16 @@ use Rattle.trace_reader.specs.declared.entry.RowEntry.TheVariants.{Plain as Plai
 use Rattle.trace_reader.specs.declared.entry.FirstWord.{FirstWord}
 use Rattle.trace_reader.specs.declared.so_far.TraceSoFar.{TraceSoFar}
 use Rattle.traces.specs.declared.ring.Ring.{Ring}
-use Rattle.trace_reader.specs.declared.entry.FirstWord.TheVariants.{Sub as SubWord, W, Reg as RegWord, Db, Ev, Ring as RingWord, Free as FreeWord, Nop as NopWord}
+use Rattle.trace_reader.specs.declared.entry.FirstWord.TheVariants.{Sub as SubWord, W, Reg as RegWord, Db, Ev, Ring as RingWord, Free as FreeWord, Nop as NopWord, Rd}
 use Rattle.traces.specs.declared.row.Row.{Row}
 use Rattle.traces.specs.declared.trace.Trace.{Trace}
 use Rattle.traces.specs.declared.row.Row.TheVariants.{Ring as RingRow}
 use Rattle.traces.specs.declared.version.Version.{Version}
+use Rattle.traces.specs.Versions.{has_ring_rows, has_runs}
 use Rattle.trace_reader.specs.Grammar.{form_as}
 use Rattle.trace_reader.specs.Grammar as grammar
-use Rattle.trace_reader.specs.TraceLines.{Form, form_of, said_of, sub_line, write_line, reg_line, bell_line, event_line, ring_line, comes_line, goes_line, withdraws_line}
+use Rattle.trace_reader.specs.TraceLines.{Form, form_of, said_of, sub_line, write_line, reg_line, bell_line, event_line, ring_line, comes_line, goes_line, withdraws_line, reg_read_line}
+use Rattle.trace_reader.specs.LineAnswers.{valued_by}
 use Rattle.traces.specs.Limits.{most_bytes}
 use Rattle.trace_reader.specs.Reading.{State, TraceText, behind_row, is_bad_row, is_past_limit, is_misplaced, is_too_long, read_line, said_in, with_said}
 use Rattle.trace_reader.specs.Values.{Said, SaysRow, SaysRing}
@@ -34,6 +38,10 @@ use Rattle.trace_reader.specs.Values.{Said, SaysRow, SaysRing}
 -- a ring as its line says
 abbrev pub ring_of : RingEntry → Ring
 ring_of ring = record { id = ring.id; shape = shape_of ring.kind ring.segments.items }
+
+-- what the line of a ring says behind its first word
+abbrev pub said_of_ring : RingEntry → ℕ × (RingKind × List Segment)
+said_of_ring ring = (ring.id, (ring.kind, map segment_of ring.segments.items))
 
 -- a row as its line says
 abbrev pub row_of : RowEntry → Row
@@ -76,34 +84,35 @@ word_named word =
     else if bytes_eq word (codes "ring") then Some RingWord
     else if bytes_eq word (codes "free") then Some FreeWord
     else if bytes_eq word (codes "nop") then Some NopWord
+    else if bytes_eq word (codes "rd") then Some Rd
     else None
 
--- the form of such a line, where the version has rows of rings
+-- the form of such a line, where the version has it
 abbrev pub form_if : Bool → grammar.Line Said → List (List ℕ) → Option Form
 form_if true line fields = form_as line fields
 form_if false line fields = None
 
 -- a ring of the header, where no row has begun the rows; else one that comes
-abbrev pub ring_form : Bool → Bool → List (List ℕ) → Option Form
-ring_form ring_rows false fields = form_as ring_line fields
-ring_form ring_rows true fields = form_if ring_rows comes_line fields
+abbrev pub ring_form : Version → Bool → List (List ℕ) → Option Form
+ring_form version false fields = form_as ring_line fields
+ring_form version true fields = form_if (has_ring_rows version) (comes_line (has_runs version)) fields
 
 -- the form of the fields behind the first word
-abbrev pub form_behind : Bool → Bool → Option FirstWord → List (List ℕ) → Option Form
-form_behind ring_rows begun (Some SubWord) fields = form_as sub_line fields
-form_behind ring_rows begun (Some W) fields = form_as write_line fields
-form_behind ring_rows begun (Some RegWord) fields = form_as reg_line fields
-form_behind ring_rows begun (Some Db) fields = form_as bell_line fields
-form_behind ring_rows begun (Some Ev) fields = form_as event_line fields
-form_behind ring_rows begun (Some RingWord) fields = ring_form ring_rows begun fields
-form_behind ring_rows begun (Some FreeWord) fields = form_if ring_rows goes_line fields
-form_behind ring_rows begun (Some NopWord) fields = form_if ring_rows withdraws_line fields
-form_behind ring_rows begun None fields = None
+abbrev pub form_behind : Version → Bool → Option FirstWord → List (List ℕ) → Option Form
+form_behind version begun (Some SubWord) fields = form_as sub_line fields
+form_behind version begun (Some W) fields = form_as write_line fields
+form_behind version begun (Some RegWord) fields = form_as reg_line fields
+form_behind version begun (Some Db) fields = form_as bell_line fields
+form_behind version begun (Some Ev) fields = form_as event_line fields
+form_behind version begun (Some RingWord) fields = ring_form version begun fields
+form_behind version begun (Some FreeWord) fields = form_if (has_ring_rows version) goes_line fields
+form_behind version begun (Some NopWord) fields = form_if (has_ring_rows version) withdraws_line fields
+form_behind version begun (Some Rd) fields = form_if (has_runs version) reg_read_line fields
+form_behind version begun None fields = None
 
 -- a line of this form, by its numbers
 abbrev pub said_by : Option Form → Result Said LineFault
-said_by None = Err BadRow
-said_by (Some form) = option_map_or Ok (said_of form) (Err Number)
+said_by form = valued_by said_of form
 
 -- a line of these fields
 unfoldable pub said_by_fields : Version → Bool → List (List ℕ) → Result Said LineFault

@@ -1,5 +1,5 @@
 -- The words of a line, and how many fields a declaration has
-use Rattle.std.specs.Prelude.{ℕ, ◌%◌, ◌==◌, Bool, false, List, [], ◌∷◌, length, Option, Some, None, codes, if◌then◌else◌}
+use Rattle.std.specs.Prelude.{ℕ, ◌%◌, ◌==◌, Bool, true, false, List, [], ◌∷◌, length, Option, Some, None, codes, if◌then◌else◌}
 use Rattle.std.specs.Str.{bytes_eq}
 use Rattle.trb.specs.declared.ring_kind.RingKind.{RingKind}
 use Rattle.trb.specs.declared.ring_kind.RingKind.TheVariants.{Cmd, Evt, Xfer}
@@ -14,6 +14,11 @@ kind_named word =
     else if bytes_eq word (codes "evt") then Some Evt
     else if bytes_eq word (codes "xfer") then Some Xfer
     else None
+
+-- the kind of a ring by its word: any kind, or that of a transfer ring alone
+abbrev pub kind_among : Bool → List ℕ → Option RingKind
+kind_among true word = kind_named word
+kind_among false word = if bytes_eq word (codes "xfer") then Some Xfer else None
 
 abbrev pub named : List ℕ → List Register → Option Register
 named word [] = None

@@ -1,5 +1,5 @@
 -- Lines as data: a first word, the kinds of the fields behind it, and what comes last
-use Rattle.std.specs.Prelude.{ℕ, ◌==◌, ◌&&◌, Bool, true, false, List, [], ◌∷◌, length, Option, Some, None, is_some, codes, if◌then◌else◌}
+use Rattle.std.specs.Prelude.{ℕ, ◌==◌, ◌&&◌, Bool, true, false, List, [], ◌∷◌, length, Option, Some, None, is_some, if◌then◌else◌}
 use Rattle.std.specs.Int.{w8, w32, w64}
 use Rattle.std.specs.Option.{option_map, option_and_then}
 use Rattle.std.specs.Str.{bytes_eq}
@@ -7,19 +7,17 @@ use Rattle.line_text.specs.Numbers.{number_of}
 use Rattle.segments.specs.declared.segment.Segment.{Segment}
 use Rattle.trb.specs.declared.block.Block.{Block}
 use Rattle.trb.specs.declared.ring_kind.RingKind.{RingKind}
-use Rattle.trb.specs.declared.ring_kind.RingKind.TheVariants.{Xfer}
 use Rattle.traces.specs.declared.register.Register.{Register}
-use Rattle.trace_reader.specs.Forms.{are_blocks, kind_named, register_named}
+use Rattle.trace_reader.specs.Forms.{are_blocks, kind_among, register_named}
 use Rattle.trace_reader.specs.Values.{both, blocks_of, event_of, register_value_of, segments_of, word_address_of}
 
--- one field: a number by its digits, the address of a word, the kind of a ring, the kind of a transfer ring alone
+-- one field: a number by its digits, the address of a word, the kind of a ring (any, or that of a transfer ring alone)
 pub data Kind : Type 0 where
   Byte : Kind
   Number : Kind
   Long : Kind
   WordAddress : Kind
-  KindOfRing : Kind
-  TransferKind : Kind
+  KindOfRing : (any : Bool) → Kind
 
 -- the fields that come last
 pub data Tail : Type 0 where
@@ -35,8 +33,7 @@ Told Byte = ℕ
 Told Number = ℕ
 Told Long = ℕ
 Told WordAddress = ℕ
-Told KindOfRing = RingKind
-Told TransferKind = RingKind
+Told (KindOfRing any) = RingKind
 
 abbrev pub Behind : Tail → Type 0
 Behind Nothing = Unit {0}
@@ -51,8 +48,7 @@ Values (k ∷ ks) tail = Told k × Values ks tail
 
 -- a word is one of those that are known
 abbrev pub is_known : Kind → List ℕ → Bool
-is_known KindOfRing field = is_some (kind_named field)
-is_known TransferKind field = bytes_eq field (codes "xfer")
+is_known (KindOfRing any) field = is_some (kind_among any field)
 is_known Byte field = true
 is_known Number field = true
 is_known Long field = true
@@ -79,8 +75,7 @@ told Byte field = number_of w8 field
 told Number field = number_of w32 field
 told Long field = number_of w64 field
 told WordAddress field = word_address_of field
-told KindOfRing field = kind_named field
-told TransferKind field = if bytes_eq field (codes "xfer") then Some Xfer else None
+told (KindOfRing any) field = kind_among any field
 
 abbrev pub register_behind : List (List ℕ) → Option (Register × ℕ)
 register_behind (name ∷ value ∷ []) = option_and_then (λ r. option_map (λ v. (r, v)) (register_value_of r value)) (register_named name)

@@ -1,5 +1,5 @@
 -- How a plan is read from its text: one ring, and what is done on it
-use Rattle.std.specs.Prelude.{ℕ, ◌&&◌, ◌||◌, Bool, false, not, List, [], ◌∷◌, length, nat_lt, Option, Some, None, Result, Ok, Err, codes, if◌then◌else◌}
+use Rattle.std.specs.Prelude.{ℕ, ◌&&◌, ◌||◌, Bool, true, false, not, List, [], ◌∷◌, length, nat_lt, Option, Some, None, Result, Ok, Err, codes, if◌then◌else◌}
 use Rattle.std.specs.Str.{bytes_eq}
 use Rattle.line_text.specs.Lines.{TextLine, lines_of}
 use Rattle.segments.specs.Shape.{is_shape}
@@ -21,7 +21,7 @@ is_plan_version line = line.is_ended && bytes_eq line.content (codes "xplan 1")
 -- ---- the line of the ring
 
 abbrev pub ring_alone : Line Ring
-ring_alone = record { word = codes "ring"; kinds = Byte ∷ KindOfRing ∷ []; tail = Segments; make = ring_as }
+ring_alone = record { word = codes "ring"; kinds = Byte ∷ KindOfRing true ∷ []; tail = Segments; make = ring_as }
 
 unfoldable pub ring_line_form : List (List ℕ) → Option (FormOf Ring)
 ring_line_form fields = form_in (ring_alone ∷ []) fields

@@ -71,7 +71,7 @@ form_in st line = form_of st.version st.begun (fields_of line.content)
 unfoldable pub said_in : State → TextLine → Option Said
 said_in st line = option_and_then said_of (form_in st line)
 
--- 2 Row: no line feed at the end, an empty field, or no form: so is a ring behind a row, where the version has no such rows
+-- 2 Row: no line feed at the end, an empty field, or no form: so is a row that the version hasn't, as a ring behind a row before version 2
 unfoldable pub is_bad_row : State → TextLine → Bool
 is_bad_row st line = not line.is_ended || has_empty_field (fields_of line.content) || is_none (form_in st line)
 

@@ -5,7 +5,7 @@ use Rattle.std.specs.List.{flat_map}
 use Rattle.line_text.specs.Lines.{lines_of}
 use Rattle.line_text.specs.Numbers.{digits_of}
 use Rattle.traces.specs.declared.step.Step.{Step}
-use Rattle.traces.specs.declared.step.Step.TheVariants.{NextRow, Look, Report, Finish, Other, Scribble}
+use Rattle.traces.specs.declared.step.Step.TheVariants.{NextRow, Look, Report, Finish, Other, Scribble, Halt}
 use Rattle.traces.specs.Limits.{most_schedule_lines}
 use Rattle.traces.specs.Rows.{AreSteps}
 use Rattle.trace_reader.specs.Spelling.{Field, Word, Digits, block_fields, lines_written, printed_line}
@@ -17,6 +17,7 @@ step_fields (Report event) = Word (codes "report") ∷ block_fields event
 step_fields (Finish event) = Word (codes "finish") ∷ block_fields event
 step_fields (Other event) = Word (codes "other") ∷ block_fields event
 step_fields (Scribble at word) = Word (codes "scrib") ∷ Digits (digits_of w64 at) ∷ Digits (digits_of w32 word) ∷ []
+step_fields Halt = Word (codes "halt") ∷ []
 
 abbrev pub schedule_version_fields : List Field
 schedule_version_fields = Word (codes "xsched") ∷ Word (codes "1") ∷ []

@@ -1,11 +1,11 @@
 -- How a schedule is read from its text: the steps of a run
-use Rattle.std.specs.Prelude.{ℕ, ◌==◌, ◌&&◌, Bool, List, [], ◌∷◌, length, nat_lt, Option, Some, None, Result, Err, codes, if◌then◌else◌}
+use Rattle.std.specs.Prelude.{ℕ, ◌&&◌, Bool, List, [], ◌∷◌, nat_lt, Option, Some, None, Result, Err, codes, if◌then◌else◌}
 use Rattle.std.specs.Str.{bytes_eq}
 use Rattle.line_text.specs.Lines.{TextLine, lines_of}
 use Rattle.trace_reader.specs.declared.fault.LineFault.{LineFault}
 use Rattle.trace_reader.specs.declared.fault.LineFault.TheVariants.{Header as BadHeader, Limit}
 use Rattle.traces.specs.declared.step.Step.{Step}
-use Rattle.traces.specs.declared.step.Step.TheVariants.{NextRow, Look, Report, Finish, Other, Scribble}
+use Rattle.traces.specs.declared.step.Step.TheVariants.{NextRow, Look, Report, Finish, Other, Scribble, Halt}
 use Rattle.traces.specs.Limits.{most_schedule_lines}
 use Rattle.trace_reader.specs.LineByLine.{line_says, lines_say}
 use Rattle.trace_reader.specs.Grammar.{Byte, Number, WordAddress, Nothing, Event, Line, FormOf, form_in, value_in}
@@ -13,10 +13,6 @@ use Rattle.trace_reader.specs.Grammar.{Byte, Number, WordAddress, Nothing, Event
 -- 1 Header: the first line is `xsched 1`
 unfoldable pub is_schedule_version : TextLine → Bool
 is_schedule_version line = line.is_ended && bytes_eq line.content (codes "xsched 1")
-
--- the four words of a block
-abbrev pub event_form : List (List ℕ) → Option (List (List ℕ))
-event_form words = if length words == 4 then Some words else None
 
 abbrev pub row_line : Line Step
 row_line = record { word = codes "row"; kinds = []; tail = Nothing; make = λ v. NextRow }
@@ -36,8 +32,11 @@ other_line = record { word = codes "other"; kinds = []; tail = Event; make = Oth
 abbrev pub scrib_line : Line Step
 scrib_line = record { word = codes "scrib"; kinds = WordAddress ∷ Number ∷ []; tail = Nothing; make = λ v. Scribble v.0 v.1.0 }
 
+abbrev pub halt_line : Line Step
+halt_line = record { word = codes "halt"; kinds = []; tail = Nothing; make = λ v. Halt }
+
 abbrev pub step_lines : List (Line Step)
-step_lines = row_line ∷ look_line ∷ report_line ∷ finish_line ∷ other_line ∷ scrib_line ∷ []
+step_lines = row_line ∷ look_line ∷ report_line ∷ finish_line ∷ other_line ∷ scrib_line ∷ halt_line ∷ []
 
 unfoldable pub step_form_of : List (List ℕ) → Option (FormOf Step)
 step_form_of fields = form_in step_lines fields

@@ -13,7 +13,7 @@ use Rattle.trb.specs.declared.block.Block.{Block}
 use Rattle.trb.specs.RingKind.{ring_name}
 use Rattle.traces.specs.declared.ring.Ring.{Ring}
 use Rattle.traces.specs.declared.row.Row.{Row}
-use Rattle.traces.specs.declared.row.Row.TheVariants.{Sub, Write, Reg, Bell, Read, Ring as RingRow, Free as FreeRow, Nop as NopRow}
+use Rattle.traces.specs.declared.row.Row.TheVariants.{Sub, Write, Reg, Bell, Read, Ring as RingRow, Free as FreeRow, Nop as NopRow, RegRead}
 use Rattle.traces.specs.Register.{register_name}
 use Rattle.traces.specs.declared.version.Version.{Version}
 use Rattle.traces.specs.declared.version.Version.TheVariants.{One, Two, Three, Four}
@@ -53,6 +53,7 @@ row_fields (Read event) = Word (codes "ev") ∷ block_fields event
 row_fields (RingRow ring) = ring_fields ring
 row_fields (FreeRow ring) = Word (codes "free") ∷ Digits (digits_of w8 ring) ∷ []
 row_fields (NopRow ring position) = Word (codes "nop") ∷ Digits (digits_of w8 ring) ∷ Digits (digits_of w64 position) ∷ []
+row_fields (RegRead register value) = Word (codes "rd") ∷ Word (register_name register) ∷ Digits (digits_of w64 value) ∷ []
 
 abbrev pub size_word : ContextSize → List ℕ
 size_word Bytes32 = codes "20"

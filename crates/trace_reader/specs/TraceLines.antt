@@ -1,10 +1,12 @@
 -- The lines of a trace behind its first two, as data: which there are, by the trace's version and by whether rows have begun
 use Rattle.std.specs.Prelude.{ℕ, Bool, true, false, List, [], ◌∷◌, ◌++◌, Option, codes}
-use Rattle.traces.specs.Versions.{has_ring_rows}
+use Rattle.segments.specs.declared.segment.Segment.{Segment}
+use Rattle.trb.specs.declared.ring_kind.RingKind.{RingKind}
+use Rattle.traces.specs.Versions.{has_ring_rows, has_runs}
 use Rattle.traces.specs.declared.ring.Ring.{Ring}
-use Rattle.traces.specs.declared.row.Row.TheVariants.{Sub, Write, Reg, Bell, Read, Ring as RingRow, Free as FreeRow, Nop as NopRow}
+use Rattle.traces.specs.declared.row.Row.TheVariants.{Sub, Write, Reg, Bell, Read, Ring as RingRow, Free as FreeRow, Nop as NopRow, RegRead}
 use Rattle.traces.specs.declared.version.Version.{Version}
-use Rattle.trace_reader.specs.Grammar.{Byte, Number, Long, WordAddress, KindOfRing, TransferKind, Nothing, Event, RegisterValue, Blocks, Segments, Values, Line, FormOf, form_in, value_in}
+use Rattle.trace_reader.specs.Grammar.{Byte, Number, Long, WordAddress, KindOfRing, Nothing, Event, RegisterValue, Blocks, Segments, Line, FormOf, form_in, value_in}
 use Rattle.trace_reader.specs.Values.{Said, SaysRow, SaysRing}
 
 -- ---- what the driver does
@@ -24,21 +26,25 @@ bell_line = record { word = codes "db"; kinds = Byte ∷ Byte ∷ []; tail = Not
 abbrev pub event_line : Line Said
 event_line = record { word = codes "ev"; kinds = []; tail = Event; make = λ v. SaysRow (Read v) }
 
+-- a register was read
+abbrev pub reg_read_line : Line Said
+reg_read_line = record { word = codes "rd"; kinds = []; tail = RegisterValue; make = λ v. SaysRow (RegRead v.0 v.1) }
+
 abbrev pub driver_lines : List (Line Said)
 driver_lines = sub_line ∷ write_line ∷ reg_line ∷ bell_line ∷ event_line ∷ []
 
 -- ---- rings
 
-abbrev pub ring_as : Values (Byte ∷ KindOfRing ∷ []) Segments → Ring
+abbrev pub ring_as : ℕ × (RingKind × List Segment) → Ring
 ring_as v = record { id = v.0; shape = record { kind = v.1.0; segments = v.1.1 } }
 
 -- a ring of the header
 abbrev pub ring_line : Line Said
-ring_line = record { word = codes "ring"; kinds = Byte ∷ KindOfRing ∷ []; tail = Segments; make = λ v. SaysRing (ring_as v) }
+ring_line = record { word = codes "ring"; kinds = Byte ∷ KindOfRing true ∷ []; tail = Segments; make = λ v. SaysRing (ring_as v) }
 
--- a transfer ring that comes behind the first row
-abbrev pub comes_line : Line Said
-comes_line = record { word = codes "ring"; kinds = Byte ∷ TransferKind ∷ []; tail = Segments; make = λ v. SaysRow (RingRow (ring_as v)) }
+-- a ring that comes behind the first row: of any kind, or a transfer ring alone
+abbrev pub comes_line : Bool → Line Said
+comes_line any = record { word = codes "ring"; kinds = Byte ∷ KindOfRing any ∷ []; tail = Segments; make = λ v. SaysRow (RingRow (ring_as v)) }
 
 abbrev pub goes_line : Line Said
 goes_line = record { word = codes "free"; kinds = Byte ∷ []; tail = Nothing; make = λ v. SaysRow (FreeRow v.0) }
@@ -46,15 +52,19 @@ goes_line = record { word = codes "free"; kinds = Byte ∷ []; tail = Nothing; m
 abbrev pub withdraws_line : Line Said
 withdraws_line = record { word = codes "nop"; kinds = Byte ∷ Long ∷ []; tail = Nothing; make = λ v. SaysRow (NopRow v.0 v.1.0) }
 
--- the lines of rings, where the version has rows of rings, or not, and where rows have begun, or not
-abbrev pub ring_lines : Bool → Bool → List (Line Said)
-ring_lines false false = ring_line ∷ []
-ring_lines false true = []
-ring_lines true false = ring_line ∷ goes_line ∷ withdraws_line ∷ []
-ring_lines true true = comes_line ∷ goes_line ∷ withdraws_line ∷ []
+-- lines that the version has, or not
+abbrev pub if_has : Bool → List (Line Said) → List (Line Said)
+if_has true lines = lines
+if_has false lines = []
+
+-- the line of a ring, where rows have begun, or not
+abbrev pub lines_of_ring : Version → Bool → List (Line Said)
+lines_of_ring version false = ring_line ∷ []
+lines_of_ring version true = if_has (has_ring_rows version) (comes_line (has_runs version) ∷ [])
 
 abbrev pub said_lines : Version → Bool → List (Line Said)
-said_lines version begun = driver_lines ++ ring_lines (has_ring_rows version) begun
+said_lines version begun =
+    driver_lines ++ lines_of_ring version begun ++ if_has (has_ring_rows version) (goes_line ∷ withdraws_line ∷ []) ++ if_has (has_runs version) (reg_read_line ∷ [])
 
 -- a line with the fields behind its word, before a number is looked at
 abbrev pub Form : Type 0

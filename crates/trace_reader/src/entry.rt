@@ -1,15 +1,13 @@
-ghost use Rattle.std.specs.Prelude.{◌≡◌, ◌≤◌, ◌∷◌, Some, None, length, map, IfOk, IfErr, IfSome, IfNone};
+ghost use Rattle.std.specs.Prelude.{◌≡◌, ◌≤◌, ◌∷◌, [], Some, None, length, map, IfOk, IfErr, IfSome, IfNone};
 ghost use Rattle.segments.specs.ShapeValue.{segment_of};
 ghost use Rattle.trace_reader.specs.declared.fault.LineFault.{LineFault};
-ghost use Rattle.trace_reader.specs.Entries.{Answers, IfFault, form_if, ring_form, ring_of, said_by, said_by_fields, word_named};
-ghost use Rattle.trace_reader.specs.Forms.{kind_named, named, register_named};
-ghost use Rattle.trace_reader.specs.Grammar.{form_as};
-ghost use Rattle.trace_reader.specs.TraceLines.{bell_line, comes_line, event_line, goes_line, reg_line, ring_line, sub_line, withdraws_line, write_line};
-ghost use Rattle.traces.specs.Versions.{has_ring_rows};
-ghost use Rattle.trace_reader.specs.LineAnswers.{AnswersBy, valued_by};
-ghost use Rattle.trace_reader.specs.Plans.{ring_alone, ring_value};
-ghost use Rattle.trace_reader.specs.Schedules.{event_form};
-ghost use Rattle.trace_reader.specs.Values.{SaysRow, block_of, blocks_of, cons, event_of, register_value_of, segments_of, word_address_of};
+ghost use Rattle.trace_reader.specs.Entries.{Answers, IfFault, form_if, ring_form, said_by, said_by_fields, said_of_ring, word_named};
+ghost use Rattle.trace_reader.specs.Forms.{kind_among, kind_named, named, register_named};
+ghost use Rattle.trace_reader.specs.Grammar.{Byte, Event, KindOfRing, RegisterValue, Segments, form_as};
+ghost use Rattle.trace_reader.specs.TraceLines.{bell_line, comes_line, event_line, goes_line, reg_line, reg_read_line, ring_line, sub_line, withdraws_line, write_line};
+ghost use Rattle.traces.specs.Versions.{has_ring_rows, has_runs};
+ghost use Rattle.trace_reader.specs.LineAnswers.{AnswersBy, fields_say};
+ghost use Rattle.trace_reader.specs.Values.{SaysRow, block_of, blocks_of, cons, register_value_of, segments_of, word_address_of};
 ghost use Rattle.trace_reader.specs.Values as values;
 
 use crate::fault::{LineError, LineFault};
@@ -66,6 +64,7 @@ pub fn entry_of(
         Some(FirstWord::Ring) => ring_entry(alloc, version, begun, count - 1, fields),
         Some(FirstWord::Free) => goes_entry(version, fields),
         Some(FirstWord::Nop) => withdraws_entry(version, fields),
+        Some(FirstWord::Rd) => reg_read_entry(version, fields),
         None => Err(LineFault::Row.into()),
     }
 }
@@ -81,6 +80,7 @@ enum FirstWord {
     Ring,
     Free,
     Nop,
+    Rd,
 }
 
 #[tactic(auto, unfolding(crate::specs::Entries::word_named))]
@@ -103,6 +103,8 @@ fn word_named(word: &[u8]) -> Option<FirstWord>
         Some(FirstWord::Free)
     } else if word == b"nop".as_slice() {
         Some(FirstWord::Nop)
+    } else if word == b"rd".as_slice() {
+        Some(FirstWord::Rd)
     } else {
         None
     }
@@ -144,18 +146,26 @@ fn write_entry(mut fields: Fields) -> Result<Entry, LineError>
 }
 
 #[tactic(auto, unfolding(crate::specs::TraceLines::said_of))]
-fn reg_entry(mut fields: Fields) -> Result<Entry, LineError>
+fn reg_entry(fields: Fields) -> Result<Entry, LineError>
     ensures { Answers result (said_by (form_as reg_line fields.entry)) }
+{
+    let (register, value) = register_behind(fields)?;
+    let row = PlainRow {
+        row: Row::Reg { register, value },
+    };
+    Ok(Entry::Row(RowEntry::Plain(row)))
+}
+
+/// A register and its value.
+fn register_behind(mut fields: Fields) -> Result<(Register, u64), LineError>
+    ensures { AnswersBy (λ said. said) result (fields_say [] RegisterValue fields.entry) }
 {
     let (Some(name), Some(value), None) = (fields.next(), fields.next(), fields.next()) else {
         return Err(LineFault::Row.into());
     };
     let register = register_named(name).ok_or(LineFault::Row)?;
     let value = register_value_of(register, value).ok_or(LineFault::Number)?;
-    let row = PlainRow {
-        row: Row::Reg { register, value },
-    };
-    Ok(Entry::Row(RowEntry::Plain(row)))
+    Ok((register, value))
 }
 
 #[tactic(auto, unfolding(crate::specs::TraceLines::said_of))]
@@ -173,6 +183,7 @@ fn bell_entry(mut fields: Fields) -> Result<Entry, LineError>
     Ok(Entry::Row(RowEntry::Plain(row)))
 }
 
+#[tactic(auto, unfolding(crate::specs::TraceLines::said_of))]
 fn read_entry(fields: Fields) -> Result<Entry, LineError>
     ensures { Answers result (said_by (form_as event_line fields.entry)) }
 {
@@ -185,7 +196,7 @@ fn read_entry(fields: Fields) -> Result<Entry, LineError>
 
 /// The block of exactly four words.
 pub fn event_behind(mut fields: Fields) -> Result<Block, LineError>
-    ensures { AnswersBy (λ event. event) result (valued_by event_of (event_form fields.entry)) }
+    ensures { AnswersBy (λ event. event) result (fields_say [] Event fields.entry) }
 {
     let words = (fields.next(), fields.next(), fields.next(), fields.next());
     let (Some(a), Some(b), Some(c), Some(d)) = words else {
@@ -206,7 +217,7 @@ fn ring_entry(
     fields: Fields,
 ) -> Result<Entry, LineError>
     requires { count ≡ length fields }
-    ensures { Answers result (said_by (ring_form (has_ring_rows version) begun fields.entry)) }
+    ensures { Answers result (said_by (ring_form version begun fields.entry)) }
 {
     if !begun {
         return header_ring(alloc, count, fields);
@@ -214,33 +225,26 @@ fn ring_entry(
     if !version.has_ring_rows() {
         return Err(LineFault::Row.into());
     }
-    comes_entry(alloc, count, fields)
+    comes_entry(alloc, version.has_runs(), count, fields)
 }
 
 /// A ring of the header.
+#[tactic(auto, unfolding(crate::specs::TraceLines::said_of))]
 fn header_ring(alloc: Global, count: usize, fields: Fields) -> Result<Entry, LineError>
     requires { count ≡ length fields }
     ensures { Answers result (said_by (form_as ring_line fields.entry)) }
 {
-    Ok(Entry::Ring(ring_behind(alloc, count, fields)?))
+    Ok(Entry::Ring(ring_behind(alloc, true, count, fields)?))
 }
 
-/// A ring that comes: a transfer ring.
+/// A ring that comes: of any kind, or a transfer ring alone.
 #[tactic(auto, unfolding(crate::specs::TraceLines::said_of))]
-fn comes_entry(alloc: Global, count: usize, mut fields: Fields) -> Result<Entry, LineError>
+fn comes_entry(alloc: Global, any: bool, count: usize, fields: Fields) -> Result<Entry, LineError>
     requires { count ≡ length fields }
-    ensures { Answers result (said_by (form_as comes_line fields.entry)) }
+    ensures { Answers result (said_by (form_as (comes_line any) fields.entry)) }
 {
-    let (Some(id), Some(kind)) = (fields.next(), fields.next()) else {
-        return Err(LineFault::Row.into());
-    };
-    if count < 3 || kind != b"xfer".as_slice() {
-        return Err(LineFault::Row.into());
-    }
-    let id = u8_of(id).ok_or(LineFault::Number)?;
-    let segments = segments_of(alloc, fields)?;
-    let kind = RingKind::Xfer;
-    Ok(Entry::Row(RowEntry::Comes(RingEntry { id, kind, segments })))
+    let ring = ring_behind(alloc, any, count, fields)?;
+    Ok(Entry::Row(RowEntry::Comes(ring)))
 }
 
 #[tactic(auto, unfolding(crate::specs::TraceLines::said_of))]
@@ -278,11 +282,30 @@ fn withdraws_entry(version: Version, mut fields: Fields) -> Result<Entry, LineEr
     Ok(Entry::Row(RowEntry::Plain(row)))
 }
 
-/// The ring of the fields behind the word `ring`.
-#[tactic(auto, unfolding(crate::specs::Plans::ring_value))]
-pub fn ring_behind(alloc: Global, count: usize, mut fields: Fields) -> Result<RingEntry, LineError>
+/// A register was read.
+#[tactic(auto, unfolding(crate::specs::TraceLines::said_of))]
+fn reg_read_entry(version: Version, fields: Fields) -> Result<Entry, LineError>
+    ensures { Answers result (said_by (form_if (has_runs version) reg_read_line fields.entry)) }
+{
+    if !version.has_runs() {
+        return Err(LineFault::Row.into());
+    }
+    let (register, value) = register_behind(fields)?;
+    let row = PlainRow {
+        row: Row::RegRead { register, value },
+    };
+    Ok(Entry::Row(RowEntry::Plain(row)))
+}
+
+/// The ring of the fields behind the word `ring`: of any kind, or a transfer ring alone.
+pub fn ring_behind(
+    alloc: Global,
+    any: bool,
+    count: usize,
+    mut fields: Fields,
+) -> Result<RingEntry, LineError>
     requires { count ≡ length fields }
-    ensures { AnswersBy ring_of result (valued_by ring_value (form_as ring_alone fields.entry)) }
+    ensures { AnswersBy said_of_ring result (fields_say (Byte ∷ KindOfRing any ∷ []) Segments fields.entry) }
 {
     let (Some(id), Some(kind)) = (fields.next(), fields.next()) else {
         return Err(LineFault::Row.into());
@@ -290,10 +313,20 @@ pub fn ring_behind(alloc: Global, count: usize, mut fields: Fields) -> Result<Ri
     if count < 3 {
         return Err(LineFault::Row.into());
     }
-    let kind = kind_named(kind).ok_or(LineFault::Row)?;
+    let kind = kind_among(any, kind).ok_or(LineFault::Row)?;
     let id = u8_of(id).ok_or(LineFault::Number)?;
     let segments = segments_of(alloc, fields)?;
     Ok(RingEntry { id, kind, segments })
+}
+
+/// The kind of a ring by its word: any kind, or that of a transfer ring alone.
+fn kind_among(any: bool, word: &[u8]) -> Option<RingKind>
+    ensures { result ≡ kind_among any word.now }
+{
+    if any {
+        return kind_named(word);
+    }
+    (word == b"xfer".as_slice()).then_some(RingKind::Xfer)
 }
 
 #[tactic(auto, unfolding(crate::specs::Forms::kind_named))]

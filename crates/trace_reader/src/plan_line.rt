@@ -25,6 +25,7 @@ pub fn plan_ring(alloc: Global, line: &Line) -> Result<Ring, LineError>
 }
 
 /// The ring that these fields say, of which there are `count`.
+#[tactic(auto, unfolding(crate::specs::Plans::ring_line_form, crate::specs::Plans::ring_value))]
 fn ring_in(alloc: Global, count: usize, mut fields: Fields) -> Result<RingEntry, LineError>
     requires { count ≡ length fields }
     ensures { AnswersBy ring_of result (valued_by ring_value (ring_line_form fields.entry)) }
@@ -35,7 +36,7 @@ fn ring_in(alloc: Global, count: usize, mut fields: Fields) -> Result<RingEntry,
     if word != b"ring".as_slice() {
         return Err(LineFault::Row.into());
     }
-    ring_behind(alloc, count - 1, fields)
+    ring_behind(alloc, true, count - 1, fields)
 }
 
 /// The ring, where it is a command or transfer ring and its segments make one.

@@ -1,6 +1,9 @@
 ghost use Rattle.std.specs.Prelude.{◌≡◌, ◌+◌, ◌≤◌, ◌++◌, ◌∷◌, [], Bool, Ok, length, map, OnOk, IfOk};
 ghost use Rattle.std.specs.List.{flat_map};
 ghost use Rattle.traces.specs.declared.row.Row.TheVariants.{Sub, Write};
+ghost use Rattle.std.specs.Int.{w64};
+ghost use Rattle.line_text.specs.Numbers.{digits_of};
+ghost use Rattle.traces.specs.Register.{register_name};
 ghost use Rattle.trace_reader.specs.Entries.{text_of};
 ghost use Rattle.trace_reader.specs.Reading.{trace_of};
 ghost use Rattle.traces.specs.Limits.{most_lines_of};
@@ -12,7 +15,7 @@ use guest_memory::Addr;
 use line_text::{push_u8, push_u16, push_u32, push_u64};
 use segments::Segment;
 use std::alloc::{AllocError, Global};
-use traces::{Header, Ring, Row, Trace, Version};
+use traces::{Header, Register, Ring, Row, Trace, Version};
 use trb::Block;
 
 /// The text of a trace, with its numbers in lower case.
@@ -154,9 +157,7 @@ fn push_row_fields(out: &mut Vec<u8>, row: &Row) -> Result<(), AllocError>
         Row::Write { at, word } => push_write_fields(out, *at, *word),
         Row::Reg { register, value } => {
             out.extend_from_slice(b"reg ")?;
-            out.extend_from_slice(register.name().as_bytes())?;
-            out.extend_from_slice(b" ")?;
-            push_u64(out, *value)
+            push_register(out, *register, *value)
         }
         Row::Bell { slot, target } => {
             out.extend_from_slice(b"db ")?;
@@ -179,7 +180,20 @@ fn push_row_fields(out: &mut Vec<u8>, row: &Row) -> Result<(), AllocError>
             out.extend_from_slice(b" ")?;
             push_u64(out, *position)
         }
+        Row::RegRead { register, value } => {
+            out.extend_from_slice(b"rd ")?;
+            push_register(out, *register, *value)
+        }
     }
+}
+
+/// Appends the name of a register and a value, with a space between them.
+fn push_register(out: &mut Vec<u8>, register: Register, value: u64) -> Result<(), AllocError>
+    ensures { OnOk result (out.new.items ≡ out.old.items ++ register_name register ++ 32 ∷ digits_of w64 value) }
+{
+    out.extend_from_slice(register.name().as_bytes())?;
+    out.extend_from_slice(b" ")?;
+    push_u64(out, value)
 }
 
 /// Appends the line of a declaration.

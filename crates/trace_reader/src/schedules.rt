@@ -149,5 +149,6 @@ fn push_fields(out: &mut Vec<u8>, step: &Step) -> Result<(), AllocError>
             out.extend_from_slice(b" ")?;
             push_u32(out, *word)
         }
+        Step::Halt => out.extend_from_slice(b"halt"),
     }
 }

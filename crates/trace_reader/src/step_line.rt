@@ -2,7 +2,7 @@ ghost use Rattle.std.specs.Prelude.{◌≡◌, ◌≤◌, OnOk};
 ghost use Rattle.traces.specs.Limits.{most_schedule_lines};
 ghost use Rattle.trace_reader.specs.LineAnswers.{AnswersBy, valued_by};
 ghost use Rattle.trace_reader.specs.Grammar.{form_as, value_in};
-ghost use Rattle.trace_reader.specs.Schedules.{finish_line, look_line, other_line, report_line, row_line, scrib_line, step_form_of, step_line, step_value};
+ghost use Rattle.trace_reader.specs.Schedules.{finish_line, halt_line, look_line, other_line, report_line, row_line, scrib_line, step_form_of, step_line, step_value};
 
 use crate::entry::{event_behind, word_address_of};
 use crate::fault::{LineError, LineFault};
@@ -43,6 +43,8 @@ fn step_of(mut fields: Fields) -> Result<Step, LineError>
         other(fields)
     } else if word == b"scrib".as_slice() {
         scribble(fields)
+    } else if word == b"halt".as_slice() {
+        halt(fields)
     } else {
         Err(LineFault::Row.into())
     }
@@ -97,4 +99,13 @@ fn scribble(mut fields: Fields) -> Result<Step, LineError>
     let at = word_address_of(address).ok_or(LineFault::Number)?;
     let word = u32_of(word).ok_or(LineFault::Number)?;
     Ok(Step::Scribble { at, word })
+}
+
+fn halt(mut fields: Fields) -> Result<Step, LineError>
+    ensures { AnswersBy (λ step. step) result (valued_by value_in (form_as halt_line fields.entry)) }
+{
+    if fields.next().is_some() {
+        return Err(LineFault::Row.into());
+    }
+    Ok(Step::Halt)
 }

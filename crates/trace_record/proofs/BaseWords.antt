@@ -23,7 +23,7 @@ unfoldable pub use Rattle.ownership_rules.specs.Writes.{changes_owned}
 pub use Rattle.ownership_rules.specs.declared.refusal.Refusal.{Refusal}
 pub use Rattle.ring_knowledge.proofs.GivenWords.{given_from}
 pub use Rattle.ring_knowledge.proofs.Words.{FollowsRegisters, FollowsRing, Header, Known, Register, Segment, Spot, Usbcmd, address_aligned, crossed_link, crosses, crossings_of, length-set, link_address_is, link_aligned, place_at-data, place_at-link, place_below, positions_of, reset_bit, run_bit, segment_at}
-unfoldable pub use Rattle.ring_knowledge.proofs.Words.{crossings_given, due_crossings, due_positions, leased_crossings, leased_positions, nothing, positions_given, register_written, run_or_stop, stopped_number, target, valued}
+unfoldable pub use Rattle.ring_knowledge.proofs.Words.{crossings_given, due_crossings, due_positions, leased_crossings, leased_positions, nothing, positions_given, register_written, run_or_stop, runs_again, runs_once, stopped_number, target, valued}
 unfoldable pub use Rattle.ring_knowledge.specs.Completions.{bound_to, changed_by, completed, disabled, finished, held_at_ceiling, in_state, moved, moved_to, pointed, set_to, stop_ended, typed}
 unfoldable pub use Rattle.ring_knowledge.specs.Learned.{learned}
 unfoldable pub use Rattle.ring_knowledge.specs.Registers.{endpoint_rung, rung}
@@ -75,7 +75,8 @@ pub use Rattle.trace_record.specs.DeviceSlots.Unfinished.{FollowsUnfinished, as_
 pub use Rattle.trace_record.specs.FollowsTrace.{FollowsEvents, FollowsPlace, FollowsTrace, device_contexts, inputs_of}
 pub use Rattle.trace_record.specs.Fresh.{AreFresh, IsFreshSo}
 pub use Rattle.trace_record.specs.Owned.{entries_have, is_owned, rings_have, table_has}
-pub use Rattle.trace_record.specs.RangeWords.Holding.{HoldsAreas, HoldsSoiled, bits_of, is_marked}
+pub use Rattle.trace_record.specs.RangeWords.Bits.{bits_of}
+pub use Rattle.trace_record.specs.RangeWords.Holding.{HoldsAreas, HoldsSoiled, group_bits, is_marked}
 pub use Rattle.trace_record.specs.RangeWords.Marks.{mark_of}
 pub use Rattle.trace_record.specs.RingCommands.{command_in, command_on}
 pub use Rattle.trace_record.specs.RingFinder.Finding.{AreHints, AreNumbers, IsFinder, IsRingBefore, slot_of, start_of, starts_from}
@@ -102,3 +103,4 @@ pub use Rattle.traces.specs.declared.row.Row.{Row}
 pub use Rattle.traces.specs.declared.row.Row.TheVariants.{Bell, Read, Reg, Sub, Write}
 pub use Rattle.trb.specs.Block.{code, endpoint, slot}
 pub use Rattle.trb.specs.CompletionCode.{is_halting, is_stopping, is_success, is_trb_error}
+pub use Rattle.std.proofs.lemmas.Result.{on_err_weaker, on_ok_weaker}

@@ -6,6 +6,12 @@ mod TableWords
 mod OpenAreas
 mod OpenEntries
 pub mod GivenCommands
+pub mod CommandRing
+pub mod ResetRecords
+pub mod ListPlaces
+pub mod LivingRings
+pub mod ReadRegisters
+pub mod BesideCommands
 pub mod PlacedRows
 pub mod FirstBroken
 pub mod BaseWords

@@ -4,6 +4,7 @@ pub mod Steps
 pub mod Premises
 pub mod Fresh
 pub mod Owned
+pub mod RingChanges
 pub mod RingCommands
 pub mod RowPlaces
 pub mod RangeWords

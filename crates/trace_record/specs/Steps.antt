@@ -3,7 +3,7 @@ use Rattle.std.specs.Prelude.{◌≡◌, ℕ, [], Some}
 use Rattle.traces.specs.declared.header.Header.{Header}
 use Rattle.traces.specs.declared.row.Row.{Row}
 use Rattle.ring_knowledge.specs.Known.{Known}
-use Rattle.ring_knowledge.specs.Learned.{learned}
+use Rattle.ring_knowledge.specs.Resets.{learned_or_reset}
 use Rattle.ownership_rules.specs.declared.refusal.Refusal.{Refusal}
 use Rattle.ownership_rules.specs.Refusal.{first_of}
 use Rattle.ownership_rules.specs.Rules.{broken}
@@ -15,7 +15,7 @@ use Rattle.trace_record.specs.FollowsTrace.{FollowsTrace}
 -- the row breaks no rule, and the record and the memory hold what is known after it
 pub record IsRowStep (h : Header) (k : Known) (row : Row) (after : TraceRecord) (memory : ℕ → ℕ) : Type 0 where
   pub clean : broken h k row ≡ []
-  pub followed : FollowsTrace h (learned h k row) after memory
+  pub followed : FollowsTrace h (learned_or_reset h k row) after memory
 
 -- the least of the rules that the row breaks is this one
 abbrev pub IsLeast : Header → Known → Row → Refusal → Type 0

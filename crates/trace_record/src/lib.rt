@@ -1,15 +1,19 @@
 //! What one pass over a trace keeps of its rows so far, beside the words of memory.
 #![tactic(auto)]
 
+mod command_ring;
 mod device_record;
 mod fault;
 mod fresh;
 mod owned;
 mod range_words;
+mod resets;
+mod ring_changes;
 mod ring_commands;
 mod ring_finder;
 mod ring_set;
 mod row_place;
+mod runs;
 mod trace_record;
 
 pub use device_record::{DeviceRecord, Named, UnfinishedCommands};

@@ -1,6 +1,9 @@
 ghost use Rattle.std.specs.Prelude.{◌≡◌, ℕ, IfOk};
 ghost use Rattle.traces.specs.Header.{IsHeader};
-ghost use Rattle.ring_knowledge.specs.Known.{nothing};
+ghost use Rattle.traces.specs.declared.header.Header.{Header as HeaderValue};
+ghost use Rattle.traces.specs.declared.row.Row.TheVariants.{RegRead};
+ghost use Rattle.ring_knowledge.specs.Known.{Known, nothing};
+ghost use Rattle.ring_knowledge.specs.Learned.{learned};
 
 use crate::device_record::{DeviceRecord, UnfinishedCommands};
 use crate::fresh::{event_place, fresh_records};
@@ -9,7 +12,7 @@ use crate::ring_set::RingSet;
 use event_ring::EventPlace;
 use ring_knowledge::{RegisterRecord, RingRecord};
 use std::alloc::{AllocError, Global};
-use traces::Header;
+use traces::{Header, Register};
 
 /// What one pass over a trace keeps of its rows so far, beside the words of memory. Contracts compare it with what is `Known`.
 #[derive(Drop)]
@@ -55,5 +58,13 @@ impl TraceRecord {
             contexts: Areas::new(alloc, 32 * context),
             soiled: SoiledWords::new(alloc),
         })
+    }
+
+    /// Notes that a register was read (xHCI 5.4.2).
+    pub fn read_register(&mut self, register: Register, value: u64)
+        ensures followed { (h : HeaderValue) (k : Known) (memory : ℕ → ℕ) → FollowsTrace h k self.old memory → FollowsTrace h (learned h k (RegRead register value)) self.new memory }
+        ensures events { self.new.events ≡ self.old.events }
+    {
+        self.registers.read(register, value);
     }
 }

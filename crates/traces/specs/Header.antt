@@ -78,6 +78,10 @@ event_ring h = find (λ r. is_event_kind r.shape.kind) h.rings
 unfoldable pub command_id : Header → ℕ
 command_id h = id_or_none (command_ring h)
 
+-- the ID of the event ring
+unfoldable pub event_id : Header → ℕ
+event_id h = id_or_none (event_ring h)
+
 unfoldable pub event_shape : Header → Shape
 event_shape h = shape_or Evt (event_ring h)
 

@@ -1,6 +1,7 @@
 pub mod Limits
 pub mod Versions
 pub mod Register
+pub mod Halts
 pub mod Header
 pub mod Rows
 pub mod TraceRows

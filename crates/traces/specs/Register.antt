@@ -57,6 +57,10 @@ run_bit value = value % 2 == 1
 abbrev pub reset_bit : ℕ → Bool
 reset_bit value = value / 2 % 2 == 1
 
+-- USBSTS: HCHalted (HCH)
+abbrev pub halted_bit : ℕ → Bool
+halted_bit value = value % 2 == 1
+
 -- the Command Ring Pointer of CRCR, and the base addresses of DCBAAP and ERSTBA: bits 63:6
 abbrev pub base_address : ℕ → ℕ
 base_address value = value / 64 * 64

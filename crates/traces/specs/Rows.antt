@@ -2,15 +2,14 @@
 use Rattle.std.specs.Prelude.{◌≡◌, ◌≢◌, ℕ, ◌%◌, ◌<◌, ◌≤◌, ◌^◌, Bool, true, false, All, List, length}
 use Rattle.std.proofs.Props.{props}
 use Rattle.trb.specs.Block.{IsBlock}
-use Rattle.trb.specs.declared.ring_kind.RingKind.TheVariants.{Xfer}
 use Rattle.segments.specs.Shape.{IsShape}
 use Rattle.traces.specs.Limits.{most_declared}
 use Rattle.traces.specs.Register.{is_wide}
 use Rattle.traces.specs.declared.ring.Ring.{Ring}
 use Rattle.traces.specs.declared.row.Row.{Row}
-use Rattle.traces.specs.declared.row.Row.TheVariants.{Sub, Write, Reg, Bell, Read, Ring as RingRow, Free as FreeRow, Nop as NopRow}
+use Rattle.traces.specs.declared.row.Row.TheVariants.{Sub, Write, Reg, Bell, Read, Ring as RingRow, Free as FreeRow, Nop as NopRow, RegRead}
 use Rattle.traces.specs.declared.step.Step.{Step}
-use Rattle.traces.specs.declared.step.Step.TheVariants.{NextRow, Look, Report, Finish, Other, Scribble}
+use Rattle.traces.specs.declared.step.Step.TheVariants.{NextRow, Look, Report, Finish, Other, Scribble, Halt}
 
 -- the address of a word
 abbrev pub IsWordAddress : ℕ → Type 0
@@ -19,7 +18,6 @@ IsWordAddress a = (a % 4 ≡ 0) × (a < 2 ^ 64)
 -- a ring that may come, by its line alone
 pub record IsComing (r : Ring) : Type 0 where
   pub low : r.id < 256
-  pub kind : r.shape.kind ≡ Xfer
   pub shape : IsShape r.shape
 
 abbrev pub IsRow : Row → Type 0
@@ -31,6 +29,7 @@ IsRow (Read event) = IsBlock event
 IsRow (RingRow ring) = IsComing ring
 IsRow (FreeRow ring) = ring < 256
 IsRow (NopRow ring position) = (ring < 256) × (position < 2 ^ 64)
+IsRow (RegRead register value) = value < 2 ^ 64
 
 -- a ring comes or goes, or a descriptor is withdrawn: no word, register or doorbell is written by the row, and no event read
 abbrev pub is_ring_row : Row → Bool
@@ -43,6 +42,7 @@ is_ring_row row = false
 abbrev pub FitsLine : Row → Type 0
 FitsLine (Sub ring blocks) = (0 < length blocks) × (length blocks ≤ most_declared)
 FitsLine (Reg register value) = is_wide register ≢ true → value < 2 ^ 32
+FitsLine (RegRead register value) = is_wide register ≢ true → value < 2 ^ 32
 FitsLine row = Unit {0}
 
 -- each is one fact
@@ -61,6 +61,7 @@ IsStep (Report event) = IsBlock event
 IsStep (Finish event) = IsBlock event
 IsStep (Other event) = IsBlock event
 IsStep (Scribble at word) = IsWordAddress at × (word < 2 ^ 32)
+IsStep Halt = Unit {0}
 
 -- each is one fact
 pub step_is_fact : (step : Step) → IsProp (IsStep step)
@@ -70,6 +71,7 @@ step_is_fact (Report event) = hlevel props
 step_is_fact (Finish event) = hlevel props
 step_is_fact (Other event) = hlevel props
 step_is_fact (Scribble at word) = hlevel props
+step_is_fact Halt = hlevel props
 
 abbrev pub AreSteps : List Step → Type 0
 AreSteps steps = All IsStep steps

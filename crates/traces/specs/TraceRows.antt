@@ -3,19 +3,26 @@ use Rattle.std.specs.Prelude.{◌≡◌, Bool, true, false, not, ◌||◌, ◌&&
 use Rattle.std.specs.List.{list_any}
 use Rattle.std.proofs.Props.{props}
 use Rattle.traces.specs.Rows.{IsRow, FitsLine, is_ring_row, line_is_fact, row_is_fact}
-use Rattle.traces.specs.Versions.{has_ring_rows}
+use Rattle.traces.specs.Header.{is_transfer_kind}
+use Rattle.traces.specs.Versions.{has_ring_rows, has_runs}
 use Rattle.traces.specs.declared.ring.Ring.{Ring}
 use Rattle.traces.specs.declared.version.Version.{Version}
 use Rattle.traces.specs.declared.row.Row.{Row}
-use Rattle.traces.specs.declared.row.Row.TheVariants.{Ring as RingRow}
+use Rattle.traces.specs.declared.row.Row.TheVariants.{Ring as RingRow, RegRead}
 
 -- what a row's line can say
 abbrev pub IsTraceRow : Row → Type 0
 IsTraceRow row = IsRow row × FitsLine row
 
+-- the row is of a controller that runs more than once: a register was read, or a command or event ring comes
+abbrev pub is_run_row : Row → Bool
+is_run_row (RegRead register value) = true
+is_run_row (RingRow ring) = not (is_transfer_kind ring.shape.kind)
+is_run_row row = false
+
 -- a trace of this version may have the row
 abbrev pub is_of_version : Version → Row → Bool
-is_of_version version row = not (is_ring_row row) || has_ring_rows version
+is_of_version version row = (not (is_ring_row row) || has_ring_rows version) && (not (is_run_row row) || has_runs version)
 
 -- what a row of a trace of this version can say
 abbrev pub IsRowOf : Version → Row → Type 0

@@ -24,6 +24,11 @@ abbrev pub has_isoch : Version → Bool
 has_isoch Four = true
 has_isoch _ = false
 
+-- the controller may halt and run again; before, the stop ends a trace (xHCI 4.2, 4.23.2)
+abbrev pub has_runs : Version → Bool
+has_runs Four = true
+has_runs _ = false
+
 -- which transfers there are
 abbrev pub profile_of : Version → Profile
 profile_of version = if has_isoch version then WithIsoch else WithoutIsoch

@@ -45,6 +45,15 @@ impl Rings {
         Ok(())
     }
 
+    /// One ring more, before all others. Want of memory changes nothing.
+    pub fn push_first(&mut self, ring: Ring) -> Result<(), AllocError>
+        ensures ok { OnOk result (self.new ≡ ring ∷ self.old) }
+        ensures err { OnErr result (self.new ≡ self.old) }
+    {
+        self.rings.insert(0, ring)?;
+        Ok(())
+    }
+
     /// Without the ring that has this number: those behind it move up.
     pub fn remove(&mut self, number: usize)
         requires { number < length self.now }

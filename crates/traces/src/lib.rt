@@ -2,6 +2,7 @@
 #![tactic(auto)]
 
 mod boxed_ring;
+mod halt;
 mod header;
 mod plan;
 mod register;
@@ -13,6 +14,7 @@ mod trace;
 mod version;
 
 pub use boxed_ring::BoxedRing;
+pub use halt::Halt;
 pub use header::{Header, Rings};
 pub use plan::{Plan, PlanLine, PlanLines};
 pub use register::Register;

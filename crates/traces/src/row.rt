@@ -16,10 +16,12 @@ pub enum Row {
     Bell { slot: u8, target: u8 },
     /// It has read the next event of the Event Ring (xHCI 4.9.4).
     Read { event: Block },
-    /// A transfer ring comes: from now on its memory is a ring (xHCI 4.9).
+    /// A ring comes: from now on its memory is a ring (xHCI 4.9).
     Ring { ring: BoxedRing },
     /// The ring with this ID goes: its memory is the driver's again (xHCI 4.9).
     Free { ring: u8 },
     /// The descriptor that begins at a position of a ring is withdrawn: its blocks become No Ops (xHCI 4.6.9, 6.4.1.4.1).
     Nop { ring: u8, position: u64 },
+    /// It has read a register; only USBSTS says something (xHCI 5.4.2).
+    RegRead { register: Register, value: u64 },
 }

@@ -16,4 +16,6 @@ pub enum Step {
     Other { event: Block },
     /// The controller writes a word of a device context (xHCI 6.2.1).
     Scribble { at: Addr, word: u32 },
+    /// The controller halts (xHCI 5.4.1.1, 5.4.2, HCH).
+    Halt,
 }

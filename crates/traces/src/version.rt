@@ -1,10 +1,10 @@
 ghost use Rattle.std.specs.Prelude.{◌≡◌};
-ghost use Rattle.traces.specs.Versions.{has_isoch, has_ring_rows, is_lenient, profile_of};
+ghost use Rattle.traces.specs.Versions.{has_isoch, has_ring_rows, has_runs, is_lenient, profile_of};
 
 use trb::Profile;
 
 /// The version of a trace, which its first line names. Versions 1 and 2 judge by the rules that came first; version 3 by
-/// those that a harm needs; version 4 has isochronous transfers too.
+/// those that a harm needs; version 4 has isochronous transfers and second runs of the controller too.
 #[derive(Clone, Copy, Debug, PartialEq, Eq)]
 pub enum Version {
     /// `xtrace 1`.
@@ -37,6 +37,13 @@ impl Version {
         ensures { result ≡ has_isoch self }
     {
         matches!(self, Version::Four)
+    }
+
+    /// The controller may halt and run again (xHCI 4.2, 4.23.2).
+    pub fn has_runs(self) -> bool
+        ensures { result ≡ has_runs self }
+    {
+        self == Version::Four
     }
 
     /// Which transfers there are.

@@ -67,7 +67,7 @@ module _ (h : Header) where
       ∷ (TakenOtherWords, some_ring h (λ r. has_other_words (shape_of h r) (w.events r)))
       ∷ (WaitsInsideDescriptor, some_ring h (λ r. waits w r && is_inside_descriptor (w.events r)))
       ∷ (LooksOutside, w.looked_outside)
-      ∷ (PostsOverUnread, nat_lt 0 (event_size h) && nat_le (event_size h) (w.posted - w.reads))
+      ∷ (PostsOverUnread, w.posted_nowhere || (nat_lt 0 (event_size h) && nat_le (event_size h) (w.posted - w.reads)))
       ∷ (InputContextChanged, has_changed_context w w.under_way) ∷ []
 
   -- the least harm, if there is one

@@ -10,8 +10,8 @@ use Rattle.traces.specs.declared.row.Row.TheVariants.{Ring as RingRow, Free as F
 use Rattle.world_state.specs.World.{World, opening}
 use Rattle.world_state.specs.Harms.{harm_of}
 use Rattle.world_state.specs.DriverRows.{row_done}
-use Rattle.traces.specs.LivingRings.{without_ring}
-use Rattle.world_state.specs.RingRows.{emptied, listed, may_come, without_descriptor}
+use Rattle.traces.specs.LivingRings.{with_ring, without_ring}
+use Rattle.world_state.specs.RingRows.{listed, may_come, resting, without_descriptor}
 use Rattle.world_state.specs.Steps.{Ending, NoHarm, NotPossible, judged, counted, made}
 
 -- the rings that were declared, those of them that live, the rows still to come, and the world
@@ -24,9 +24,9 @@ pub record Scene : Type 0 where
 abbrev pub with_world : Scene → World → Scene
 with_world x w = record x { world = w }
 
--- a ring comes: nothing is declared on it, and nothing has happened
+-- a ring comes: nothing is declared on it, nothing has happened, and the controller doesn't look at it
 abbrev pub with_coming : Scene → Ring → Scene
-with_coming x r = record x { header = listed x.header r; live = listed x.live r; world = emptied x.world r.id }
+with_coming x r = record x { header = listed x.header r; live = with_ring x.live r; world = resting x.world r.id }
 
 -- what a row does; None where it isn't possible. Where one that lives is in its way, a ring that comes has no effect
 abbrev pub row_made : Scene → Row → Option Scene

@@ -1,14 +1,16 @@
 -- Steps, and the worlds that runs lead to
-use Rattle.std.specs.Prelude.{ℕ, ◌+◌, ◌&&◌, if◌then◌else◌, Bool, List, [], ◌∷◌, Option, Some, None, option_and_then, option_map}
+use Rattle.std.specs.Prelude.{ℕ, ◌+◌, ◌&&◌, ◌||◌, if◌then◌else◌, Bool, true, not, List, [], ◌∷◌, Option, Some, None, is_none, option_and_then, option_map}
 use Rattle.std.specs.List.{list_any, range_with_len}
 use Rattle.segments.specs.Places.{is_in}
 use Rattle.contexts.specs.Contexts.{device_context, device_context_bytes}
 use Rattle.traces.specs.declared.header.Header.{Header}
 use Rattle.traces.specs.declared.row.Row.{Row}
 use Rattle.traces.specs.declared.step.Step.{Step}
-use Rattle.traces.specs.declared.step.Step.TheVariants.{NextRow, Look, Report, Finish, Other, Scribble}
+use Rattle.traces.specs.declared.step.Step.TheVariants.{NextRow, Look, Report, Finish, Other, Scribble, Halt}
 use Rattle.traces.specs.declared.register.Register.TheVariants.{Dcbaap}
+use Rattle.traces.specs.Header.{event_ring}
 use Rattle.traces.specs.Register.{register_or_zero}
+use Rattle.traces.specs.Versions.{has_runs}
 use Rattle.world_state.specs.declared.harm.Harm.{Harm}
 use Rattle.world_state.specs.World.{World, opening, stored}
 use Rattle.world_state.specs.Harms.{harm_of}
@@ -39,20 +41,33 @@ module _ (h : Header) where
   unfoldable pub counted : World → World
   counted w = record w { steps = w.steps + 1 }
 
-  -- after the stop only rows are possible
+  -- after the stop of a controller that runs but once only rows are possible
   unfoldable pub while_running : World → Option World → Option World
   while_running w v = if w.stopped then None else v
+
+  -- where R/S is 0 the controller halts at any moment
+  unfoldable pub halts : World → Option World
+  halts w = if w.halting && not w.halted then Some (record w { halted = true }) else None
+
+  -- and then looks at nothing and posts nothing; it may still save what it keeps in device contexts (xHCI 4.23.2)
+  unfoldable pub until_halted : World → Option World → Option World
+  until_halted w v = if w.halted then None else while_running w v
+
+  -- an event is posted while no event ring is there, where rings of that kind come and go
+  unfoldable pub noting_post : World → World
+  noting_post w = record w { posted_nowhere = w.posted_nowhere || (is_none (event_ring h) && has_runs h.version) }
 
 -- beside the rings that were declared and those of them that live
 module _ (h live : Header) where
   -- what a step of the controller makes of the world; the next row is none
   unfoldable pub made : World → Step → Option World
   made w NextRow = None
-  made w (Look r) = while_running h w (looks.looked h live w r)
-  made w (Report b) = while_running h w (posts.reported h w b)
-  made w (Finish b) = while_running h w (finishes.finished h live w b)
-  made w (Other b) = while_running h w (posts.other_posted h w b)
+  made w (Look r) = until_halted h w (looks.looked h live w r)
+  made w (Report b) = until_halted h w (option_map (noting_post live) (posts.reported h w b))
+  made w (Finish b) = until_halted h w (option_map (noting_post live) (finishes.finished h live w b))
+  made w (Other b) = until_halted h w (option_map (noting_post live) (posts.other_posted h w b))
   made w (Scribble a x) = while_running h w (scribbled h w a x)
+  made w Halt = while_running h w (halts h w)
 
   -- the world after a step; None where the step isn't possible
   unfoldable pub stepped : World → Step → Option World

@@ -31,9 +31,12 @@ pub record UnderWay : Type 0 where
 pub record World : Type 0 where
   -- how many steps were made
   pub steps : ℕ
-  -- the controller was started, and after that stopped or reset
+  -- the controller was started; and, where it runs but once, after that stopped or reset
   pub started : Bool
   pub stopped : Bool
+  -- R/S was cleared in a run, and the controller halted since
+  pub halting : Bool
+  pub halted : Bool
   pub register : Register → Option ℕ
   pub memory : ℕ → ℕ
   -- by address: at which step the word was last changed, and last written
@@ -64,6 +67,8 @@ pub record World : Type 0 where
   pub under_way : Option UnderWay
   -- a look was outside a ring's segments
   pub looked_outside : Bool
+  -- an event was posted while no event ring was there, where rings of that kind come and go
+  pub posted_nowhere : Bool
 
 -- before the first row: memory is 0, all slots and endpoints are Disabled, nothing is posted
 unfoldable pub opening : World
@@ -71,6 +76,8 @@ opening = record {
   steps = 0;
   started = false;
   stopped = false;
+  halting = false;
+  halted = false;
   register = λ r. None;
   memory = λ a. 0;
   changed = λ a. 0;
@@ -92,6 +99,7 @@ opening = record {
   dequeue = 0;
   under_way = None;
   looked_outside = false;
+  posted_nowhere = false;
 }
 
 -- a word of memory is written, in the step that is being made; only another value changes it

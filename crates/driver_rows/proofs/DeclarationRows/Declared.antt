@@ -39,7 +39,7 @@ module _ (h : Header) (headed : IsHeader h) (id : ℕ) (blocks : List Block) whe
         followed_after : DriverKeeps h k → (new : RingRecord) → FollowsRing ring.shape (changed ring.shape (k.ring ring.id) (Declares blocks)) new → FollowsTrace h after (with_record kept n new) m
         unfolding learned on_ring after
         followed_after keeps new noted =
-            followed h k after kept m f (record { memory = refl; started = refl; stopped = refl; register = refl; reads = refl; dequeue = refl; device = refl; soiled = refl }) (λ s. refl) (commands_after keeps) (with_record kept n new) refl
+            followed h k after kept m f (record { memory = refl; started = refl; stopped = refl; halt = refl; register = refl; reads = refl; dequeue = refl; device = refl; soiled = refl }) (λ s. refl) (commands_after keeps) (with_record kept n new) refl
             (rings_with h headed k after kept.rings.items f.rings n ring at (only_on h headed k n ring at (Declares blocks)) new (λ kind. subst (λ (v : RingView). FollowsRing ring.shape v new) (sym (here_on h headed k n ring at (Declares blocks))) noted))
             (after_declaration h k kept.devices f.devices ring.id blocks)
 

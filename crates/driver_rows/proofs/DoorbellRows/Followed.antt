@@ -71,6 +71,7 @@ pub record IsBeside (k l : Known) : Type 0 where
   pub memory : l.memory ≡ k.memory
   pub started : l.started ≡ k.started
   pub stopped : l.stopped ≡ k.stopped
+  pub halt : l.halt ≡ k.halt
   pub register : l.register ≡ k.register
   pub reads : l.reads ≡ k.reads
   pub dequeue : l.dequeue ≡ k.dequeue
@@ -87,7 +88,7 @@ put_on f s i state before after q = search (rules, and_parts)
 
 module _ (h : Header) (k l : Known) (t : TraceRecord) (m : ℕ → ℕ) (f : FollowsTrace h k t m) (b : IsBeside k l) (off : AreOffAs k l) (same : unfinished h l ≡ unfinished h k) where
   same_registers : SameRegisters k l
-  same_registers = record { started = b.started; stopped = b.stopped; register = b.register; reads = b.reads; dequeue = b.dequeue }
+  same_registers = record { started = b.started; stopped = b.stopped; halt = b.halt; register = b.register; reads = b.reads; dequeue = b.dequeue }
 
   pub followed : (after : TraceRecord) → after ≡ record t { rings = after.rings; devices = after.devices } → FollowsRings h l after.rings.items → FollowsDevices l after.devices → FollowsTrace h l after m
   followed after is rings devices = search (rules, registers_still, same_registers, events_still, bound_same, binds_same)

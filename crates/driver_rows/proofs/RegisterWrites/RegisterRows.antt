@@ -1,5 +1,5 @@
 -- A register write that was checked
-use Rattle.driver_rows.proofs.Words.{rules, ◌≡◌, ℕ, ◌-◌, [], ◌∷◌, Bool, true, false, Option, None, Some, refl, ap, sym, ◌∙◌, subst, not, is_some, ◌&&◌, ◌||◌, filter_map, RingView, is_off, device_context_bytes, input_context_bytes, EventState, is_event_place, is_reached_within, erdp_address, Header, Register, Erdp, Reg, event_ring, event_shape, RegisterRecord, FollowsRegisters, FollowsRing, Known, learned, register_written, run_or_stop, valued, unfinished, FollowsDevices, FollowsUnfinished, after_register, unfinished_register, HoldsAreas, HoldsSoiled, BadRegister, BadErdp, first_of, first_broken, older, stricter, is_lenient, no_place_stays, event_place, broken, lenient_tests, tests, register_tests, is_bad_register, is_bad_erdp, may_pass, names_no_place, slots, TraceRecord, FollowsEvents, FollowsTrace, device_contexts, inputs_of, IsSetUp, IsLeast, IsRowStep, IsMoved, binds_same, bound_same, first_broken-is, nothing_broken}
+use Rattle.driver_rows.proofs.Words.{rules, ◌≡◌, ℕ, ◌-◌, [], ◌∷◌, Bool, true, false, Option, None, Some, refl, ap, sym, ◌∙◌, subst, not, is_some, ◌&&◌, ◌||◌, filter_map, RingView, is_off, device_context_bytes, input_context_bytes, EventState, is_event_place, is_reached_within, erdp_address, Header, Register, Erdp, Reg, event_ring, event_shape, RegisterRecord, FollowsRegisters, FollowsRing, Known, learned, register_written, run_or_stop, valued, reset_bit, and_parts, DriverKeeps, Usbcmd, unfinished, FollowsDevices, FollowsUnfinished, after_register, unfinished_register, HoldsAreas, HoldsSoiled, BadRegister, BadErdp, first_of, first_broken, older, stricter, is_lenient, no_place_stays, event_place, broken, lenient_tests, tests, register_tests, is_bad_register, is_bad_erdp, may_pass, names_no_place, slots, TraceRecord, FollowsEvents, FollowsTrace, device_contexts, inputs_of, IsSetUp, IsLeast, IsRowStep, IsMoved, binds_same, bound_same, first_broken-is, nothing_broken, runs_again, runs_once, reset, resets, is_bad_command_register, is_early_reset, has_gap, Halt, is_done, is_asked}
 
 -- all else stays as it was
 pub record IsElsewhereSame (k l : Known) : Type 0 where
@@ -11,11 +11,11 @@ pub record IsElsewhereSame (k l : Known) : Type 0 where
   pub soiled : l.soiled ≡ k.soiled
 
 pub elsewhere_same : (h : Header) (k : Known) (r : Register) (v : ℕ) → IsElsewhereSame k (register_written h k r v)
-unfolding register_written valued run_or_stop
+unfolding register_written valued run_or_stop runs_once runs_again
 elsewhere_same h k r v = search rules
 
 pub dequeue_same : (h : Header) (k : Known) (r : Register) (v : ℕ) → (r ≡ Erdp → ⊥) → (register_written h k r v).dequeue ≡ k.dequeue
-unfolding register_written valued run_or_stop
+unfolding register_written valued run_or_stop runs_once runs_again
 dequeue_same h k r v e = search rules
 
 not_passed : (h : Header) (k : Known) (r : Register) (v : ℕ) → (r ≡ Erdp → ⊥) → is_bad_erdp h k r v ≡ false
@@ -74,8 +74,12 @@ module _ (h : Header) (r : Register) (v : ℕ) where
         soiled = subst (λ soiled. HoldsSoiled soiled t.soiled) (sym same.soiled) f.soiled;
       }
 
-      pub step_is : IsRowStep h k (Reg r v) (record t { registers = registers_; events = events_ }) m
-      step_is = search (rules, clean_is, learned_is, followed_is)
+      pub step_is : resets k r v ≡ false → IsRowStep h k (Reg r v) (record t { registers = registers_; events = events_ }) m
+      step_is stays = record { clean = clean_is; followed = rw (stays, learned_is) followed_is }
+
+    -- where the controller is reset
+    pub reset_is : (u : TraceRecord) → resets k r v ≡ true → FollowsTrace h (reset h k) u m → IsRowStep h k (Reg r v) u m
+    reset_is u goes followed = record { clean = clean_is; followed = rw goes followed }
 
 may_is : (h : Header) (k : Known) → IsSetUp h k → (b : Bool) → k.started ≡ b → may_pass k ≡ k.reads - k.dequeue
 unfolding may_pass
@@ -124,3 +128,33 @@ others_follow h k r v o e f = search (rules, elsewhere_same, dequeue_same)
 pub fine_erdp : (h : Header) (k : Known) (r : Register) (v : ℕ) → (r ≡ Erdp → ⊥) → passed h r v k ≡ false
 unfolding stricter older
 fine_erdp h k r v e = search (rules, not_passed)
+
+-- ---- a reset
+
+pub resets_as : (k : Known) (r : Register) (v : ℕ) (b : Bool) → r ≡ Usbcmd → b ≡ (is_done k.halt && reset_bit v) → b ≡ resets k r v
+unfolding resets
+resets_as k r v b is told = told ∙ ap (λ q. resets k q v) (sym is)
+
+pub resets_never : (k : Known) (r : Register) (v : ℕ) → (r ≡ Usbcmd → ⊥) → false ≡ resets k r v
+unfolding resets
+resets_never k r v other = search rules
+
+-- only USBCMD resets, by HCRST, and that a controller that was seen to have halted
+resets_so : (k : Known) (r : Register) (v : ℕ) → resets k r v ≡ true → (r ≡ Usbcmd) × (is_done k.halt ≡ true) × (reset_bit v ≡ true)
+unfolding resets
+resets_so k r v is = search (rules, and_parts)
+
+done_asked : (x : Halt) → is_done x ≡ true → is_asked x ≡ true
+done_asked x done = search rules
+
+-- there is no gap in the command ring
+pub without_gap : (h : Header) (k : Known) (r : Register) (v : ℕ) → DriverKeeps h k → resets k r v ≡ true → is_bad_register h k r v ≡ false → has_gap h k ≡ false
+unfolding is_bad_register is_bad_command_register is_early_reset
+without_gap h k r v d is fine =
+    let so = resets_so k r v is in
+    let asked = done_asked k.halt so.1 in
+    search (rules, d.run.again asked, d.run.started asked, so)
+
+-- other registers don't move ERDP
+pub reset_fine : (h : Header) (k : Known) (r : Register) (v : ℕ) → resets k r v ≡ true → passed h r v k ≡ false
+reset_fine h k r v is = fine_erdp h k r v (λ same. search (rules, resets_so))

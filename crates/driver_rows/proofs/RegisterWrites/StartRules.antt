@@ -1,8 +1,8 @@
 -- What values of registers break
-use Rattle.driver_rows.proofs.Words.{rules, ◌≡◌, ℕ, ◌<◌, ◌*◌, length, [], ◌∷◌, Bool, true, false, None, refl, ◌&&◌, ◌||◌, not, is_some, list_any, Header, Shape, Usbcmd, Crcr, Dcbaap, Config, Erstsz, Erstba, Erdp, run_bit, reset_bit, Known, is_bad_register, is_late_reset, is_early_start, is_wrong_start, is_written, is_unwritten, is_bad_table, is_bad_area, is_table_fault, IsHeader, event_ring, event_shape, shape_facts, find_some, shape_allowed, Wrong, IsSetUp, same_number}
+use Rattle.driver_rows.proofs.Words.{rules, ◌≡◌, ℕ, ◌<◌, ◌*◌, length, [], ◌∷◌, Bool, true, false, None, refl, ◌&&◌, ◌||◌, not, is_some, list_any, Header, Shape, Crcr, Dcbaap, Config, Erstsz, Erstba, Erdp, run_bit, reset_bit, Known, is_late_reset, is_early_start, is_wrong_start, is_written, is_unwritten, is_bad_table, is_bad_area, is_table_fault, IsHeader, event_ring, event_shape, shape_facts, find_some, shape_allowed, Wrong, IsSetUp, same_number}
 
-abbrev either : (started reset run begun lacks wrong : Bool) → Bool
-either started reset run begun lacks wrong = not started && (reset && begun || run && not reset && lacks || run && not reset && wrong)
+abbrev either : (reset run begun lacks wrong : Bool) → Bool
+either reset run begun lacks wrong = reset && begun || run && not reset && lacks || run && not reset && wrong
 
 module _ (h : Header) (k : Known) (v : ℕ) where
   abbrev pub Begun : Bool
@@ -11,18 +11,19 @@ module _ (h : Header) (k : Known) (v : ℕ) where
   abbrev pub Lacks : Bool
   Lacks = list_any (is_unwritten k) (Crcr ∷ Erstsz ∷ Erstba ∷ Erdp ∷ [])
 
-  start_is : is_bad_register h k Usbcmd v ≡ either k.started (reset_bit v) (run_bit v) Begun Lacks (Wrong h k)
-  unfolding is_bad_register is_late_reset is_early_start is_wrong_start
+  -- of a controller that wasn't started
+  abbrev pub BadStart : Bool
+  BadStart = is_late_reset k v || is_early_start k v || is_wrong_start h k v
+
+  start_is : BadStart ≡ either (reset_bit v) (run_bit v) Begun Lacks (Wrong h k)
+  unfolding is_late_reset is_early_start is_wrong_start
   start_is = refl
 
-  pub after_start : k.started ≡ true → false ≡ is_bad_register h k Usbcmd v
-  after_start on = search (rules, start_is)
+  pub at_reset : (b : Bool) → reset_bit v ≡ true → b ≡ Begun → b ≡ BadStart
+  at_reset b resets is = search (rules, start_is)
 
-  pub at_reset : (b : Bool) → k.started ≡ false → reset_bit v ≡ true → b ≡ Begun → b ≡ is_bad_register h k Usbcmd v
-  at_reset b off resets is = search (rules, start_is)
-
-  pub at_start : (b : Bool) → k.started ≡ false → reset_bit v ≡ false → b ≡ (run_bit v && (Lacks || Wrong h k)) → b ≡ is_bad_register h k Usbcmd v
-  at_start b off keeps is = search (rules, start_is)
+  pub at_start : (b : Bool) → reset_bit v ≡ false → b ≡ (run_bit v && (Lacks || Wrong h k)) → b ≡ BadStart
+  at_start b keeps is = search (rules, start_is)
 
 -- where the segment table may not lie
 module _ (h : Header) (k : Known) (base : ℕ) where

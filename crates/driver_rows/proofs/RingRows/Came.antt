@@ -1,11 +1,27 @@
--- A ring that comes: the header is one still, and the record follows
-use Rattle.driver_rows.proofs.LowerLaws.{rules, ◌≡◌, ◌≢◌, ◌*◌, ◌==◌, ◌∷◌, ◌++◌, ◌∙◌, ◌&&◌, ℕ, true, false, [], None, Some, nat_lt, slice_get, refl, sym, ap, subst, inl, inr, lt-ltb, eq-eqb, length, length-append, ◌+◌, list_all, and_from, and_right, or_from, false≢true, is_shape, rings_overlap, RingView, Header, Ring, IsHeader, clash, is_command_kind, is_event_kind, may_stand_together, ring_with, touches_ring, RingRecord, Known, FollowsRing, FollowsRings, IsIn, DriverKeeps, ring_untouched, header_parts, fails_in, TraceRecord, FollowsTrace, IsComing, forgotten, is_bad_ring, with_ring, all_more, none_found, overlaps_none, together_more, bad_same, f_keeps, fresh, no_ring, segment_some, cleared, cleared_apart, HasOneMore, IsClear, both_push, in_at, other_record}
+-- A ring that comes: the header is one still, and what the record of it rests on
+use Rattle.driver_rows.proofs.LowerLaws.{rules, Bool, ◌≡◌, ◌*◌, ◌==◌, ◌∷◌, ◌++◌, ◌∙◌, ◌&&◌, true, false, [], None, Option, nat_lt, refl, sym, ap, lt-ltb, list_all, cases_Bool, inl, inr, and_from, and_left, and_right, or_from, false≢true, is_some, is_shape, rings_overlap, Header, Ring, RingKind, IsHeader, clash, is_command_kind, is_event_kind, event_ring, may_stand_together, ring_with, touches_ring, Known, IsIn, DriverKeeps, ring_untouched, header_parts, fails_in, IsComing, forgotten, is_bad_ring, with_ring, all_more, none_found, overlaps_none, together_more, bad_same, f_keeps, fresh, segment_some, cleared, IsClear, find, or_parts, command_ring, is_bad_kind, is_in_run, Comes, HasNoEvents, SameCommands, other_commands, same_twice, Cmd, Evt, Xfer, absent, no_command, no_event, commands_come, events_come}
+use Rattle.safety.proofs.RingChanges.EventRings as events
 use Rattle.safety.proofs.RingChanges.Forgotten as forgets
 use Rattle.safety.proofs.RingChanges.NewRings as comes
 
+pub none_of : {X : Type 0} (o : Option X) → is_some o ≡ false → o ≡ None
+none_of o none = search (rules, false≢true)
+
+module _ (h : Header) (k : Known) where
+  -- no command ring is there where one comes
+  pub no_other_command : (kind : RingKind) → is_bad_kind h k kind ≡ false → is_command_kind kind ≡ true → command_ring h ≡ None
+  unfolding is_bad_kind
+  no_other_command Cmd fine it = none_of (command_ring h) (or_parts (is_some (command_ring h)) (is_in_run k) fine).0
+  no_other_command _ fine it = absurd (false≢true it)
+
+  pub no_other_events : (kind : RingKind) → is_bad_kind h k kind ≡ false → is_event_kind kind ≡ true → event_ring h ≡ None
+  unfolding is_bad_kind
+  no_other_events Evt fine it = none_of (event_ring h) (or_parts (is_some (event_ring h)) k.started fine).0
+  no_other_events _ fine it = absurd (false≢true it)
+
 module _ (h : Header) (is : IsHeader h) (r : Ring) (coming : IsComing r) where
   pub clear_together : IsClear h r → (list_all (λ q. nat_lt q.id 256 && is_shape q.shape) (h.rings ++ r ∷ []) ≡ true) × (may_stand_together (h.rings ++ r ∷ []) ≡ true)
-  unfolding touches_ring
+  unfolding touches_ring command_ring event_ring
   clear_together clear =
       let was = header_parts h is in
       let own : (nat_lt r.id 256 && is_shape r.shape) ≡ true = and_from (nat_lt r.id 256) (is_shape r.shape) (lt-ltb r.id 256 coming.low) coming.shape in
@@ -13,55 +29,51 @@ module _ (h : Header) (is : IsHeader h) (r : Ring) (coming : IsComing r) where
       or_from _ (is_event_kind q.shape.kind && is_event_kind r.shape.kind)
       (or_from _ (is_command_kind q.shape.kind && is_command_kind r.shape.kind)
       (or_from (q.id == r.id) (rings_overlap q.shape r.shape) (none_found (λ x. x.id == r.id) h.rings clear.unnamed q at)
-      (overlaps_none q.shape r.shape (segment_some r.shape coming.shape coming.kind)
+      (overlaps_none q.shape r.shape (segment_some r.shape coming.shape)
       (λ t in_it. ring_untouched h t.base (16 * t.count) (fails_in (λ s. touches_ring h s.base (16 * s.count)) r.shape.segments t clear.untouched in_it) q at)))
-      (and_right (is_command_kind q.shape.kind) (is_command_kind r.shape.kind) (ap (λ n. is_command_kind n) coming.kind)))
-      (and_right (is_event_kind q.shape.kind) (is_event_kind r.shape.kind) (ap (λ n. is_event_kind n) coming.kind)) in
+      (one_alone (λ x. is_command_kind x.shape.kind) q at clear.commands))
+      (one_alone (λ x. is_event_kind x.shape.kind) q at clear.events) in
       (all_more (λ q. nat_lt q.id 256 && is_shape q.shape) h.rings r was.0 own, together_more h.rings r was.1 apart)
+    where
+      -- of a kind of which but one is there
+      one_alone : (test : Ring → Bool) (q : Ring) → IsIn q h.rings → (test r ≡ true → find test h.rings ≡ None) → (test q && test r) ≡ false
+      one_alone test q at alone =
+          elim (cases_Bool (test r)) [
+            | inl it ↦ and_left (test q) (test r) (none_found test h.rings (alone it) q at)
+            | inr other ↦ and_right (test q) (test r) other
+          ]
 
   pub clear_header : IsClear h r → IsHeader (with_ring h r)
   unfolding with_ring
   clear_header clear = search (rules, clear_together, and_from)
 
-  module _ (k : Known) (d : DriverKeeps h k) (good : is_bad_ring h k r ≡ false) (t u : TraceRecord) (m : ℕ → ℕ) (f : FollowsTrace h k t m) (more : HasOneMore r t u) where
-    absent : ring_with h r.id ≡ None
-    absent = no_ring h is r coming k good
+  module _ (k : Known) (d : DriverKeeps h k) (good : is_bad_ring h k r ≡ false) where
+    none_there : ring_with h r.id ≡ None
+    none_there = absent h is r coming k d good
 
     abbrev z : Known
     z = forgotten k r.id
 
-    other : (i : ℕ) (q : Ring) → slice_get h.rings i ≡ Some q → q.id ≢ r.id
-    other i q at same = false≢true (sym (none_found (λ x. x.id == r.id) h.rings absent q (in_at h.rings i q at)) ∙ eq-eqb q.id r.id same)
+    transfers_come : r.shape.kind ≡ Xfer → SameCommands h k (with_ring h r) z
+    unfolding with_ring forgotten
+    transfers_come kind =
+        let kept = f_keeps h is r coming kind k d none_there in
+        let new = fresh h is r coming kind k d none_there in
+        let well = bad_same h is r coming kind k d none_there ∙ good in
+        same_twice h h (with_ring h r) k z z
+        (other_commands h h.rings k (cleared r.id k.ring) d (forgets.others h is k d r.id coming.low none_there))
+        (other_commands h (h.rings ++ r ∷ []) z z.ring kept (comes.others h is z kept r coming kind new well))
 
-    rings_still : FollowsRings h z t.rings.items
-    unfolding forgotten
-    rings_still = record {
-      as_many = f.rings.as_many;
-      each = λ i q x at there driver.
-          subst (λ v. FollowsRing q.shape v x) (sym (cleared_apart r.id k.ring q.id (other i q at))) (f.rings.each i q x at there driver);
-    }
+    same_by : (kind : RingKind) → r.shape.kind ≡ kind → SameCommands h k (with_ring h r) z
+    same_by Xfer at = transfers_come at
+    same_by Cmd at = let it = ap (λ n. is_command_kind n) at in commands_come h is k r coming.low none_there it (no_command h is r coming k d good it)
+    same_by Evt at = events_come h is k r coming.low none_there (ap (λ n. is_event_kind n) at)
 
-    rings_more : FollowsRings (with_ring h r) z u.rings.items
-    unfolding with_ring
-    rings_more = record {
-      as_many = ap (λ xs. length xs) more.items ∙ length-append t.rings.items (more.known ∷ []) ∙ ap (λ n. n + 1) f.rings.as_many ∙ sym (length-append h.rings (r ∷ []));
-      each = λ i q x at there driver. elim (both_push h.rings t.rings.items r more.known i q x f.rings.as_many at (ap (λ xs. slice_get xs i) (sym more.items) ∙ there)) [
-        | inl old ↦ rings_still.each i q x old.0 old.1 driver
-        | inr new ↦
-            subst (λ (y : RingRecord). FollowsRing q.shape (z.ring q.id) y) new.1 (subst (λ (y : Ring). FollowsRing y.shape (z.ring y.id) more.known) new.0
-            (subst (λ (v : RingView). FollowsRing r.shape v more.known) (sym (fresh h is r coming k d absent)) more.fresh))
-      ];
-    }
+    events_by : (kind : RingKind) → r.shape.kind ≡ kind → is_event_kind r.shape.kind ≡ true → HasNoEvents h k
+    events_by Evt at it =
+        let off = d.unstarted (events.parts h is k d r coming at good).before in
+        record { none = no_event h is r coming k d good it; reads = off.reads; dequeue = off.dequeue }
+    events_by _ at it = absurd (false≢true (sym (ap (λ n. is_event_kind n) at) ∙ it))
 
-    still : FollowsTrace h z t m
-    unfolding forgotten
-    still = other_record h h.rings k (cleared r.id k.ring) d (forgets.others h is k d r.id coming.low absent) refl t m f t rings_still
-
-    pub came : FollowsTrace (with_ring h r) z u m
-    unfolding with_ring
-    came =
-        let kept = f_keeps h is r coming k d absent in
-        let new = fresh h is r coming k d absent in
-        let well = bad_same h is r coming k d absent ∙ good in
-        subst (λ x. FollowsTrace (record h { rings = h.rings ++ r ∷ [] }) z x m) (sym more.rest)
-        (other_record h (h.rings ++ r ∷ []) z z.ring kept (comes.others h is z kept r coming new well) (comes.event_ring_same h is z kept r coming new well) t m still u rings_more)
+    pub comes_so : Comes h k r
+    comes_so = record { unnamed = none_there; same = same_by r.shape.kind refl; events = events_by r.shape.kind refl }

@@ -31,7 +31,7 @@ module _ (h : Header) (headed : IsHeader h) (id n : ℕ) (there : IsTransferAt h
     followed_after : (new : RingRecord) → FollowsRing ring.shape (changed ring.shape (k.ring ring.id) change) new → FollowsTrace h after (with_record kept n new) m
     unfolding on_ring
     followed_after new noted =
-        followed h k after kept m f (record { memory = refl; started = refl; stopped = refl; register = refl; reads = refl; dequeue = refl; device = refl; soiled = refl }) (λ s. refl) commands_after (with_record kept n new) refl
+        followed h k after kept m f (record { memory = refl; started = refl; stopped = refl; halt = refl; register = refl; reads = refl; dequeue = refl; device = refl; soiled = refl }) (λ s. refl) commands_after (with_record kept n new) refl
         (rings_with h headed k after kept.rings.items f.rings n ring there.at (only_on h headed k n ring there.at change) new (λ driver. subst (λ (v : RingView). FollowsRing ring.shape v new) (sym (here_on h headed k n ring there.at change)) noted))
         (follows_beside k after kept.devices f.devices)
 

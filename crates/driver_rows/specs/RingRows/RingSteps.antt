@@ -1,14 +1,15 @@
 -- What the check of a ring that comes or goes answers
-use Rattle.std.specs.Prelude.{◌≡◌, ℕ, true, false, ◌*◌, ◌∷◌, ◌++◌, [], None, Some, slice_get}
+use Rattle.std.specs.Prelude.{◌≡◌, ℕ, Bool, true, false, ◌*◌, ◌||◌, None, Some, slice_get}
 use Rattle.std.specs.List.{list_any}
-use Rattle.segments.specs.RingView.{new_ring}
 use Rattle.traces.specs.declared.header.Header.{Header}
 use Rattle.traces.specs.declared.ring.Ring.{Ring}
-use Rattle.traces.specs.Header.{is_transfer_kind, ring_with, touches_ring}
-use Rattle.ring_knowledge.specs.declared.ring_record.RingRecord.{RingRecord}
+use Rattle.traces.specs.Header.{command_ring, event_ring, is_command_kind, is_event_kind, is_transfer_kind, ring_with, touches_ring}
 use Rattle.ring_knowledge.specs.Known.{Known}
-use Rattle.ring_knowledge.specs.RingRecords.{FollowsRing}
 use Rattle.traces.specs.declared.row.Row.{Row}
+use Rattle.traces.specs.declared.row.Row.TheVariants.{Free as FreeRow}
+use Rattle.ownership_rules.specs.Older.{stricter}
+use Rattle.ownership_rules.specs.Rings.{is_bad_free}
+use Rattle.ownership_rules.specs.declared.refusal.Refusal.TheVariants.{BadFree}
 use Rattle.safety.specs.RingChanges.Histories.{IsKept}
 use Rattle.traces.specs.LivingRings.{header_after}
 use Rattle.ring_knowledge.specs.Histories.{known_after}
@@ -20,19 +21,24 @@ pub record IsRingStep (h : Header) (k : Known) (row : Row) (after : TraceRecord)
   pub kept : IsKept h k row
   pub followed : FollowsTrace (header_after h row) (known_after h k row) after memory
 
--- no ring has the ID, and none touches a segment: so the ring may stand with those of the header
+-- no ring has the ID, none touches a segment, and it is no second command or event ring: so it may stand with those of the header
 pub record IsClear (h : Header) (r : Ring) : Type 0 where
   pub unnamed : ring_with h r.id ≡ None
   pub untouched : list_any (λ s. touches_ring h s.base (16 * s.count)) r.shape.segments ≡ false
+  pub commands : is_command_kind r.shape.kind ≡ true → command_ring h ≡ None
+  pub events : is_event_kind r.shape.kind ≡ true → event_ring h ≡ None
 
--- behind the records of the other rings stands one of this ring, of which nothing is known; all else is as before
-pub record HasOneMore (r : Ring) (old new : TraceRecord) : Type 0 where
-  pub known : RingRecord
-  pub fresh : FollowsRing r.shape new_ring known
-  pub items : new.rings.items ≡ old.rings.items ++ known ∷ []
-  pub rest : new ≡ record old { rings = new.rings }
+-- the ring with this ID may not go, by the rule of the trace's version
+abbrev pub frees_badly : Header → Known → ℕ → Bool
+frees_badly h k id = stricter h k (FreeRow id) BadFree || is_bad_free h k id
 
--- the ring with this number is a transfer ring and has this ID
+-- the ring with this number has this ID
+pub record IsRingAt (h : Header) (id number : ℕ) : Type 0 where
+  pub ring : Ring
+  pub at : slice_get h.rings number ≡ Some ring
+  pub named : ring.id ≡ id
+
+-- it is a transfer ring
 pub record IsTransferAt (h : Header) (id number : ℕ) : Type 0 where
   pub ring : Ring
   pub at : slice_get h.rings number ≡ Some ring

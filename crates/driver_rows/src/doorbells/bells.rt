@@ -20,8 +20,8 @@ use guest_memory::WordMemory;
 use trace_record::{DeviceRecord, Finder, TraceRecord};
 use traces::Header;
 
-/// Whether a doorbell may not be rung now: before the start, that of the host controller with a target, or that of an endpoint
-/// that doesn't work or that an unfinished command may change (xHCI 4.7, 4.8.3, 5.6).
+/// Whether a doorbell may not be rung now: before the start, while the controller halts, that of the host controller with a target, or that
+/// of an endpoint that doesn't work or that an unfinished command may change (xHCI 4.7, 4.8.3, 5.6).
 #[inline(always)]
 pub fn is_bad_doorbell<M: WordMemory>(
     header: &Header,
@@ -34,6 +34,9 @@ pub fn is_bad_doorbell<M: WordMemory>(
         result ≡ is_bad_doorbell header.now k slot target }
 {
     if !t.registers.is_started() {
+        return true;
+    }
+    if t.registers.halt().is_asked() {
         return true;
     }
     if slot == 0 {

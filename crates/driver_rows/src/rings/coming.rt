@@ -1,27 +1,27 @@
 ghost use Rattle.std.specs.Prelude.{◌≡◌, ℕ, true, false, IfErr, OnOk};
-ghost use Rattle.trb.specs.declared.ring_kind.RingKind.TheVariants.{Xfer};
 ghost use Rattle.traces.specs.Header.{IsHeader};
 ghost use Rattle.ring_knowledge.specs.Known.{Known};
 ghost use Rattle.trace_record.specs.RingFinder.Finding.{IsFinder};
 ghost use Rattle.safety.specs.Keeps.{DriverKeeps};
 ghost use Rattle.trace_record.specs.FollowsTrace.{FollowsTrace};
+ghost use Rattle.trace_record.specs.Fresh.{IsWithin};
 ghost use Rattle.trace_record.specs.Steps.{IfRefused};
 ghost use Rattle.ownership_rules.specs.Rings.{is_bad_ring};
 ghost use Rattle.traces.specs.LivingRings.{with_ring};
+ghost use Rattle.traces.specs.Rows.{IsComing};
 ghost use Rattle.traces.specs.declared.row.Row.TheVariants.{Ring as RingRow};
 ghost use Rattle.ownership_rules.specs.declared.refusal.Refusal.TheVariants.{BadRing};
-ghost use Rattle.driver_rows.specs.RingRows.RingSteps.{HasOneMore, IsClear, IsRingStep};
+ghost use Rattle.driver_rows.specs.RingRows.RingSteps.{IsClear, IsRingStep};
 
 use crate::rings::new_rings::is_bad_ring;
 use guest_memory::WordMemory;
 use ownership_rules::Refusal;
-use ring_knowledge::RingRecord;
 use std::alloc::{AllocError, Global};
 use trace_record::{Finder, StepFault, TraceRecord};
 use traces::{Header, Ring};
 
-/// Checks a transfer ring that comes, before the stop, and takes it up: rule 35 (xHCI 4.9). The driver has kept the rules so far.
-/// Once a growth of memory was refused, what is kept is of no use any more.
+/// Checks a ring that comes, before the stop, and takes it up: rule 35 (xHCI 4.9). The driver has kept the rules so far. Once a growth of
+/// memory was refused, what is kept is of no use any more.
 pub fn check_coming<M: WordMemory>(
     alloc: Global,
     header: &mut Header,
@@ -32,7 +32,7 @@ pub fn check_coming<M: WordMemory>(
 ) -> Result<(), StepFault>
     requires headed { IsHeader header.now }
     requires found { IsFinder header.now.rings finder.now }
-    requires transfers { ring.shape.kind ≡ Xfer }
+    requires known { (k : Known) × FollowsTrace header.now k kept.now (M.words memory.now) }
     ensures comes { OnOk result (header.new ≡ with_ring header.old ring) }
     ensures headed { OnOk result (IsHeader header.new) }
     ensures found { OnOk result (IsFinder header.new.rings finder.new) }
@@ -40,35 +40,26 @@ pub fn check_coming<M: WordMemory>(
         IsRingStep header.old k (RingRow ring) kept.new (M.words memory.now)) }
     ensures refused { IfErr result (λ e. IfRefused e (λ c. (c ≡ BadRing) × ((k : Known) → FollowsTrace header.old k kept.old (M.words memory.now) →
         is_bad_ring header.old k ring ≡ true))) }
-    ensures events { kept.new.events ≡ kept.old.events }
+    ensures reads { (n : ℕ) → IsWithin kept.old.events n → IsWithin kept.new.events n }
 {
     if is_bad_ring(header, finder, kept, memory, &ring) {
         return Err(StepFault::Refused(Refusal::BadRing));
     }
-    add_ring(alloc, header, finder, kept, ring)?;
+    kept.add_ring(alloc, &ring)?;
+    list_ring(header, finder, ring)?;
     Ok(())
 }
 
-/// Takes up a transfer ring that may stand with those of the header.
-fn add_ring(
-    alloc: Global,
-    header: &mut Header,
-    finder: &mut Finder,
-    kept: &mut TraceRecord,
-    ring: Ring,
-) -> Result<(), AllocError>
+/// The header has a ring more that may stand with its others, and the finder finds it.
+fn list_ring(header: &mut Header, finder: &mut Finder, ring: Ring) -> Result<(), AllocError>
     requires headed { IsHeader header.now }
     requires found { IsFinder header.now.rings finder.now }
-    requires transfers { ring.shape.kind ≡ Xfer }
+    requires coming { IsComing ring }
     requires clear { IsClear header.now ring }
     ensures comes { OnOk result (header.new ≡ with_ring header.old ring) }
     ensures headed { OnOk result (IsHeader header.new) }
     ensures found { OnOk result (IsFinder header.new.rings finder.new) }
-    ensures noted { OnOk result (HasOneMore ring kept.old kept.new) }
-    ensures events { kept.new.events ≡ kept.old.events }
 {
-    let known = RingRecord::new(alloc, &ring.shape)?;
-    kept.rings.push(known)?;
     finder.add(header, &ring)?;
     header.rings.push(ring)?;
     Ok(())

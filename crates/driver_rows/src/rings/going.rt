@@ -4,12 +4,12 @@ ghost use Rattle.ring_knowledge.specs.Known.{Known};
 ghost use Rattle.trace_record.specs.RingFinder.Finding.{IsFinder};
 ghost use Rattle.safety.specs.Keeps.{DriverKeeps};
 ghost use Rattle.trace_record.specs.FollowsTrace.{FollowsTrace};
+ghost use Rattle.trace_record.specs.Fresh.{IsWithin};
 ghost use Rattle.trace_record.specs.Steps.{IfRefused};
-ghost use Rattle.ownership_rules.specs.Rings.{is_bad_free};
 ghost use Rattle.traces.specs.LivingRings.{without_ring};
 ghost use Rattle.traces.specs.declared.row.Row.TheVariants.{Free as FreeRow};
 ghost use Rattle.ownership_rules.specs.declared.refusal.Refusal.TheVariants.{BadFree};
-ghost use Rattle.driver_rows.specs.RingRows.RingSteps.{IsRingStep};
+ghost use Rattle.driver_rows.specs.RingRows.RingSteps.{IsRingStep, frees_badly};
 
 use crate::rings::freeing::free_ring;
 use ownership_rules::Refusal;
@@ -34,14 +34,15 @@ pub fn check_going(
     ensures found { OnOk result (IsFinder header.new.rings finder.new) }
     ensures ok { OnOk result ((k : Known) (memory : ℕ → ℕ) → FollowsTrace header.old k kept.old memory → DriverKeeps header.old k → k.stopped ≡ false →
         IsRingStep header.old k (FreeRow id) kept.new memory) }
+    ensures version { OnOk result ((k : Known) (memory : ℕ → ℕ) → FollowsTrace header.old k kept.old memory → DriverKeeps header.old k → frees_badly header.old k id ≡ false) }
     ensures refused { IfErr result (λ e. IfRefused e (λ c. (c ≡ BadFree) × ((k : Known) (memory : ℕ → ℕ) → FollowsTrace header.old k kept.old memory →
-        DriverKeeps header.old k → is_bad_free header.old k id ≡ true))) }
-    ensures events { kept.new.events ≡ kept.old.events }
+        DriverKeeps header.old k → frees_badly header.old k id ≡ true))) }
+    ensures reads { (n : ℕ) → IsWithin kept.old.events n → IsWithin kept.new.events n }
 {
     let Some(number) = free_ring(header, finder, kept, id) else {
         return Err(StepFault::Refused(Refusal::BadFree));
     };
-    kept.rings.remove(number);
+    kept.remove_ring(header, number)?;
     header.rings.remove(number);
     *finder = Finder::new(alloc, header)?;
     Ok(())

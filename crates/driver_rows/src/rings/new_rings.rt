@@ -1,4 +1,5 @@
 ghost use Rattle.std.specs.Prelude.{◌≡◌, ◌+◌, ◌*◌, ◌%◌, ◌^◌, ◌≤◌, false, is_some};
+ghost use Rattle.segments.specs.Shape.{IsShape};
 ghost use Rattle.traces.specs.Header.{IsHeader, ring_with, touches_ring};
 ghost use Rattle.ring_knowledge.specs.Known.{Known};
 ghost use Rattle.trace_record.specs.RingFinder.Finding.{IsFinder};
@@ -13,7 +14,7 @@ use segments::Segment;
 use trace_record::{Finder, TraceRecord};
 use traces::{Header, Ring};
 
-/// Whether a transfer ring may not come: another has its ID, or one of its segments is not for it to have.
+/// Whether a ring may not come: another has its ID, it can't come now, or one of its segments is not for it to have.
 pub(crate) fn is_bad_ring<M: WordMemory>(
     header: &Header,
     finder: &Finder,
@@ -23,13 +24,18 @@ pub(crate) fn is_bad_ring<M: WordMemory>(
 ) -> bool
     requires headed { IsHeader header.now }
     requires found { IsFinder header.now.rings finder.now }
+    requires known { (k : Known) × FollowsTrace header.now k kept.now (M.words memory.now) }
     ensures rule { (k : Known) → FollowsTrace header.now k kept.now (M.words memory.now) → result ≡ is_bad_ring header.now k ring.now }
     ensures clear { result ≡ false → IsClear header.now ring.now }
+    ensures allowed { IsShape ring.now.shape }
 {
+    let _places = ring.shape.places();
     if is_named(finder, header, ring.id) {
         return true;
     }
-    let _places = ring.shape.places();
+    if kept.is_bad_kind(header, finder, ring.shape.kind()) {
+        return true;
+    }
     for segment in ring.shape.segments() {
         if is_bad_segment(header, finder, kept, memory, *segment) {
             return true;

@@ -1,6 +1,6 @@
 -- The rings that unfinished commands bind behind a completion: those of before, but for those of the command that ended
-use Rattle.event_rows.proofs.Words.{arith, rules, ◌≡◌, ◌||◌, ◌∷◌, ◌∙◌, ℕ, Bool, true, false, List, [], Some, ap, refl, sym, inl, inr, ◌==◌, ◌&&◌, if◌then◌else◌, not, list_any, and_parts, Block, code, slot, Command, can_succeed, Header, Config, IsHeader, command_id, register_or_zero, Known, completed, command_at, next_command, unfinished, IsIn, can_finish, is_impossible_completion, was_stop_seen, binds_ring, is_being_bound, DriverKeeps, IsDriverRing, IsUnfinished, Beside, binds_ring_beside, Changed, changed_by_code, beside_finished, unfinished_before, CompletionFacts, by_completion, next_unfinished, command_is_ring, completion_same, listed_unfinished, RingSet, has, HoldsBound, FitsMemory, any_in, aligned_at, good_fits}
-use Rattle.event_rows.proofs.CommandCompletions.Finished.{unfinished_is, was_started}
+use Rattle.event_rows.proofs.Words.{arith, rules, ◌≡◌, ◌||◌, ◌∷◌, ◌∙◌, ℕ, Bool, true, false, List, [], Some, ap, refl, sym, inl, inr, ◌==◌, ◌&&◌, if◌then◌else◌, not, list_any, and_parts, Block, code, slot, Command, can_succeed, Header, Config, IsHeader, command_id, register_or_zero, Known, completed, command_at, next_command, unfinished, IsIn, can_finish, is_impossible_completion, was_stop_seen, binds_ring, is_being_bound, DriverKeeps, IsDriverRing, IsUnfinished, Beside, binds_ring_beside, Changed, changed_by_code, beside_finished, unfinished_before, CompletionFacts, by_completion, next_unfinished, command_is_ring, named_if_taken, completion_same, listed_unfinished, RingSet, has, HoldsBound, FitsMemory, any_in, aligned_at, good_fits}
+use Rattle.event_rows.proofs.CommandCompletions.Finished.{unfinished_is}
 
 none_in : {X : Type 0} (p : X → Bool) (xs : List X) → ((x : X) → IsIn x xs → p x ≡ false) → list_any p xs ≡ false
 none_in p [] none = refl
@@ -10,21 +10,18 @@ none_in p (x ∷ xs) none = λ i. none x (inl refl) i || none_in p xs (λ y at. 
 without_first : (first rest : Bool) → (first ≡ true → rest ≡ false) → ((first || rest) && not first) ≡ rest
 without_first first rest e = search rules
 
-module _ (h : Header) (is : IsHeader h) (k : Known) (d : DriverKeeps h k) (b : Block) (possible : is_impossible_completion h k b ≡ false) (e : Command) (here : command_at h k (next_command h k) ≡ Some e) where
+module _ (h : Header) (is : IsHeader h) (k : Known) (d : DriverKeeps h k) (on : k.started ≡ true) (b : Block) (possible : is_impossible_completion h k b ≡ false) (e : Command) (here : command_at h k (next_command h k) ≡ Some e) where
   abbrev l : Known
   l = completed h k b
 
   facts : CompletionFacts h k b
   facts = by_completion h k b possible
 
-  on : k.started ≡ true
-  on = was_started h is k d b possible
-
   ends : IsUnfinished h k (next_command h k) e
   ends = next_unfinished h is k d on facts.below e here
 
   ring : IsDriverRing h (command_id h)
-  ring = command_is_ring h k d on
+  ring = command_is_ring h k d (named_if_taken h k d on facts.below)
 
   may : (if code b == 1 then can_succeed k.slot_state k.endpoint_state (register_or_zero k.register Config) (slot b) e else not (was_stop_seen k e)) ≡ true
   unfolding can_finish

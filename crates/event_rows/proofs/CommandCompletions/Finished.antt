@@ -1,5 +1,5 @@
 -- The end of the next command, where the driver has kept the rules
-use Rattle.event_rows.proofs.LowerLaws.{rules, ◌≡◌, ◌+◌, ◌<◌, ◌≤◌, ◌==◌, ◌∙◌, ◌∷◌, ◌^◌, ℕ, true, false, Some, None, ap, sym, refl, arith, eq-eqb, ne_eqb, cons_option, cond-true, cond-false, false≢true, or_parts, nat_tests, put, Block, code, slot, after, RingView, Reaches, floor_number, ceiling, input_context_bytes, Command, DisableSlot, StopEndpoint, named_context, changes, Header, IsHeader, command_id, shape_of, HasRoom, Known, command_at, next_command, on_ring, unfinished, completed, finished, stop_ended, unfinished_completed, has_bad_context, can_finish, is_impossible_completion, IsDriverRing, CommandKeeps, DriverKeeps, Unstarted, MayChangeAll, area_parts, bad_command_context, rings_of, endpoints_of, finish_elsewhere, ring_shape, CompletionFacts, by_completion, command_holds, next_at_floor, next_unfinished, ceiling_given, still_places, AtFloor, command_is_ring, AreSlots, IsNextGiven, succeeded_if, none_finishes, devices_by, disable_one, finished_rest, others_none}
+use Rattle.event_rows.proofs.LowerLaws.{named_if_taken, rules, ◌≡◌, ◌+◌, ◌≤◌, ◌==◌, ◌∙◌, ◌∷◌, ◌^◌, ℕ, true, false, Some, None, ap, sym, refl, arith, eq-eqb, ne_eqb, cons_option, cond-true, cond-false, false≢true, or_parts, nat_tests, put, Block, code, slot, after, RingView, Reaches, floor_number, input_context_bytes, Command, DisableSlot, StopEndpoint, named_context, changes, Header, IsHeader, command_id, shape_of, HasRoom, Known, command_at, next_command, on_ring, unfinished, completed, finished, stop_ended, unfinished_completed, has_bad_context, can_finish, is_impossible_completion, IsDriverRing, CommandKeeps, DriverKeeps, MayChangeAll, area_parts, bad_command_context, rings_of, endpoints_of, finish_elsewhere, ring_shape, CompletionFacts, by_completion, command_holds, next_at_floor, next_unfinished, ceiling_given, still_places, AtFloor, command_is_ring, AreSlots, IsNextGiven, succeeded_if, none_finishes, devices_by, disable_one, finished_rest, others_none}
 
 -- ---- what stops
 
@@ -50,32 +50,25 @@ given_still : (h : Header) (k l : Known) → l.ring (command_id h) ≡ k.ring (c
 unfolding next_command
 given_still h k l same n = search rules
 
-at_start : (h : Header) (k : Known) → Unstarted h k → next_command h k < ceiling (shape_of h (command_id h)) (k.ring (command_id h)) → ⊥
-unfolding next_command ceiling
-at_start h k u below = search rules
-
-module _ (h : Header) (headed : IsHeader h) (k : Known) (d : DriverKeeps h k) (b : Block) (possible : is_impossible_completion h k b ≡ false) where
+module _ (h : Header) (headed : IsHeader h) (k : Known) (d : DriverKeeps h k) (on : k.started ≡ true) (b : Block) (possible : is_impossible_completion h k b ≡ false) where
   facts : CompletionFacts h k b
   facts = by_completion h k b possible
-
-  pub was_started : k.started ≡ true
-  was_started = search (rules, at_start, facts)
 
   pub has_next : {X : Type 0} → command_at h k (next_command h k) ≡ None → X
   has_next none = absurd (false≢true (sym (ap (λ o. can_finish k b o) none ∙ none_finishes k b) ∙ facts.finishes))
 
   floor : AtFloor h k
-  floor = next_at_floor h headed k d was_started facts.below
+  floor = next_at_floor h headed k d on facts.below
 
   ring : IsDriverRing h (command_id h)
-  ring = command_is_ring h k d was_started
+  ring = command_is_ring h k d (named_if_taken h k d on facts.below)
 
   next_given : IsNextGiven h k
   next_given = search (rules, floor, (d.rings (command_id h) ring).given_declared, ring, facts, ceiling_given (shape_of h (command_id h)) (ring_shape h headed (command_id h) ring).is k.memory (k.ring (command_id h)) (d.rings (command_id h) ring))
 
   module _ (c : Command) (here : command_at h k (next_command h k) ≡ Some c) where
     keeps : CommandKeeps h k (next_command h k) c
-    keeps = d.unfinished (next_command h k) c (next_unfinished h headed k d was_started facts.below c here)
+    keeps = d.unfinished (next_command h k) c (next_unfinished h headed k d on facts.below c here)
 
     pub may_change : MayChangeAll h c k (changes h.context_size k.memory (slot b) c)
     may_change = still_places h headed k (rings_of h k d) (endpoints_of h k d.states) (slot b) c (command_holds h k (next_command h k) c keeps)

@@ -14,6 +14,7 @@ devices_by (change ∷ rest) f = devices_by rest (device_by change f)
 pub record IsRest (k l : Known) (devices : ℕ → Option ℕ) : Type 0 where
   pub started : l.started ≡ k.started
   pub stopped : l.stopped ≡ k.stopped
+  pub halt : l.halt ≡ k.halt
   pub register : l.register ≡ k.register
   pub memory : l.memory ≡ k.memory
   pub soiled : l.soiled ≡ k.soiled
@@ -22,7 +23,7 @@ pub record IsRest (k l : Known) (devices : ℕ → Option ℕ) : Type 0 where
   pub device : l.device ≡ devices
 
 pub rest_same : (k : Known) → IsRest k k k.device
-rest_same k = record { started = refl; stopped = refl; register = refl; memory = refl; soiled = refl; reads = refl; dequeue = refl; device = refl }
+rest_same k = record { started = refl; stopped = refl; halt = refl; register = refl; memory = refl; soiled = refl; reads = refl; dequeue = refl; device = refl }
 
 rest_on : (k l m : Known) (f g : ℕ → Option ℕ) → IsRest k l f → IsRest l m g → IsRest k m g
 rest_on k l m f g a b = search rules
@@ -30,7 +31,7 @@ rest_on k l m f g a b = search rules
 module _ (h : Header) where
   set_rest : (k : Known) (r : ℕ) (t : Spot) → IsRest k (set_to h k r t) k.device
   unfolding set_to on_ring
-  set_rest k r t = record { started = refl; stopped = refl; register = refl; memory = refl; soiled = refl; reads = refl; dequeue = refl; device = refl }
+  set_rest k r t = record { started = refl; stopped = refl; halt = refl; register = refl; memory = refl; soiled = refl; reads = refl; dequeue = refl; device = refl }
 
   moved_rest : (k : Known) (o : Option ℕ) (p : ℕ) (cycle : Bool) → IsRest k (moved h k o p cycle) k.device
   unfolding moved moved_to

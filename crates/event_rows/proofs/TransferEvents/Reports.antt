@@ -1,5 +1,5 @@
 -- Where a controller can have posted a Transfer Event
-use Rattle.event_rows.proofs.Words.{arith, rules, ◌≡◌, ℕ, Bool, true, false, Option, Some, None, refl, ap, sym, ◌∙◌, subst, inl, inr, ◌==◌, ◌&&◌, ◌||◌, not, slice_get, position, nat_lt, is_some, option_and_then, if◌then◌else◌, option_map, cases_Bool, eqb-true, false≢true, same_Some, none-some, Block, code, endpoint, pointer, slot, is_success, is_halting, is_trb_error, Spot, ceiling, is_data_below, is_stop_spot, named, RingView, floor_number, IsSpot, ceiling_held, command_of, is_stop_of, is_off, RingKind, Ring, Header, Crcr, IsHeader, command_id, is_command_kind, is_driver_kind, is_transfer_kind, shape_of, Known, RingRecord, FollowsRing, TraceRecord, FollowsTrace, RingSpot, command_at, event_at, next_command, spot_on, IsAmong, among_at, find_some, no_command_here, ring_found, shape_there, can_report, can_report_at, is_impossible_transfer, is_in_profile, is_stopping_now, is_working, may_be_taken, DriverKeeps, IsDriverRing, IsTransferRing, number_of, found_at, none_found, command_found, command_id_is, nat_tests, is_stopping, is_of_service, code_told}
+use Rattle.event_rows.proofs.Words.{arith, rules, ◌≡◌, ℕ, Bool, true, false, Option, Some, None, refl, ap, sym, ◌∙◌, subst, ◌==◌, ◌&&◌, ◌||◌, not, slice_get, position, nat_lt, option_and_then, if◌then◌else◌, option_map, eqb-true, false≢true, same_Some, none-some, Block, code, endpoint, pointer, slot, is_success, is_halting, is_trb_error, Spot, ceiling, is_data_below, is_stop_spot, named, RingView, floor_number, IsSpot, command_of, is_stop_of, is_off, RingKind, Ring, Header, IsHeader, command_id, is_command_kind, is_driver_kind, is_transfer_kind, shape_of, Known, RingRecord, FollowsRing, TraceRecord, FollowsTrace, RingSpot, command_at, event_at, next_command, spot_on, IsAmong, among_at, find_some, no_command_here, no_command_ring, untaken, ring_found, shape_there, can_report, can_report_at, is_impossible_transfer, is_in_profile, is_stopping_now, is_working, may_be_taken, DriverKeeps, IsDriverRing, IsTransferRing, number_of, found_at, none_found, command_found, command_id_is, is_stopping, is_of_service, code_told}
 
 pub driven : (kind : RingKind) → is_transfer_kind kind ≡ true → is_driver_kind kind ≡ true
 driven kind e = search rules
@@ -98,16 +98,11 @@ module _ (h : Header) (headed : IsHeader h) (k : Known) (keeps : DriverKeeps h k
   module _ (s i : ℕ) where
     -- without a command ring there is none
     pub no_stop : position (λ ring. is_command_kind ring.shape.kind) h.rings ≡ None → is_stopping_now h k s i ≡ false
-    unfolding is_stopping_now may_be_taken
-    no_stop none = elim (cases_Bool k.started) [
-      | inl on ↦ absurd (no_ring (k.register Crcr) refl (keeps.crcr_written on))
-      | inr off ↦ search (rules, ceiling_held (shape_of h (command_id h)) (k.ring (command_id h)) 0 ((keeps.unstarted off).held (command_id h)), nat_tests)
-    ]
+    unfolding is_stopping_now
+    no_stop none = rw (← untaken h headed k (no_command_ring h none) (λ used. absurd (no_driver (keeps.run.absent used)))) refl
       where
-        no_ring : (o : Option ℕ) → k.register Crcr ≡ o → is_some o ≡ true → ⊥
-        no_ring None written e = false≢true e
-        no_ring (Some v) written e =
-            let is = (keeps.crcr v written).is_ring in
+        no_driver : IsDriverRing h (command_id h) → ⊥
+        no_driver is =
             let found = find_some (λ q. q.id == command_id h) h.rings is.ring is.found in
             no_command_here h headed is.ring found.0 (none_found (λ ring. is_command_kind ring.shape.kind) h.rings none is.ring found.0) (eqb-true is.ring.id (command_id h) found.1)
 

@@ -47,10 +47,10 @@ pub fn read_completion<M: WordMemory>(
 ) -> bool
     requires headed { IsHeader header.now }
     requires found { IsFinder header.now.rings finder.now }
-    ensures possible { (k : Known) → FollowsTrace header.now k t.old (M.words memory.now) → IsSetUp header.now k → k.started ≡ true → IsNext header.now k next →
+    ensures possible { (k : Known) → FollowsTrace header.now k t.old (M.words memory.now) → IsSetUp header.now k → IsNext header.now k next →
         result ≡ not (is_impossible_completion header.now k block) }
-    ensures followed { OnTrue result ((k : Known) → FollowsTrace header.now k t.old (M.words memory.now) → DriverKeeps header.now k → IsSetUp header.now k → IsNext header.now k next →
-        is_impossible_completion header.now k block ≡ false → FollowsTrace header.now (completed header.now k block) t.new (M.words memory.now)) }
+    ensures followed { OnTrue result ((k : Known) → FollowsTrace header.now k t.old (M.words memory.now) → DriverKeeps header.now k → IsSetUp header.now k → k.started ≡ true →
+        IsNext header.now k next → is_impossible_completion header.now k block ≡ false → FollowsTrace header.now (completed header.now k block) t.new (M.words memory.now)) }
     ensures events { t.new.events ≡ t.old.events }
 {
     let command = command_said(next);
@@ -73,7 +73,7 @@ fn finish<M: WordMemory>(
     requires headed { IsHeader header.now }
     requires found { IsFinder header.now.rings finder.now }
     requires well { IfSome command IsWell }
-    ensures followed { (k : Known) → FollowsTrace header.now k t.old (M.words memory.now) → DriverKeeps header.now k → IsSetUp header.now k →
+    ensures followed { (k : Known) → FollowsTrace header.now k t.old (M.words memory.now) → DriverKeeps header.now k → IsSetUp header.now k → k.started ≡ true →
         command ≡ command_at header.now k (next_command header.now k) → is_impossible_completion header.now k block ≡ false → FollowsTrace header.now (completed header.now k block) t.new (M.words memory.now) }
     ensures events { t.new.events ≡ t.old.events }
 {

@@ -1,9 +1,8 @@
 //! Which Command Completion Events no controller can have posted (xHCI 4.6, 4.5.3, 4.8.3).
-ghost use Rattle.std.specs.Prelude.{◌≡◌, true, ℕ};
+ghost use Rattle.std.specs.Prelude.{◌≡◌, ℕ};
 ghost use Rattle.segments.specs.RingView.{RingView, floor_number};
 ghost use Rattle.traces.specs.Header.{IsHeader};
 ghost use Rattle.ring_knowledge.specs.Known.{Known};
-ghost use Rattle.ring_knowledge.specs.Rings.{command_at, next_command};
 ghost use Rattle.ring_knowledge.specs.RegisterRecords.{FollowsRegisters};
 ghost use Rattle.ring_knowledge.specs.RingRecords.{FollowsRing};
 ghost use Rattle.trace_record.specs.DeviceSlots.Devices.{FollowsDevices};
@@ -12,6 +11,7 @@ ghost use Rattle.trace_record.specs.RingFinder.Finding.{IsFinder};
 ghost use Rattle.trace_record.specs.FollowsTrace.{FollowsTrace};
 ghost use Rattle.trace_record.specs.Premises.{IsSetUp};
 ghost use Rattle.trace_record.specs.RingCommands.{command_in};
+ghost use Rattle.trace_record.specs.RowPlaces.{IsNext};
 ghost use Rattle.event_rows.specs.CommandCompletions.Commands.{is_no_completion};
 
 use crate::completions::possible::cannot_finish;
@@ -33,8 +33,8 @@ pub(crate) fn is_impossible_completion(
 ) -> bool
     requires headed { IsHeader header.now }
     requires found { IsFinder header.now.rings finder.now }
-    ensures { (k : Known) (words : ℕ → ℕ) → FollowsTrace header.now k t.now words → IsSetUp header.now k → k.started ≡ true →
-        command ≡ command_at header.now k (next_command header.now k) → result ≡ is_impossible_completion header.now k block }
+    ensures { (k : Known) (words : ℕ → ℕ) → FollowsTrace header.now k t.now words → IsSetUp header.now k → IsNext header.now k command →
+        result ≡ is_impossible_completion header.now k block }
 {
     let Some(number) = finder.commands else {
         return true;

@@ -1,9 +1,9 @@
 -- What is lent after the end of a command: what its completion passes and lets go of ends, and nothing begins
-use Rattle.leases.proofs.MiddleLaws.{arith, ◌≡◌, ℕ, List, map, Option, Header, Ring, Row, driver_rings, Known, learned, IsIn, ended_where, let_go, Lent, grown, AreOpen, Finishes, ranges_narrow, floors, is_left, narrows, Moves, only_ended}
+use Rattle.leases.proofs.MiddleLaws.{arith, ◌≡◌, ℕ, List, map, Option, Header, Ring, Row, driver_rings, Known, IsIn, ended_where, let_go, Lent, grown, AreOpen, Moves, only_ended, learned_or_reset, Finishes, ranges_narrow, floors, is_left, narrows}
 
 module _ (h : Header) (k : Known) (ts : List Lent) (still : AreOpen h k ts) (row : Row) (n : ℕ) where
   abbrev k' : Known
-  k' = learned h k row
+  k' = learned_or_reset h k row
 
   -- rings move on by floors, the command ring by the next command; a slot may be left
   pub finish_lent : (left : Option ℕ) → Finishes h k k' left → ((q : Ring) → IsIn q (driver_rings h) → Moves q.shape (k.ring q.id) (k'.ring q.id) (floors k' q.id)) →

@@ -1,6 +1,6 @@
 -- Where a slot has no device, no range is lent for its entry in the DCBAA, nor for its device context; where a due position isn't given, none
 -- for the input context of its command
-use Rattle.leases.proofs.UpperLaws.{◌≡◌, ◌+◌, ◌<◌, ◌≤◌, ◌==◌, ℕ, true, false, not, List, Some, None, ap, eqb-true, range_with_len, false≢true, place_count, RingView, due_positions, floor_number, Header, Ring, command_id, shape_of, Known, same_due, Leased, Block, Link, Range, EventSegment, SegmentTable, InputContext, SlotEntry, DeviceContext, is_among, open_leases, IsIn, from_filter, is_use_free, shares_use, Lent, AreOpen, rules, none_shares, InOn, block, link, from_range, HoldsOfRanges, each_open, of_range}
+use Rattle.leases.proofs.UpperLaws.{◌≡◌, ◌+◌, ◌<◌, ◌≤◌, ◌==◌, ℕ, true, false, not, List, Some, None, ap, eqb-true, range_with_len, false≢true, place_count, RingView, due_positions, floor_number, Header, Ring, command_id, shape_of, Known, same_due, Leased, Block, Link, Range, EventSegment, SegmentTable, InputContext, SlotEntry, DeviceContext, is_among, open_leases, IsIn, from_filter, is_use_free, shares_use, Lent, AreOpen, rules, none_shares, InOn, block, link, from_range, HoldsOfRanges, each_open, of_range, Erstba, among_is, arith, IsNoTable, no_table}
 use Rattle.ring_knowledge.specs.Rings as rings
 
 module _ (h : Header) (k : Known) (P : Leased → Type 0) where
@@ -55,3 +55,12 @@ module _ (h : Header) (k : Known) (ts : List Lent) (still : AreOpen h k ts) (p :
     context_free =
         ap not (none_shares (λ l. is_among (open_leases h k) l ≡ true) (shares_use h (InputContext p)) 0 ts
         (of_open h k (λ l. shares_use h (InputContext p) l ≡ false) (search (rules, from_filter, range_with_len, floor_number, from_range, same_due, eqb-true, false≢true))) still)
+
+-- where it isn't written no table is lent
+pub table_free : (h : Header) (k : Known) (ts : List Lent) → AreOpen h k ts → k.register Erstba ≡ None → is_use_free h ts SegmentTable ≡ true
+unfolding is_use_free
+table_free h k ts still unwritten =
+    ap not (none_shares (λ l. is_among (open_leases h k) l ≡ true) (shares_use h SegmentTable) 0 ts (λ l among. shares_none l (no_table h k unwritten l (among_is (open_leases h k) l among))) still)
+  where
+    shares_none : (l : Leased) → IsNoTable l → shares_use h SegmentTable l ≡ false
+    shares_none l none = grind arith

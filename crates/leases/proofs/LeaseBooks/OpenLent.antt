@@ -6,7 +6,7 @@ unfolding with_leased
 to_with l [] m at = at
 to_with l (x ∷ rest) m at = search (rules, to_with l rest m)
 
-to_turn : (ls : List Leased) (m : Leased) → IsIn m ls → IsIn m (in_turn ls)
+pub to_turn : (ls : List Leased) (m : Leased) → IsIn m ls → IsIn m (in_turn ls)
 unfolding in_turn
 to_turn [] m at = at
 to_turn (l ∷ rest) m at = search (rules, to_with l (in_turn rest) m, to_turn rest m)

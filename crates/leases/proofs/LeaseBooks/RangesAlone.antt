@@ -63,6 +63,14 @@ module _ (h : Header) (k : Known) (l : Leased) where
   unfolding open_leases
   ring_open q among on = in_left l (flat_map (open_on h k) (driver_rings h)) (open_ranges h k) (in_flat_map (open_on h k) (driver_rings h) q l among (on_in h k q l on))
 
+  pub segment_open : IsIn l (segment_ranges h) → IsIn l (open_leases h k)
+  unfolding open_ranges
+  segment_open at = range_open (search (rules, in_left, in_right))
+
+  pub table_open : IsIn l (table_range h (k.register Erstba)) → IsIn l (open_leases h k)
+  unfolding open_ranges
+  table_open at = range_open (search (rules, in_left, in_right))
+
   pub context_open : IsIn l (context_ranges h k) → IsIn l (open_leases h k)
   unfolding open_ranges
   context_open at = range_open (search (rules, in_left, in_right))

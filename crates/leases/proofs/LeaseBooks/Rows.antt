@@ -1,9 +1,9 @@
 -- What is lent after one more row, by which leases are open after it
-use Rattle.leases.proofs.BaseWords.{◌≡◌, ◌+◌, ◌<◌, ◌&&◌, ◌∷◌, ◌++◌, ◌∙◌, ℕ, Bool, true, false, not, List, [], map, filter, sym, refl, inl, inr, cond, append-nil, false≢true, and_parts, nat_tests, Header, Row, Known, learned, Leased, is_among, open_leases, without_end, IsIn, from_filter, in_among, Lent, is_unended, begun_at, with_leased, in_turn, ended_where, with_begun, grown, newly_open, passed_on, AllUnended, AreOpen, rules}
+use Rattle.leases.proofs.BaseWords.{◌≡◌, ◌+◌, ◌<◌, ◌&&◌, ◌∷◌, ◌++◌, ◌∙◌, ℕ, Bool, true, false, not, List, [], map, filter, sym, refl, inl, inr, cond, append-nil, false≢true, and_parts, nat_tests, Header, Row, Known, learned_or_reset, Leased, is_among, open_leases, without_end, IsIn, from_filter, in_among, Lent, is_unended, begun_at, with_leased, in_turn, ended_where, with_begun, grown, newly_open, passed_on, AllUnended, AreOpen, rules}
 use Rattle.leases.proofs.LeaseBooks.Passing.{and_true, ended_alike, none_over}
 
 -- what stands in order stood there before
-from_with : (l : Leased) (ls : List Leased) (m : Leased) → IsIn m (with_leased l ls) → IsIn m (l ∷ ls)
+pub from_with : (l : Leased) (ls : List Leased) (m : Leased) → IsIn m (with_leased l ls) → IsIn m (l ∷ ls)
 unfolding with_leased
 from_with l [] m at = at
 from_with l (x ∷ rest) m at = search (rules, from_with l rest m)
@@ -86,7 +86,7 @@ module _ (h : Header) where
     was = open_at k
 
     abbrev is : List Leased
-    is = open_at (learned h k row)
+    is = open_at (learned_or_reset h k row)
 
     pub grown_by : (over : Leased → Bool) (new : List Leased) → ((l : Leased) → IsOpen was l → is_among is l ≡ not (over l)) → in_turn (filter (λ l. not (is_among was l)) is) ≡ new →
         grown h k row n ts ≡ with_begun n (map (ended_where over n) ts) new

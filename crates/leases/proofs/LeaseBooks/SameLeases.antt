@@ -1,5 +1,5 @@
--- Rows that neither begin nor end a lease: doorbells, declarations, most registers
-use Rattle.leases.proofs.BaseWords.{◌≡◌, ◌≢◌, ◌<◌, ◌==◌, ◌∷◌, ◌++◌, ◌⊎◌, ℕ, Bool, true, false, List, [], length, Option, Some, None, slice_get, suc, arith, refl, inl, inr, cond, eqb-true, flat_map, cases_Bool, RingView, is_handed_over, RingChange, Declares, Opens, Holds, changed, due_crossings, due_positions, leased_crossings, leased_positions, Trb, Header, Ring, Register, Dcbaap, Erstba, Sub, Reg, Bell, command_id, driver_rings, shape_of, reset_bit, run_bit, with_register, Known, learned, entry_of, context_ranges, device_ranges, entry_ranges, open_leases, open_on, open_ranges, range_of_command, range_of_entry, slots, IsIn, rules}
+-- Rows that neither begin nor end a lease: doorbells, declarations, most registers, and those that are read
+use Rattle.leases.proofs.BaseWords.{◌≡◌, ◌<◌, ◌==◌, ◌∷◌, ◌++◌, ◌⊎◌, ℕ, Bool, true, false, List, [], length, Option, Some, None, slice_get, suc, arith, refl, ap, inl, inr, cond, eqb-true, flat_map, cases_Bool, RingView, is_handed_over, RingChange, Declares, Opens, Holds, changed, due_crossings, due_positions, leased_crossings, leased_positions, Trb, Header, Ring, Register, Dcbaap, Erstba, Sub, Reg, Bell, command_id, driver_rings, shape_of, with_register, Known, learned, entry_of, context_ranges, device_ranges, entry_ranges, open_leases, open_on, open_ranges, range_of_command, range_of_entry, slots, IsIn, rules, register_leaves, registered, status_leaves, RegRead}
 use Rattle.ring_knowledge.specs.Rings as rings
 use Rattle.ring_knowledge.specs.Registers as registers
 
@@ -90,16 +90,20 @@ module _ (h : Header) where
   unfolding learned rings.on_ring rings.command_at
   sub_same k r blocks known = open_same k (rings.on_ring h k r (Declares blocks)) (search (rules, idle_rests k (rings.on_ring h k r (Declares blocks)) r (Declares blocks) (declares blocks), more_queued))
 
-  -- a register write changes the register, and neither rings nor device contexts
-  pub record WritesRegister (k k' : Known) (r : Register) (v : ℕ) : Type 0 where
-    pub ring : k'.ring ≡ k.ring
-    pub device : k'.device ≡ k.device
-    pub register : k'.register ≡ with_register k.register r v
+  -- what changes neither rings nor device contexts, nor the tables that registers name, as far as leases rest on them
+  pub tables_same : (k k' : Known) → k'.ring ≡ k.ring → k'.device ≡ k.device → k'.register Erstba ≡ k.register Erstba →
+      (k'.register Dcbaap ≡ k.register Dcbaap) ⊎ ((s : ℕ) → k.device s ≡ None) → open_leases h k' ≡ open_leases h k
+  tables_same k k' rings_are devices table array = open_same k k' (search (rules, command_same, command_id, entries_kept))
 
-  pub writes_register : (k : Known) (r : Register) (v : ℕ) → WritesRegister k (learned h k (Reg r v)) r v
-  unfolding learned registers.register_written registers.valued registers.run_or_stop
-  writes_register k r v = grind (arith, run_bit, reset_bit)
+  -- the write of a register where ERSTBA stays, and DCBAAP too or no device context is under lease
+  pub reg_same : (k : Known) (r : Register) (v : ℕ) → with_register k.register r v Erstba ≡ k.register Erstba →
+      (with_register k.register r v Dcbaap ≡ k.register Dcbaap) ⊎ ((s : ℕ) → k.device s ≡ None) → open_leases h (learned h k (Reg r v)) ≡ open_leases h k
+  reg_same k r v table array =
+      let leaves = register_leaves h k r v in
+      tables_same k (learned h k (Reg r v)) leaves.ring leaves.memory.device (rw (registered h k r v) table) (rw (registered h k r v) array)
 
-  -- a register but ERSTBA, and DCBAAP where no device context is under lease
-  pub reg_same : (k : Known) (r : Register) (v : ℕ) → r ≢ Erstba → (r ≢ Dcbaap) ⊎ ((s : ℕ) → k.device s ≡ None) → open_leases h (learned h k (Reg r v)) ≡ open_leases h k
-  reg_same k r v other array = search (rules, learned, writes_register, open_same, command_same, command_id, entries_kept)
+  -- a register that is read
+  pub read_same : (k : Known) (r : Register) (v : ℕ) → open_leases h (learned h k (RegRead r v)) ≡ open_leases h k
+  read_same k r v =
+      let leaves = status_leaves h k r v in
+      tables_same k (learned h k (RegRead r v)) leaves.ring leaves.memory.device (ap (λ f. f Erstba) leaves.register) (inl (ap (λ f. f Dcbaap) leaves.register))

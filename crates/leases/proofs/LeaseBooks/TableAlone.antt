@@ -1,5 +1,6 @@
 -- The write of ERSTBA begins the lease of the segment table, and no other
 use Rattle.leases.proofs.LowerLaws.{false_unless, ◌≡◌, ◌∷◌, ◌++◌, ℕ, Bool, true, not, List, [], filter, None, sym, ap, subst, refl, flat_map, filter-append, table_bytes, Header, Ring, Reg, Erstba, driver_rings, event_shape, base_address, Known, learned, register_written, valued, entry_of, Leased, Range, SegmentTable, context_ranges, device_ranges, entry_ranges, is_among, open_leases, open_on, open_ranges, range_of_entry, segment_ranges, table_range, IsIn, among_is, in_among, in_turn, with_begun, with_leased, Lent, grown, AreOpen, rules, InOn, block, either_into, five_into, in_left, in_right, link, each_open, of_range, none_new, only_begun}
+unfoldable use Rattle.leases.proofs.BaseWords.{resets}
 use Rattle.ring_knowledge.specs.Rings as rings
 
 abbrev pub IsNoTable : Leased → Type 0
@@ -74,5 +75,5 @@ module _ (h : Header) (k : Known) where
 -- the law
 pub lent_table : (h : Header) (k : Known) (ts : List Lent) → AreOpen h k ts → (v n : ℕ) → k.register Erstba ≡ None →
     grown h k (Reg Erstba v) n ts ≡ with_begun n ts (Range (table_bytes (event_shape h)) (base_address v) SegmentTable ∷ [])
-unfolding in_turn with_leased
-lent_table h k ts still v n unwritten = search (rules, only_begun, all_stay, begun_is)
+unfolding in_turn with_leased resets
+lent_table h k ts still v n unwritten = only_begun h k ts still (Reg Erstba v) n (Range (table_bytes (event_shape h)) (base_address v) SegmentTable ∷ []) (all_stay h k unwritten v) (ap in_turn (begun_is h k unwritten v))

@@ -1,5 +1,5 @@
 -- What is lent after a Transfer Event: the leases end of what it tells to be passed on the ring of its endpoint
-use Rattle.leases.proofs.MiddleLaws.{◌≡◌, ◌≢◌, ◌+◌, ◌≤◌, ◌==◌, ℕ, Bool, true, false, List, [], map, Some, refl, inl, inr, eqb-true, eq-eqb, cases_Bool, Trb, TransferEvent, kind, is_halting, is_stopping, is_success, is_trb_error, Spot, number, due_positions, floor_number, number-after, command_of, Header, Ring, Read, command_id, driver_rings, shape_of, EndpointState, Error, Known, event_read, learned, RingSpot, code_told, event_at, broken_off, passed, stopped_at, transfer_read, transferred, transferred_at, context_ranges, device_ranges, entry_ranges, open_ranges, range_of_command, range_of_device, segment_ranges, slots, table_range, is_among, IsIn, come_to, ended_where, is_passed, Lent, grown, AreOpen, rules, and_true, Narrows, floors, narrows, one_ring_left, IsWithinLap, Moves, only_ended, entries_kept}
+use Rattle.leases.proofs.MiddleLaws.{◌≡◌, ◌≢◌, ◌+◌, ◌≤◌, ◌==◌, ℕ, Bool, true, false, List, [], map, Some, refl, inl, inr, eqb-true, eq-eqb, cases_Bool, Trb, TransferEvent, kind, is_halting, is_stopping, is_success, is_trb_error, Spot, number, due_positions, floor_number, number-after, command_of, Header, Ring, Read, command_id, driver_rings, shape_of, EndpointState, Error, Known, event_read, learned, RingSpot, code_told, event_at, broken_off, passed, stopped_at, transfer_read, transferred, transferred_at, context_ranges, device_ranges, entry_ranges, open_ranges, range_of_command, range_of_device, segment_ranges, slots, table_range, is_among, IsIn, come_to, ended_where, is_passed, Lent, grown, AreOpen, rules, and_true, IsWithinLap, Moves, only_ended, entries_kept, Narrows, floors, narrows, one_ring_left}
 use Rattle.ring_knowledge.specs.Rings as rings
 
 module _ (h : Header) (k : Known) where

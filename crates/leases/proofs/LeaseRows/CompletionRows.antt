@@ -1,5 +1,5 @@
 -- What is lent after the completion of a command
-use Rattle.leases.proofs.UpperLaws.{◌≡◌, ◌≢◌, ◌+◌, ◌∙◌, ◌&&◌, ◌||◌, ◌==◌, ℕ, List, Bool, true, false, None, Some, Option, refl, ap, sym, arith, subst, map, nat_le, nat_lt, eqb-true, eq-eqb, position, false≢true, CommandCompletion, code, kind, is_command_completion, Command, Shape, RingView, due_positions, floor_number, due_is, number-after, Ring, Header, Read, IsHeader, command_id, driver_rings, is_command_kind, shape_of, Known, completed, event_read, learned, Leased, Range, Use, context_ranges, device_ranges, entry_ranges, is_among, open_leases, range_of_command, range_of_device, range_of_entry, slots, IsIn, in_among, in_filter, DriverKeeps, EventFacts, event_facts, floors_grow, completion_facts, next_at_floor, command_is_ring, SameDriver, event_same, Lent, ended_where, is_passed, let_go, slot_left, slot_ranges, is_lent, RangeIndexes, command_found, no_command_ring, shape_there, any_append, false_unless, or_false, IsAmong, same_number, TraceRecord, EndpointRings, HoldsAll, AreLent, FloorsMove, MovesOn, IsOtherRing, is_behind, is_moved_past, moved_when, IsNextRow, grown, is_some, command_ring, command_id_is, rules, completed_device, finish_lent, Finishes, gone_are_ranges, in_either, in_flat_map, in_range, context_open, device_open, entry_open, floors, is_left, none_between, IsWithinLap, Moves, all_twice, none_over, over_alike, no_ring}
+use Rattle.leases.proofs.UpperLaws.{◌≡◌, ◌≢◌, ◌+◌, ◌∙◌, ◌&&◌, ◌||◌, ◌==◌, ℕ, List, Bool, true, false, None, Some, Option, refl, ap, sym, arith, subst, map, nat_le, nat_lt, eqb-true, eq-eqb, position, false≢true, CommandCompletion, code, kind, is_command_completion, Command, Shape, RingView, due_positions, floor_number, due_is, number-after, Ring, Header, Read, IsHeader, command_id, driver_rings, is_command_kind, shape_of, Known, completed, event_read, learned, Leased, Range, Use, context_ranges, device_ranges, entry_ranges, is_among, open_leases, range_of_command, range_of_device, range_of_entry, slots, IsIn, in_among, in_filter, DriverKeeps, EventFacts, event_facts, floors_grow, completion_facts, next_at_floor, command_is_ring, SameDriver, event_same, Lent, ended_where, is_passed, let_go, slot_left, slot_ranges, is_lent, RangeIndexes, command_found, no_command_ring, shape_there, any_append, false_unless, or_false, IsAmong, same_number, TraceRecord, EndpointRings, HoldsAll, AreLent, FloorsMove, MovesOn, IsOtherRing, is_behind, is_moved_past, moved_when, IsNextRow, grown, is_some, command_ring, command_id_is, rules, completed_device, finish_lent, Finishes, gone_are_ranges, in_either, in_flat_map, in_range, context_open, device_open, entry_open, floors, is_left, none_between, IsWithinLap, Moves, all_twice, none_over, over_alike, no_ring, named_if_taken, none-some}
 use Rattle.leases.proofs.LeaseRows.TransferRows.{lap_now}
 use Rattle.trb.specs.declared.block.Block as blocks
 use Rattle.ring_knowledge.specs.Rings as rings
@@ -32,7 +32,10 @@ module _ (h : Header) (headed : IsHeader h) (k : Known) (ts : List Lent) (b : bl
 
   -- the header has a command ring
   not_without : command_ring h ≡ None → ⊥
-  not_without none = grind (arith, command_is_ring, keeps, facts, no_ring)
+  not_without none =
+      let below = (completion_facts h k b (ap is_command_completion completes) facts.possible).below in
+      let ring = command_is_ring h k keeps (named_if_taken h k keeps facts.started below) in
+      none-some ring.ring (sym (no_ring h headed none) ∙ ring.found)
 
   pub has_commands : is_some (command_ring h) ≡ true
   has_commands = search (rules, command_ring, not_without)

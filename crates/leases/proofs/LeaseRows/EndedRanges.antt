@@ -1,10 +1,10 @@
 -- The leases of ranges that a completion lets go end, one after another
-use Rattle.leases.proofs.MiddleLaws.{arith, ◌≡◌, ◌∷◌, ◌++◌, ◌∙◌, ◌||◌, ◌==◌, ℕ, List, [], Bool, true, false, None, Some, Option, refl, ap, sym, subst, inl, map, device_context_bytes, Command, DisableSlot, SetTrDequeue, position, RingKind, Spot, target, floor_number, Ring, IsHeader, is_driver_kind, is_transfer_kind, ring_with, shape_of, none_here, not_found, ring_found, IsAmong, EndpointRings, Header, Known, entry_of, Leased, Range, DeviceContext, SlotEntry, is_among, range_of_command, range_of_device, range_of_entry, same_leased, IsIn, both_ways, leased_is, leased_itself, RangeIndexes, Lent, ended_where, is_passed, slot_disabled, slot_left, slot_ranges, FindsRanges, is_lent, and_false, or_false, HoldsAll, AreLent, MovesOn, is_behind, is_moved_past, moved_by, moved_on, moved_ring, moved_when, slot_let_go, rules, slot_apart, still_lent, all_twice, none_over, over_alike, some_end}
+use Rattle.leases.proofs.MiddleLaws.{arith, ◌≡◌, ◌∷◌, ◌++◌, ◌∙◌, ◌||◌, ◌==◌, ℕ, List, [], Bool, true, false, None, Some, Option, refl, ap, sym, subst, inl, map, device_context_bytes, Command, DisableSlot, SetTrDequeue, position, RingKind, Spot, target, floor_number, Ring, IsHeader, is_driver_kind, is_transfer_kind, ring_with, shape_of, none_here, not_found, ring_found, IsAmong, EndpointRings, Header, Known, entry_of, Leased, Range, DeviceContext, SlotEntry, is_among, range_of_command, range_of_device, range_of_entry, same_leased, IsIn, both_ways, leased_is, leased_itself, RangeIndexes, Lent, ended_where, is_passed, slot_disabled, slot_left, slot_ranges, FindsRanges, is_lent, and_false, or_false, HoldsAll, AreLent, MovesOn, is_behind, is_moved_past, moved_by, moved_on, moved_ring, moved_when, slot_let_go, rules, all_twice, none_over, over_alike, some_end, slot_apart, still_lent}
 
 turned : (l m : Leased) → same_leased l m ≡ same_leased m l
 turned l m = search (rules, both_ways, same_leased, leased_is, leased_itself)
 
-one_of : (l m : Leased) → same_leased l m ≡ is_among (l ∷ []) m
+pub one_of : (l m : Leased) → same_leased l m ≡ is_among (l ∷ []) m
 unfolding is_among
 one_of l m = turned l m ∙ sym (or_false (same_leased m l))
 
@@ -12,7 +12,7 @@ two_of : (a b m : Leased) → (same_leased a m || same_leased b m) ≡ is_among 
 unfolding is_among
 two_of a b m = ap (λ x. x || same_leased b m) (turned a m) ∙ ap (λ x. same_leased m a || x) (turned b m ∙ sym (or_false (same_leased m b)))
 
-none_of : (m : Leased) → is_among [] m ≡ false
+pub none_of : (m : Leased) → is_among [] m ≡ false
 unfolding is_among
 none_of m = refl
 
@@ -49,14 +49,14 @@ disables_none c other = grind arith
 pub leaves_none : (h : Header) (k : Known) (c : Command) → slot_disabled c ≡ None → slot_let_go h k c ≡ []
 leaves_none h k c none = ap (slot_ranges h k) none
 
-pub leaves_empty : (h : Header) (k : Known) (c : Command) (s : ℕ) → c ≡ DisableSlot s → k.device s ≡ None → slot_let_go h k c ≡ []
+pub leaves_empty : (h : Header) (k : Known) (s : ℕ) → k.device s ≡ None → slot_ranges h k (Some s) ≡ []
 unfolding range_of_entry range_of_device
-leaves_empty h k c s is none = ap (slot_let_go h k) is ∙ ap (λ o. range_of_entry k s o ++ range_of_device h s o) none
+leaves_empty h k s none = ap (λ o. range_of_entry k s o ++ range_of_device h s o) none
 
-pub leaves_two : (h : Header) (k : Known) (c : Command) (s d entry bytes : ℕ) → c ≡ DisableSlot s → k.device s ≡ Some d → entry ≡ entry_of k s → bytes ≡ device_context_bytes h.context_size →
-    slot_let_go h k c ≡ Range 8 entry (SlotEntry s) ∷ Range bytes d (DeviceContext s) ∷ []
+pub leaves_two : (h : Header) (k : Known) (s d entry bytes : ℕ) → k.device s ≡ Some d → entry ≡ entry_of k s → bytes ≡ device_context_bytes h.context_size →
+    slot_ranges h k (Some s) ≡ Range 8 entry (SlotEntry s) ∷ Range bytes d (DeviceContext s) ∷ []
 unfolding range_of_entry range_of_device
-leaves_two h k c s d entry bytes is some at same = search (rules, range_of_entry, range_of_device, device_context_bytes)
+leaves_two h k s d entry bytes some at same = search (rules, range_of_entry, range_of_device, device_context_bytes)
 
 -- ---- the ring that a command moves
 

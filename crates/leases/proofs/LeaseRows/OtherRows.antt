@@ -1,5 +1,6 @@
--- What is lent after a clean declaration, doorbell or register write
-use Rattle.leases.proofs.MiddleLaws.{arith, ◌≡◌, ◌<◌, ◌∷◌, ◌≢◌, ◌⊎◌, ℕ, List, [], true, false, None, Result, refl, ap, sym, inl, inr, subst, length, OnOk, le-leb, lt-ltb, and_from, Trb, table_bytes, place_count, due_positions, floor_number, Ring, Header, Row, Sub, Write, Reg, Bell, Read, RingRow, FreeRow, Register, Dcbaap, Erstba, IsHeader, command_id, driver_rings, event_shape, is_driver_kind, shape_of, base_address, Known, learned, is_bad_register, is_written, Range, SegmentTable, is_among, open_leases, IsIn, from_filter, in_filter, DriverKeeps, register_facts, due_has_ring, Lent, with_begun, FindsRanges, RangeIndexes, shape_there, IsAmong, TraceRecord, HoldsAll, IsOtherRow, IsNextRow, AreOpen, grown, rules, from_range, others_begin, nothing_new, bell_same, reg_same, sub_same, lent_table, AreShaped, NopRow}
+-- What is lent after a clean declaration, doorbell or register's row
+use Rattle.leases.proofs.MiddleLaws.{arith, ◌≡◌, ◌<◌, ◌∷◌, ◌≢◌, ◌⊎◌, ℕ, List, [], true, false, None, Result, refl, ap, sym, inl, inr, subst, length, OnOk, le-leb, lt-ltb, and_from, Trb, table_bytes, place_count, due_positions, floor_number, Ring, Header, Row, Sub, Write, Reg, Bell, Read, RingRow, FreeRow, Register, Dcbaap, Erstba, cases_Bool, IsHeader, command_id, driver_rings, event_shape, is_driver_kind, shape_of, base_address, Known, learned, is_bad_register, Range, SegmentTable, is_among, open_leases, IsIn, from_filter, in_filter, DriverKeeps, register_facts, due_has_ring, Lent, with_begun, RangeIndexes, shape_there, IsAmong, TraceRecord, HoldsAll, IsOtherRow, IsNextRow, AreOpen, grown, rules, from_range, nothing_new, bell_same, reg_same, sub_same, NopRow, read_same, array_stands, table_stands, ◌∙◌, if◌then◌else◌, learned_or_reset, Some, with_register, RegRead, Usbcmd, lent_table, AreShaped}
+unfoldable use Rattle.leases.proofs.BaseWords.{reset, resets}
 use Rattle.ring_knowledge.specs.Rings as rings
 
 -- from what an answer promises to what follows
@@ -28,21 +29,27 @@ from_drivers h q at = let found = from_filter (λ r. is_driver_kind r.shape.kind
 pub are_shaped : (h : Header) → IsHeader h → AreShaped h
 are_shaped h headed = λ q at. shape_there h headed q (from_drivers h q at).0
 
-unwritten_before : (h : Header) (k : Known) (v : ℕ) → is_bad_register h k Erstba v ≡ false → k.register Erstba ≡ None
-unfolding is_bad_register is_written
-unwritten_before h k v fine = search rules
+-- DCBAAP stands once a slot may have a device context
+array_rests : (h : Header) (k : Known) (r : Register) (v : ℕ) → DriverKeeps h k → is_bad_register h k r v ≡ false →
+    (with_register k.register r v Dcbaap ≡ k.register Dcbaap) ⊎ ((s : ℕ) → k.device s ≡ None)
+array_rests h k r v d fine = elim (cases_Bool k.started) [
+  | inl on ↦ inl (array_stands h k r v on fine)
+  | inr off ↦ inr (λ s. d.states.no_device s ((d.unstarted off).slots s))
+]
 
--- DCBAAP isn't written once a slot may have a device context
-no_device : (h : Header) (k : Known) (v : ℕ) → DriverKeeps h k → is_bad_register h k Dcbaap v ≡ false → (s : ℕ) → k.device s ≡ None
-unfolding is_bad_register
-no_device h k v d fine s = d.states.no_device s ((d.unstarted fine).slots s)
+-- another register than ERSTBA leaves it
+pub other_table : (k : Known) (r : Register) (v : ℕ) → r ≢ Erstba → with_register k.register r v Erstba ≡ k.register Erstba
+other_table k Erstba v other = absurd (other refl)
+other_table k r v other = refl
 
-array_rests : (h : Header) (k : Known) (r : Register) (v : ℕ) → DriverKeeps h k → is_bad_register h k r v ≡ false → (r ≢ Dcbaap) ⊎ ((s : ℕ) → k.device s ≡ None)
-array_rests h k Dcbaap v d fine = inr (no_device h k v d fine)
-array_rests h k _ v d fine = inl (λ e. cc)
+-- another than USBCMD resets nothing
+pub resets_none : (k : Known) (r : Register) (v : ℕ) → r ≢ Usbcmd → resets k r v ≡ false
+unfolding resets
+resets_none k Usbcmd v other = absurd (other refl)
+resets_none k r v other = refl
 
 -- a command that was given is declared
-declared_given : (h : Header) → IsHeader h → (k : Known) → DriverKeeps h k → (p : ℕ) → IsIn p (rings.unfinished_positions h k) → p < length (k.ring (command_id h)).queue
+pub declared_given : (h : Header) → IsHeader h → (k : Known) → DriverKeeps h k → (p : ℕ) → IsIn p (rings.unfinished_positions h k) → p < length (k.ring (command_id h)).queue
 unfolding rings.unfinished_positions due_positions
 declared_given h headed k d p at =
     let found = from_filter (k.ring (command_id h)).given (due_positions (shape_of h (command_id h)) (k.ring (command_id h))) p at in
@@ -56,7 +63,7 @@ module _ (h : Header) (headed : IsHeader h) (k : Known) (ts : List Lent) where
     pub held_still : (book : B) (x : RangeIndexes) (row : Row) (number : ℕ) → grown h k row number ts ≡ ts → HoldsAll Holds h ts book x → HoldsAll Holds h (grown h k row number ts) book x
     held_still book x row number same held = subst (λ (ts : List Lent). HoldsAll Holds h ts book x) (sym same) held
 
-  unchanged : (row : Row) (number : ℕ) → AreOpen h k ts → open_leases h (learned h k row) ≡ open_leases h k → grown h k row number ts ≡ ts
+  unchanged : (row : Row) (number : ℕ) → AreOpen h k ts → open_leases h (learned_or_reset h k row) ≡ open_leases h k → grown h k row number ts ≡ ts
   unchanged row number still same = nothing_new h k ts still row number (λ l. ap (λ ls. is_among ls l) same)
 
   module _ (number : ℕ) (t : TraceRecord) (m : ℕ → ℕ) where
@@ -79,25 +86,27 @@ module _ (h : Header) (headed : IsHeader h) (k : Known) (ts : List Lent) where
     unfolding learned
     lent_withdrawing r p next = unchanged (NopRow r p) number next.step.opened refl
 
-    pub lent_register : (r : Register) (v : ℕ) → (r ≢ Erstba) → IsNextRow h k ts (Reg r v) t m → grown h k (Reg r v) number ts ≡ ts
-    lent_register r v other next =
+    lent_status : (r : Register) (v : ℕ) → IsNextRow h k ts (RegRead r v) t m → grown h k (RegRead r v) number ts ≡ ts
+    lent_status r v next = unchanged (RegRead r v) number next.step.opened (read_same h k r v)
+
+    pub lent_register : (r : Register) (v : ℕ) → resets k r v ≡ false → with_register k.register r v Erstba ≡ k.register Erstba → IsNextRow h k ts (Reg r v) t m → grown h k (Reg r v) number ts ≡ ts
+    lent_register r v on table next =
         unchanged (Reg r v) number next.step.opened
-        (reg_same h k r v other (array_rests h k r v next.keeps (register_facts h k r v next.clean).good))
+        (ap (λ b. open_leases h (if b then reset h k else learned h k (Reg r v))) on ∙ reg_same h k r v table (array_rests h k r v next.keeps (register_facts h k r v next.clean).good))
+
+    -- ERSTBA may be written again as it stands
+    pub lent_again : (v u : ℕ) → k.register Erstba ≡ Some u → IsNextRow h k ts (Reg Erstba v) t m → grown h k (Reg Erstba v) number ts ≡ ts
+    lent_again v u written next = lent_register Erstba v (resets_none k Erstba v (λ e. cc)) (table_stands h k v u (register_facts h k Erstba v next.clean).good written) next
 
     -- the segment table comes under lease
-    table_lent : (v : ℕ) → IsNextRow h k ts (Reg Erstba v) t m →
-        grown h k (Reg Erstba v) number ts ≡ with_begun number ts (Range (table_bytes (event_shape h)) (base_address v) SegmentTable ∷ [])
-    table_lent v next =
-        lent_table h k ts next.step.opened v number (unwritten_before h k v (register_facts h k Erstba v next.clean).good)
-
-    pub table_begins : {B : Type 0} (Holds : Header → List Lent → B → Type 0) (r : Register) (v bytes : ℕ) (book : B) (x : RangeIndexes) → r ≡ Erstba → bytes ≡ table_bytes (event_shape h) → IsNextRow h k ts (Reg r v) t m →
-        Holds h (with_begun number ts (Range bytes (base_address v) SegmentTable ∷ [])) book → FindsRanges h ts x → HoldsAll Holds h (grown h k (Reg r v) number ts) book x
-    table_begins Holds r v bytes book x is same next held found = search (rules, others_begin, table_lent)
+    pub table_begins : {B : Type 0} (Holds : Header → List Lent → B → Type 0) (v : ℕ) (book : B) (x : RangeIndexes) → k.register Erstba ≡ None → IsNextRow h k ts (Reg Erstba v) t m →
+        HoldsAll Holds h (with_begun number ts (Range (table_bytes (event_shape h)) (base_address v) SegmentTable ∷ [])) book x → HoldsAll Holds h (grown h k (Reg Erstba v) number ts) book x
+    table_begins Holds v book x unwritten next held = rw (lent_table h k ts next.step.opened v number unwritten) held
 
     -- rows but those of registers
     pub other_held : {B : Type 0} {Holds : Header → List Lent → B → Type 0} (book : B) (x : RangeIndexes) (row : Row) → IsOtherRow row → ((r : Register) (v : ℕ) → row ≡ Reg r v → ⊥) → IsNextRow h k ts row t m →
         HoldsAll Holds h ts book x → HoldsAll Holds h (grown h k row number ts) book x
-    other_held book x row other none next held = grind (arith, held_still, lent_sub, lent_bell, lent_coming, lent_going, lent_withdrawing)
+    other_held book x row other none next held = grind (arith, held_still, lent_sub, lent_bell, lent_status, lent_coming, lent_going, lent_withdrawing)
 
 -- a row that is neither a write nor an event
 pub other_row : (row : Row) → ((a w : ℕ) → row ≡ Write a w → ⊥) → ((b : Trb) → row ≡ Read b → ⊥) → IsOtherRow row

@@ -138,4 +138,4 @@ module _ (h : Header) (headed : IsHeader h) (k : Known) (ts : List Lent) (b : bl
       module _ {B : Type 0} {Holds : Header → List Lent → B → Type 0} where
         pub transfer_ends : (book : B) (x : RangeIndexes) (from to : ℕ) → from ≡ floor_number (k.ring q.id) → to ≡ come_to (code_told h k b) spot (floor_number (k.ring q.id)) →
             HoldsAll Holds h (map (ended_where (is_passed q.id from to) number_) ts) book x → HoldsAll Holds h (grown h k (Read b) number_ ts) book x
-        transfer_ends book x from to same reached all = search (rules, passed_lent)
+        transfer_ends book x from to same reached all = rw passed_lent (rw (same, reached) at all)

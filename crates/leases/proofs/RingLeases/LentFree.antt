@@ -1,5 +1,7 @@
 -- What is lent where a descriptor is withdrawn, and where a ring is restored
-use Rattle.leases.proofs.UpperLaws.{and_false, false_unless, if◌then◌else◌, ◌≡◌, ◌≢◌, ◌+◌, ◌%◌, ◌<◌, ◌≤◌, ◌==◌, ◌&&◌, ◌||◌, ◌∷◌, ◌∙◌, ℕ, zero, suc, Bool, true, false, not, nat_le, nat_lt, List, [], Some, filter, length, map, take, get_or, arith, refl, sym, ap, inl, inr, eqb-true, list_any, range_with_len, and_parts, false≢true, not-true, nat_tests, take_more, list_any-append, cases_Bool, IsIn, Header, IsHeader, Ring, Known, is_driver_kind, is_transfer_kind, ring_with, shape_of, command_id, driver_rings, on_ring, open_leases, place_count, floor_number, due_positions, from_filter, transfer_not_command, length_from, unrestored, Restores, Withdraws, same_due, in_among, as_lease, comes_before, Leased, Block, Link, Range, is_among, same_leased, AreOpen, Lent, begun_at, ended_where, in_turn, is_place_free, is_unended, passed_on, precedes, share_a_place, with_begun, with_leased, find_some, shape_there, IsAmong, is_freed, rules, unlent_free, map_append, from_map, from_range, all_twice, none_over, only_passed, filter_alike, among_filtered, freed_are, restored_open, withdrawn_open, either_way, only_begins, with_first, transfer_drives, among_drivers, are_shaped, begun_twice}
+use Rattle.leases.proofs.UpperLaws.{and_false, false_unless, if◌then◌else◌, ◌≡◌, ◌≢◌, ◌+◌, ◌%◌, ◌<◌, ◌≤◌, ◌==◌, ◌&&◌, ◌||◌, ◌∷◌, ◌∙◌, ℕ, zero, suc, Bool, true, false, not, nat_le, nat_lt, List, [], Some, filter, length, map, take, get_or, arith, refl, sym, ap, inl, inr, eqb-true, list_any, range_with_len, and_parts, false≢true, not-true, nat_tests, take_more, list_any-append, cases_Bool, IsIn, Header, IsHeader, Ring, Known, is_driver_kind, is_transfer_kind, ring_with, shape_of, command_id, driver_rings, on_ring, open_leases, place_count, floor_number, due_positions, from_filter, transfer_not_command, length_from, unrestored, Restores, Withdraws, same_due, in_among, as_lease, comes_before, Leased, Block, Link, Range, is_among, same_leased, AreOpen, Lent, begun_at, ended_where, in_turn, is_place_free, is_unended, passed_on, precedes, share_a_place, with_begun, with_leased, find_some, shape_there, IsAmong, is_freed, rules, unlent_free, map_append, from_map, from_range, all_twice, none_over, only_passed, filter_alike, freed_are, restored_open, withdrawn_open, transfer_drives, among_drivers, are_shaped, begun_twice}
+use Rattle.leases.proofs.RingLeases.OpenBehind.{among_filtered}
+use Rattle.leases.proofs.RingLeases.TwoSteps.{either_way, only_begins, with_first}
 
 -- ---- a transfer ring of the header
 

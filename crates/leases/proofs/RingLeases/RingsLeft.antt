@@ -9,7 +9,7 @@ pub filter_all : {X : Type 0} (p : X → Bool) (xs : List X) → ((x : X) → Is
 filter_all p [] all = refl
 filter_all p (x ∷ xs) all = rw (all x (inl refl)) (ap (λ l. x ∷ l) (filter_all p xs (λ y at. all y (inr at))))
 
-abbrev driver : Ring → Bool
+abbrev pub driver : Ring → Bool
 driver q = is_driver_kind q.shape.kind
 
 -- of a new ring nothing is under lease

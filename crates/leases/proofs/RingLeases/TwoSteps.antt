@@ -1,6 +1,7 @@
 -- What begins at a row that restores a ring and begins leases of its own, told in two steps: what is open before it (K), behind it (L), where the
 -- ring alone is restored (R), and where the row's own step alone is made (S)
-use Rattle.leases.proofs.MiddleLaws.{◌≡◌, ◌<◌, ◌&&◌, ◌++◌, ◌∷◌, ◌∙◌, ℕ, Bool, true, false, not, List, [], filter, refl, sym, ap, inl, inr, and_parts, and_from, false≢true, IsIn, from_filter, in_among, in_filter, Leased, is_among, without_end, AllUnended, Lent, in_turn, newly_open, passed_on, precedes, with_begun, with_leased, rules, none_over, IsOpen, from_turn, passed_by, passed_open, filter_alike, filter_twice, begun_twice, among_filtered, arith}
+use Rattle.leases.proofs.UpperLaws.{◌≡◌, ◌<◌, ◌&&◌, ◌++◌, ◌∷◌, ◌∙◌, ℕ, Bool, true, false, not, List, [], filter, refl, sym, ap, inl, inr, and_parts, and_from, false≢true, IsIn, from_filter, in_among, in_filter, Leased, is_among, without_end, AllUnended, Lent, in_turn, newly_open, passed_on, precedes, with_begun, with_leased, rules, none_over, IsOpen, from_turn, passed_by, passed_open, filter_alike, filter_twice, begun_twice, arith}
+use Rattle.leases.proofs.RingLeases.OpenBehind.{among_filtered}
 
 -- ---- lists in turn
 

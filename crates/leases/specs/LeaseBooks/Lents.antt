@@ -10,7 +10,7 @@ use Rattle.traces.specs.Header.{shape_of}
 use Rattle.ring_knowledge.specs.declared.lease.Lease.{Lease}
 use Rattle.ring_knowledge.specs.Known.{Known}
 use Rattle.ring_knowledge.specs.Histories.{header_now, known_now}
-use Rattle.ring_knowledge.specs.Learned.{learned}
+use Rattle.ring_knowledge.specs.Resets.{learned_or_reset}
 use Rattle.ownership_rules.specs.OpenLeases.{Leased, Block, Link, Range, is_among, open_leases}
 use Rattle.ownership_rules.specs.Leases.{as_lease, comes_before, without_end}
 
@@ -61,7 +61,7 @@ passed_on before after n lents = with_begun n (map (ended_where (λ l. not (is_a
 module _ (h : Header) where
   -- with row n more, of which no ring comes or goes, and no descriptor is withdrawn
   unfoldable pub grown : Known → Row → ℕ → List Lent → List Lent
-  grown k row n lents = passed_on (open_leases h k) (open_leases h (learned h k row)) n lents
+  grown k row n lents = passed_on (open_leases h k) (open_leases h (learned_or_reset h k row)) n lents
 
   -- the leases that are open behind the rows so far, the newest first
   abbrev pub open_now : List Row → List Leased

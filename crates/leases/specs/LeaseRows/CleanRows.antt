@@ -9,7 +9,7 @@ use Rattle.leases.specs.LeaseBooks.InStep.{IsInStep}
 use Rattle.leases.specs.declared.book.ranges.RangeIndexes.{RangeIndexes}
 use Rattle.leases.specs.LeaseBooks.Lents.{Lent}
 use Rattle.leases.specs.LeaseBooks.Ranges.{FindsRanges}
-use Rattle.leases.specs.LeaseRows.LeftBehind.{EntriesFit}
+use Rattle.leases.specs.LeaseRows.LeftBehind.{TablesFit}
 use Rattle.safety.specs.Keeps.{DriverKeeps}
 use Rattle.trace_record.specs.declared.trace_record.TraceRecord.{TraceRecord}
 use Rattle.trace_record.specs.FollowsTrace.{FollowsTrace}
@@ -19,7 +19,7 @@ use Rattle.trace_record.specs.FollowsTrace.{FollowsTrace}
 pub record IsNextRow (h : Header) (k : Known) (ts : List Lent) (row : Row) (t : TraceRecord) (memory : ℕ → ℕ) : Type 0 where
   pub followed : FollowsTrace h k t memory
   pub keeps : DriverKeeps h k
-  pub entries : EntriesFit k
+  pub tables : TablesFit k
   pub step : IsInStep h k ts
   pub clean : lenient h k row ≡ []
 

@@ -13,9 +13,10 @@ use Rattle.ring_knowledge.specs.Rings.{command_at, next_command}
 use Rattle.traces.specs.declared.row.Row.TheVariants.{Read}
 use Rattle.traces.specs.declared.header.Header.{Header}
 use Rattle.traces.specs.Header.{command_id, shape_of}
+use Rattle.traces.specs.declared.register.Register.TheVariants.{Erstba, Erstsz}
 use Rattle.ring_knowledge.specs.Known.{Known}
 use Rattle.ring_knowledge.specs.Writes.{entry_of}
-use Rattle.ownership_rules.specs.OpenLeases.{Leased, is_among, range_of_command}
+use Rattle.ownership_rules.specs.OpenLeases.{Leased, Range, DeviceContext, InputContext, SlotEntry, is_among, range_of_command}
 use Rattle.ownership_rules.proofs.Among.{IsIn}
 use Rattle.leases.specs.LeaseBooks.Lents.{Lent, is_passed}
 use Rattle.leases.specs.LeaseBooks.LettingGo.{slot_disabled, slot_left, slot_ranges}
@@ -44,6 +45,17 @@ is_moved_past k (Some e) l = is_passed e.0 (floor_number (k.ring e.0)) e.1 l
 abbrev pub slot_let_go : Header → Known → Command → List Leased
 slot_let_go h k c = slot_ranges h k (slot_disabled c)
 
+-- the range is the entry or the device context of a slot
+abbrev pub is_of_slot : Leased → Bool
+is_of_slot (Range n a (SlotEntry s)) = true
+is_of_slot (Range n a (DeviceContext s)) = true
+is_of_slot _ = false
+
+-- the range is the input context of a command
+abbrev pub is_input_context : Leased → Bool
+is_input_context (Range n a (InputContext p)) = true
+is_input_context _ = false
+
 -- each of these is lent
 abbrev pub AreLent : List Lent → List Leased → Type 0
 AreLent ts ls = (l : Leased) → IsIn l ls → is_lent ts l ≡ true
@@ -51,6 +63,11 @@ AreLent ts ls = (l : Leased) → IsIn l ls → is_lent ts l ≡ true
 -- the entry of each slot with a device context ends within the address space
 abbrev pub EntriesFit : Known → Type 0
 EntriesFit k = (s d : ℕ) → k.device s ≡ Some d → entry_of k s + 8 ≤ 2 ^ 64
+
+-- the tables that registers name: these entries fit, and ERSTBA is written behind ERSTSZ alone
+pub record TablesFit (k : Known) : Type 0 where
+  pub entries : EntriesFit k
+  pub sized : k.register Erstsz ≡ None → k.register Erstba ≡ None
 
 -- a ring is moved on, not back
 abbrev pub MovesOn : Known → Option (ℕ × ℕ) → Type 0

@@ -40,6 +40,27 @@ pub(crate) fn end_context_of<B: LeaseLog>(
     ranges.end_context(book, number, ring, position, bytes, address);
 }
 
+/// The leases of the entry and the device context end of a slot that has one.
+pub(crate) fn end_slot<B: LeaseLog>(
+    book: &mut B,
+    ranges: &RangeIndexes,
+    header: &Header,
+    t: &TraceRecord,
+    number: u32,
+    slot: u8,
+)
+    ensures { (list : List Lease) (k : Known) (memory : ℕ → ℕ) (ts : List Lent) → FollowsTrace header.now k t.now memory → EntriesFit k → AreLent ts (slot_ranges header.now k (Some slot)) →
+        HoldsAll (B.holds list) header.now ts book.old ranges.now → HoldsAll (B.holds list) header.now (map (ended_where (is_among (slot_ranges header.now k (Some slot))) number) ts) book.new ranges.now }
+{
+    let Some(device) = t.devices.device(slot) else {
+        return;
+    };
+    let entry = slot_entry(&t.registers, slot);
+    ranges.end_entry(book, number, slot, 8, entry);
+    let bytes = device_bytes(header.context_size);
+    ranges.end_device(book, number, slot, bytes, device);
+}
+
 /// The leases of the entry and the device context end of the slot that the command disables.
 pub(crate) fn end_slot_of<B: LeaseLog>(
     book: &mut B,
@@ -55,13 +76,7 @@ pub(crate) fn end_slot_of<B: LeaseLog>(
     let Command::DisableSlot { slot } = command else {
         return;
     };
-    let Some(device) = t.devices.device(slot) else {
-        return;
-    };
-    let entry = slot_entry(&t.registers, slot);
-    ranges.end_entry(book, number, slot, 8, entry);
-    let bytes = device_bytes(header.context_size);
-    ranges.end_device(book, number, slot, bytes, device);
+    end_slot(book, ranges, header, t, number, slot);
 }
 
 /// The leases of the blocks and Links end that a ring passes which the command moves.

@@ -58,7 +58,7 @@ pub fn note_row<B: LeaseLog, M: WordMemory>(
             );
             Ok(())
         }
-        _ => note_other_row(book, header, number, row),
+        _ => note_other_row(book, ranges, header, finder, t, number, row),
     }
 }
 

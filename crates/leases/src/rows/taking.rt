@@ -1,10 +1,11 @@
 //! The ranges that a command takes when it is given: its input context, and of a slot that takes a device context the entry and
 //! that context (xHCI 4.6.5, 6.1).
 ghost use Rattle.ring_knowledge.specs.declared.lease.Lease.{Lease};
-ghost use Rattle.std.specs.Prelude.{◌≡◌, ◌+◌, ◌%◌, ◌^◌, ◌≤◌, ℕ, true, List, [], ◌∷◌, ◌++◌, OnOk};
+ghost use Rattle.std.specs.Prelude.{◌≡◌, ◌+◌, ◌%◌, ◌^◌, ◌≤◌, ℕ, true, List, [], ◌∷◌, ◌++◌, length, OnOk};
 ghost use Rattle.guest_memory.specs.Memory.{long_at};
 ghost use Rattle.contexts.specs.Contexts.{device_context_bytes, input_context_bytes};
-ghost use Rattle.traces.specs.Header.{command_id, shape_of};
+ghost use Rattle.event_ring.specs.EventRing.{table_bytes};
+ghost use Rattle.traces.specs.Header.{IsHeader, command_id, event_shape, shape_of};
 ghost use Rattle.ring_knowledge.specs.Known.{Known};
 ghost use Rattle.ring_knowledge.specs.RegisterRecords.{FollowsRegisters};
 ghost use Rattle.ring_knowledge.specs.Writes.{entry_of, taken_device};
@@ -21,7 +22,7 @@ use contexts::{ContextSize, long_at};
 use guest_memory::WordMemory;
 use ring_knowledge::RegisterRecord;
 use std::alloc::AllocError;
-use trace_record::TraceRecord;
+use trace_record::{TraceRecord, is_event_ring};
 use traces::{Header, Register, Ring};
 
 /// How many bytes the entry of a slot has in the Device Context Base Address Array.
@@ -120,6 +121,28 @@ pub(crate) fn device_bytes(size: ContextSize) -> u32
         ContextSize::Bytes32 => 1024,
         ContextSize::Bytes64 => 2048,
     }
+}
+
+/// The bytes of the segment table: an entry for each segment of the event ring (xHCI 6.5).
+pub(crate) fn table_bytes(header: &Header) -> u32
+    requires { IsHeader header.now }
+    ensures { result ≡ table_bytes (event_shape header.now) }
+{
+    16 * event_segments(header) as u32
+}
+
+/// How many segments the event ring has.
+fn event_segments(header: &Header) -> u64
+    requires { IsHeader header.now }
+    ensures exact { result ≡ length (event_shape header.now).segments }
+    ensures few { result ≤ 64 }
+{
+    for ring in header.rings.as_slice() {
+        if is_event_ring(ring) {
+            return ring.shape.segments().len() as u64;
+        }
+    }
+    0
 }
 
 /// The bytes of an input context (xHCI 6.2.5).

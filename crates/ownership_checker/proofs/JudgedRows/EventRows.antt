@@ -1,5 +1,5 @@
 -- Which rule an event breaks, and what is known behind one that breaks none
-use Rattle.ownership_checker.proofs.LowerLaws.{◌≡◌, ℕ, [], ◌∷◌, true, false, refl, ap, sym, ◌∙◌, ◌+◌, subst, ◌||◌, ◌&&◌, ◌==◌, not, if◌then◌else◌, Bool, and_parts, false≢true, or_parts, not-false, Block, cycle, kind, IsHeader, event_shape, Header, Read, Known, learned, event_read, AfterStop, ImpossibleEvent, NotInProfile, first_of, first_broken, broken_of, older, stricter, broken, lenient_tests, tests, DriverKeeps, lenient_row, AllFail, tests_fail, TraceRecord, FollowsTrace, IsLeast, IsRowStep, IsSetUp, first_broken-is, nothing_broken, OnTrue, TransferEvent, CommandCompletion, cycle_of, is_event, is_transfer_event, transfer_read, completed, event_tests, is_impossible, is_impossible_by_kind, is_impossible_completion, is_impossible_transfer, is_in_profile, is_past_room, event_same, left_out_transfer, set_up, rules, arith}
+use Rattle.ownership_checker.proofs.Words.{◌≡◌, ℕ, [], ◌∷◌, true, false, refl, ap, sym, ◌∙◌, ◌+◌, subst, ◌||◌, ◌&&◌, ◌==◌, not, if◌then◌else◌, Bool, and_parts, false≢true, or_parts, not-false, Block, cycle, kind, IsHeader, event_shape, Header, Read, Known, learned, event_read, AfterStop, ImpossibleEvent, NotInProfile, first_of, first_broken, broken_of, older, stricter, broken, lenient_tests, tests, DriverKeeps, lenient_row, AllFail, tests_fail, TraceRecord, FollowsTrace, IsLeast, IsRowStep, first_broken-is, nothing_broken, OnTrue, TransferEvent, CommandCompletion, cycle_of, is_event, is_transfer_event, transfer_read, completed, event_tests, is_impossible, is_impossible_by_kind, is_impossible_completion, is_impossible_transfer, is_in_profile, is_past_room, event_same, left_out_transfer, rules, arith}
 
 not_true : (b : Bool) → not b ≡ true → b ≡ false
 not_true b e = grind arith
@@ -128,9 +128,9 @@ module _ (h : Header) (headed : IsHeader h) (k : Known) (b : Block) (keeps : Dri
       FollowsTrace h (event_read h k (kind b) b) after m
   noted_transfer is noted = search (rules, read_transfer, in_profile, transfer_possible, possible)
 
-  pub noted_completion : kind b ≡ CommandCompletion → (IsSetUp h k → is_impossible_completion h k b ≡ false → FollowsTrace h (completed h k b) after m) →
+  pub noted_completion : kind b ≡ CommandCompletion → (k.started ≡ true → is_impossible_completion h k b ≡ false → FollowsTrace h (completed h k b) after m) →
       FollowsTrace h (event_read h k (kind b) b) after m
-  noted_completion is noted = rw (← read_completion h k b is) (noted (set_up h headed k keeps) (completion_possible h k b (possible h k b clean) is))
+  noted_completion is noted = rw (← read_completion h k b is) (noted (is_started h k b placed) (completion_possible h k b (possible h k b clean) is))
 
   pub noted_other : (kind b ≡ TransferEvent → ⊥) → (kind b ≡ CommandCompletion → ⊥) → FollowsTrace h k after m → FollowsTrace h (event_read h k (kind b) b) after m
   noted_other no_transfer no_completion noted = subst (λ (l : Known). FollowsTrace h l after m) (read_other h k b no_transfer no_completion) noted

@@ -1,5 +1,5 @@
 -- What the checks of rows rest on, of a driver that has kept the rules so far
-use Rattle.ownership_checker.proofs.Words.{◌≡◌, ℕ, zero, suc, length, get_or, ◌<◌, List, [], ◌∷◌, true, false, Option, Some, None, refl, arith, inl, inr, is_some, ◌%◌, cases_Bool, Block, BlockKind, aligned, kind, pointer, Command, Header, Ring, IsHeader, command_id, command_ring, event_ring, event_shape, event_size, id_or_none, ring_with, Known, DriverKeeps, IsDriverRing, command_at, unfinished, IsSetUp, ContextsFit, FitsMemory, nat_tests, input_context_bytes, command_by_kind, command_of, named_context, is_command_left_out, Crcr, none_has_256, listed_unfinished, area_parts, is_bad_area, has_bad_context, is_bad_command, IsIn}
+use Rattle.ownership_checker.proofs.Words.{◌≡◌, ℕ, zero, suc, length, get_or, ◌<◌, List, [], ◌∷◌, true, false, Option, Some, None, refl, arith, inl, inr, is_some, ◌%◌, ◌≤◌, ap, sym, subst, cases_Bool, cases_option, number, RingView, declared, given_count, given_count_declared, given_count_most, Block, BlockKind, aligned, kind, pointer, Command, Header, Ring, IsHeader, command_id, command_ring, event_ring, event_shape, event_size, id_or_none, no_id, shape_of, command_named, command_driver, no_places, ring_shape, ring_with, Known, DriverKeeps, IsDriverRing, command_at, unfinished, IsSetUp, CommandsDeclared, ContextsFit, FitsMemory, nat_tests, input_context_bytes, command_by_kind, command_of, named_context, is_command_left_out, none_has_256, listed_unfinished, area_parts, is_bad_area, has_bad_context, is_bad_command, IsIn}
 use Rattle.trb.specs.declared.kind.BlockKind.TheVariants as kinds
 
 -- what holds of each element holds of all
@@ -21,17 +21,29 @@ module _ (h : Header) (headed : IsHeader h) (k : Known) (d : DriverKeeps h k) wh
       by None found = absurd (none_has_256 h headed r.ring found)
       by (Some ring) found = refl
 
-  named : (o : Option ℕ) → k.register Crcr ≡ o → is_some o ≡ true → is_some (command_ring h) ≡ true
-  named None is some = absurd (cc)
-  named (Some v) is some = has_commands (d.crcr v is).is_ring
+  -- of the command ring no more is given than was declared; where none is there, nothing of its ID
+  given_declared : CommandsDeclared h k
+  given_declared =
+      elim (cases_option (command_ring h)) [
+        | inl none ↦ subst (λ n. given_count (shape_of h n) (k.ring n) ≤ declared (k.ring n)) (sym (command_named h headed None none)) none_given
+        | inr some ↦
+            let ring = command_driver h headed some.0 some.1 in
+            given_count_declared (shape_of h (command_id h)) (ring_shape h headed (command_id h) ring).is k.memory (k.ring (command_id h)) (d.rings (command_id h) ring)
+      ]
+    where
+      none_given : given_count (shape_of h no_id) (k.ring no_id) ≤ declared (k.ring no_id)
+      none_given =
+          let v : RingView = k.ring no_id in
+          let nobody = d.nobody no_id refl in
+          omega (arith, given_count_most (shape_of h no_id) v, no_places h headed, ap number nobody.floor)
 
   pub set_up : IsSetUp h k
   set_up = record {
     unread = λ off. (d.unstarted off).reads;
     sized = d.erstsz_written;
     has_events = λ written. has_events (d.sized written);
-    pointed = d.crcr_written;
-    has_commands = λ written. named (k.register Crcr) refl written;
+    has_commands = λ used. has_commands (d.run.absent used);
+    declared = given_declared;
   }
 
 sixteenth : (b : Block) (a : ℕ) → Some (aligned (pointer b)) ≡ Some a → a % 4 ≡ 0

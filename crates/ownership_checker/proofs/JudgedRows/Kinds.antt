@@ -63,13 +63,27 @@ declared_bad h kept memory row (Err Memory) said = said
 -- a register's write rests on the set-up
 module _ (h : Header) (headed : IsHeader h) (kept : TraceRecord) (memory : ℕ → ℕ) (row : Row) where
   pub register_ok : {X : Type 0} (after : TraceRecord) (result : Result X StepFault) →
-      IfOk result (λ u. (k : Known) → FollowsTrace h k kept memory → IsSetUp h k → k.stopped ≡ false → IsRowStep h k row after memory) → OnOk result (IsStepFrom h kept memory row after memory)
+      IfOk result (λ u. (k : Known) → FollowsTrace h k kept memory → DriverKeeps h k → IsSetUp h k → k.stopped ≡ false → IsRowStep h k row after memory) → OnOk result (IsStepFrom h kept memory row after memory)
   register_ok after result said = grind (arith, set_up)
 
   pub register_bad : {X : Type 0} (result : Result X StepFault) →
-      IfErr result (λ e. IfRefused e (λ c. (k : Known) → FollowsTrace h k kept memory → IsSetUp h k → k.stopped ≡ false → IsLeast h k row c)) →
+      IfErr result (λ e. IfRefused e (λ c. (k : Known) → FollowsTrace h k kept memory → DriverKeeps h k → IsSetUp h k → k.stopped ≡ false → IsLeast h k row c)) →
       IfErr result (λ e. IfRefused e (IsLeastFrom h kept memory row))
   register_bad result said = grind (arith, set_up)
+
+-- a register that is read is judged by any rings, whatever memory holds
+module _ (h : Header) (kept : TraceRecord) (memory : ℕ → ℕ) (row : Row) where
+  pub register_read_ok : {X : Type 0} (after : TraceRecord) (result : Result X StepFault) →
+      OnOk result ((g : Header) (k : Known) (m : ℕ → ℕ) → FollowsTrace g k kept m → k.stopped ≡ false → IsRowStep g k row after m) → OnOk result (IsStepFrom h kept memory row after memory)
+  register_read_ok after (Ok x) said = λ k f keeps runs. said h k memory f runs
+  register_read_ok after (Err e) said = said
+
+  pub register_read_bad : {X : Type 0} (result : Result X StepFault) →
+      IfErr result (λ e. IfRefused e (λ c. (g : Header) (k : Known) (m : ℕ → ℕ) → FollowsTrace g k kept m → k.stopped ≡ false → IsLeast g k row c)) →
+      IfErr result (λ e. IfRefused e (IsLeastFrom h kept memory row))
+  register_read_bad (Ok x) said = said
+  register_read_bad (Err (Refused c)) said = λ k f keeps runs. said h k memory f runs
+  register_read_bad (Err Memory) said = said
 
 -- a row that is of none of these kinds
 pub driven_by : (row : Row) → ((ring : Ring) → row ≡ RingRow ring → ⊥) → ((id : ℕ) → row ≡ FreeRow id → ⊥) → ((id position : ℕ) → row ≡ NopRow id position → ⊥) → is_ring_row row ≡ false

@@ -1,5 +1,5 @@
 -- The one rule of a ring that comes or goes, and of a descriptor that is withdrawn: where it is broken, and where none is
-use Rattle.ownership_checker.proofs.Words.{◌≡◌, ◌∷◌, ◌∙◌, Bool, true, false, [], List, Some, refl, ap, inl, inr, cases_Bool, if◌then◌else◌, Header, Known, Ring, broken_of, first_of, Refusal, AfterStop, BadFree, BadRing, BadWithdraw, RingRow, FreeRow, NopRow, is_bad_free, is_bad_ring, withdraws_badly, row_broken, broken, tests, lenient_tests, stricter, older, restored_on, ring_restored, is_left, some_flips, ℕ}
+use Rattle.ownership_checker.proofs.Words.{frees_badly, ◌≡◌, ◌∷◌, ◌∙◌, Bool, true, false, [], List, Some, refl, ap, inl, inr, cases_Bool, if◌then◌else◌, Header, Known, Ring, broken_of, first_of, Refusal, AfterStop, BadFree, BadRing, BadWithdraw, RingRow, FreeRow, NopRow, is_bad_ring, withdraws_badly, row_broken, broken, tests, lenient_tests, stricter, older, restored_on, ring_restored, is_left, some_flips, ℕ}
 
 -- no other rule is tested
 abbrev broken_alone : Known → Refusal → Bool → List Refusal
@@ -10,7 +10,7 @@ module _ (h : Header) (k : Known) where
   unfolding broken tests lenient_tests stricter older restored_on ring_restored is_left some_flips
   coming_alone ring = elim (cases_Bool k.stopped) [ inl off ↦ rw off refl | inr on ↦ rw on refl ]
 
-  pub going_alone : (id : ℕ) → row_broken h k (FreeRow id) ≡ broken_alone k BadFree (is_bad_free h k id)
+  pub going_alone : (id : ℕ) → row_broken h k (FreeRow id) ≡ broken_alone k BadFree (frees_badly h k id)
   unfolding broken tests lenient_tests stricter older restored_on ring_restored is_left some_flips
   going_alone id = elim (cases_Bool k.stopped) [ inl off ↦ rw off refl | inr on ↦ rw on refl ]
 

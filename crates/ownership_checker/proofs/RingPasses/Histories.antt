@@ -1,6 +1,6 @@
 -- What a row says that breaks no rule; where no descriptor was withdrawn nothing is free; and what breaks no rule of the trace's version breaks no
 -- lenient one
-use Rattle.ownership_checker.proofs.Words.{◌≡◌, ◌∷◌, ◌++◌, ◌∙◌, ◌==◌, ℕ, Bool, true, false, if◌then◌else◌, List, [], Some, filter, refl, sym, ap, subst, inl, inr, cases_Bool, Header, Known, Ring, learned, nothing, shape_of, flips_passed, is_not_restored, unrestored, due_positions, Row, FreeRow, broken_of, first_of, broken, Refusal, AfterStop, NotRestored, WriteToOwned, lenient_row, forgotten, AreKept, IsKept, header_now, known_now, is_left, restored, ring_restored, some_flips, restored_same, AreClean, NothingFree, broken_restored, row_broken, list_any, no_flips, free_same, rules, arith, is_ring_row, header_after, known_after, RingRow}
+use Rattle.ownership_checker.proofs.Words.{reset, resets, cond_both, gone, given_up, held_at_given, learned_or_reset, id_of, is_ring, ◌≡◌, ◌∷◌, ◌++◌, ◌∙◌, ◌==◌, ℕ, Bool, true, false, if◌then◌else◌, List, [], Some, filter, refl, sym, ap, subst, inl, inr, cases_Bool, false≢true, Header, Known, Ring, learned, command_ring, nothing, shape_of, flips_passed, is_not_restored, unrestored, due_positions, Reg, Row, FreeRow, NopRow, RingView, broken_of, first_of, broken, Refusal, AfterStop, NotRestored, WriteToOwned, lenient_row, forgotten, AreKept, IsKept, header_now, known_now, is_left, restored, restored_on, ring_restored, some_flips, restored_same, AreClean, NothingFree, broken_restored, row_broken, list_any, no_flips, free_same, rules, arith, is_ring_row, header_after, known_after, RingRow}
 
 -- ---- a row
 
@@ -73,6 +73,22 @@ forgotten_free : (k : Known) (id : ℕ) → NothingFree k → NothingFree (forgo
 unfolding forgotten
 forgotten_free k id none r = grind (arith, cases_Bool (r == id))
 
+gone_free : (h : Header) (k : Known) (id : ℕ) → NothingFree k → NothingFree (gone h k id)
+unfolding gone
+gone_free h k id none = forgotten_free k id none
+
+-- a reset leaves what is free
+reset_free : (h : Header) (k : Known) → NothingFree k → NothingFree (reset h k)
+unfolding reset given_up held_at_given
+reset_free h k none r p = cond_both (is_ring r (id_of (command_ring h))) _ _ (λ (v : RingView). v.free p ≡ false) (λ _. none r p) (λ _. none r p)
+
+learned_free : (h : Header) (k : Known) (row : Row) → NothingFree k → NothingFree (learned h k row)
+learned_free h k row none r p = search (rules, free_same, none)
+
+free_behind : (h : Header) (k : Known) (row : Row) → NothingFree k → NothingFree (learned_or_reset h k row)
+free_behind h k (Reg r v) none = cond_both (resets k r v) _ _ NothingFree (λ _. reset_free h k none) (λ _. learned_free h k (Reg r v) none)
+free_behind h k row none = learned_free h k row none
+
 none_in : (f P : ℕ → Bool) (xs : List ℕ) → ((p : ℕ) → f p ≡ false) → list_any P (filter f xs) ≡ false
 none_in f P [] none = refl
 none_in f P (x ∷ xs) none = rw (none x) (none_in f P xs none)
@@ -110,22 +126,26 @@ module _ (h : Header) (k : Known) (none : NothingFree k) where
 pub header_driven : (h : Header) (row : Row) → is_ring_row row ≡ false → header_after h row ≡ h
 header_driven h row driven = grind arith
 
-pub driven_after : (h : Header) (k : Known) (row : Row) → is_ring_row row ≡ false → known_after h k row ≡ learned h (restored h k row) row
-driven_after h k row driven = grind arith
+pub driven_after : (h : Header) (k : Known) (row : Row) → is_ring_row row ≡ false → known_after h k row ≡ learned_or_reset h (restored h k row) row
+unfolding restored_on ring_restored
+driven_after h k (RingRow ring) driven = absurd (false≢true (sym driven))
+driven_after h k (FreeRow id) driven = absurd (false≢true (sym driven))
+driven_after h k (NopRow r p) driven = absurd (false≢true (sym driven))
+driven_after h k row driven = refl
 
 module _ (h : Header) (past : List Row) (none : NothingFree (known_now h past)) where
-  pub known_driven : (row : Row) → is_ring_row row ≡ false → known_now h (row ∷ past) ≡ learned (header_now h past) (known_now h past) row
+  pub known_driven : (row : Row) → is_ring_row row ≡ false → known_now h (row ∷ past) ≡ learned_or_reset (header_now h past) (known_now h past) row
   known_driven row driven =
-      driven_after (header_now h past) (known_now h past) row driven ∙ ap (λ k. learned (header_now h past) k row) (restored_same (header_now h past) (known_now h past) row none)
+      driven_after (header_now h past) (known_now h past) row driven ∙ ap (λ k. learned_or_reset (header_now h past) k row) (restored_same (header_now h past) (known_now h past) row none)
 
   pub driven_free : (row : Row) → is_ring_row row ≡ false → NothingFree (known_now h (row ∷ past))
-  driven_free row driven = rw (known_driven row driven) (λ r p. search (rules, free_same, none))
+  driven_free row driven = rw (known_driven row driven) (free_behind (header_now h past) (known_now h past) row none)
 
   pub comes_free : (ring : Ring) → NothingFree (known_now h (RingRow ring ∷ past))
   comes_free ring = forgotten_free (known_now h past) ring.id none
 
   pub goes_free : (id : ℕ) → NothingFree (known_now h (FreeRow id ∷ past))
-  goes_free id = forgotten_free (known_now h past) id none
+  goes_free id = gone_free (header_now h past) (known_now h past) id none
 
 pub nothing_free : NothingFree nothing
 unfolding nothing

@@ -1,5 +1,7 @@
 -- How far a pass has come over rows that are kept in memory, and what that says of all of them
-use Rattle.ownership_checker.proofs.MiddleLaws.{◌≡◌, ℕ, ◌+◌, ◌<◌, ◌≤◌, List, [], ◌∷◌, ◌++◌, ◌∙◌, All, Some, ap, sym, subst, arith, length, get_or, add-zero, drop, reverse, take, common_steps, All-weaker, most_streamed_lines, IsTraceRow, Header, Row, Lease, Refusal, without_end, Lent, lents, StepFault, IfRefused, IsRow, header_now, known_now, IsLeastOfRow, IsRingLogged, IsRingPassed, trace_verdict, RingPass, Refused, IsBehindAll, fits, all_reversed, no_harm, none_refused, reversed_twice, row_refused, walks}
+use Rattle.ownership_checker.proofs.LowerLaws.{◌≡◌, ℕ, ◌+◌, ◌<◌, ◌≤◌, List, [], ◌∷◌, ◌++◌, ◌∙◌, All, Some, ap, sym, subst, arith, length, get_or, add-zero, drop, reverse, take, common_steps, All-weaker, most_streamed_lines, IsTraceRow, Header, Row, Lease, Refusal, without_end, Lent, lents, StepFault, IfRefused, IsRow, header_now, known_now, IsLeastOfRow, IsRingLogged, IsRingPassed, trace_verdict, RingPass, Refused, IsBehindAll, fits, none_refused, reversed_twice, row_refused}
+use Rattle.ownership_checker.proofs.RingPasses.Steps.{all_reversed, no_harm}
+use Rattle.ownership_checker.proofs.RingPasses.Walks.{walks}
 
 -- one row more: the newest first
 one_more : (rows : List Row) (i : ℕ) (d : Row) → i < length rows → reverse (take (i + 1) rows) ≡ get_or rows i d ∷ reverse (take i rows)

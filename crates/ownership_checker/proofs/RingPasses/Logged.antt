@@ -1,24 +1,19 @@
 -- What the log of a pass keeps behind one row more
-use Rattle.ownership_checker.proofs.MiddleLaws.{◌≡◌, ◌+◌, ◌<◌, ◌≤◌, ◌∷◌, ◌∙◌, ℕ, Bool, true, false, ◌==◌, None, Some, List, [], length, map, arith, refl, sym, ap, subst, or_parts, Header, Known, Ring, IsHeader, Write, learned, none-some, on_ring, open_leases, false≢true, RingKind, not_found, ring_found, IsAmong, lenient, clean_tests, is_transfer_ring, Row, RingRow, FreeRow, is_driver_kind, is_transfer_kind, ring_with, without_end, AreOpen, IsInStep, Lent, ended_where, grown, lents, passed_on, FindsRanges, RangeIndexes, HoldsAll, IsNextRow, IsComing, is_bad_free, is_bad_ring, with_ring, without_ring, header_now, known_now, is_of_ring, comes_lent, goes_lent, in_step_now, lent_open, IsRingPassed, RingPass, ring_restored, Restores, position, none_here, AreShapedAlike, some_end, comes_alike, comes_commands, goes_alike, goes_commands, ranges_found, rung_now, headed_now, tracked_now, is_ring_row, header_after, header_driven}
-
--- a ring that goes is a transfer ring
-pub goes_transfer : (h : Header) (k : Known) (id : ℕ) → is_bad_free h k id ≡ false → is_transfer_ring (ring_with h id) ≡ true
-unfolding is_bad_free
-goes_transfer h k id good = grind (arith, or_parts, Bool)
+use Rattle.ownership_checker.proofs.LowerLaws.{forgotten, gone, IsKept, learned_or_reset, ◌≡◌, ◌+◌, ◌<◌, ◌≤◌, ◌∷◌, ℕ, true, false, Some, List, [], length, arith, sym, subst, Header, Known, Ring, Write, none-some, on_ring, open_leases, RingKind, lenient, clean_tests, Row, RingRow, FreeRow, is_driver_kind, is_transfer_kind, without_end, AreOpen, IsInStep, Lent, grown, lents, passed_on, RangeIndexes, HoldsAll, IsNextRow, with_ring, without_ring, header_now, known_now, in_step_now, lent_open, IsRingPassed, RingPass, ring_restored, Restores, rung_now, is_ring_row, header_after, header_driven, restored_on}
 
 pub transfer_drives : (n : RingKind) → is_transfer_kind n ≡ true → is_driver_kind n ≡ true
 transfer_drives n e = grind arith
 
--- the ring with this ID is there, and drives
-pub drives : (h : Header) → IsHeader h → (q : Ring) (id : ℕ) → IsAmong q h.rings → q.id ≡ id → is_transfer_ring (ring_with h id) ≡ true → is_driver_kind q.shape.kind ≡ true
-drives h is q id among same transfer = grind (arith, transfer_drives, ring_found)
+-- by a ring that comes or goes none is restored
+pub comes_clean : (h : Header) (k : Known) (ring : Ring) → IsKept h k (RingRow ring) → lenient h k (RingRow ring) ≡ []
+unfolding ring_restored restored_on
+comes_clean h k ring kept = kept.0
 
--- no ring has it
-pub none_drives : (h : Header) (id : ℕ) → position (λ (q : Ring). q.id == id) h.rings ≡ None → is_transfer_ring (ring_with h id) ≡ true → ⊥
-none_drives h id none transfer = grind (arith, not_found, none_here, false≢true, not_found (λ q. q.id == id) h.rings (none_here h (λ q. q.id == id) h.rings none refl))
+pub goes_clean : (h : Header) (k : Known) (id : ℕ) → IsKept h k (FreeRow id) → lenient h k (FreeRow id) ≡ []
+unfolding ring_restored restored_on
+goes_clean h k id kept = kept.0
 
 module _ {B M : Type 0} (words : M → ℕ → ℕ) (Holds : Header → List Lent → B → Type 0)
-    (other_rings : (h g : Header) (ts : List Lent) (log : B) → AreShapedAlike h g ts → Holds h ts log → Holds g ts log)
     (h : Header) (first : ℕ) (past : List Row) (before : RingPass B M) (p : IsRingPassed words h past before) (room : first + length past < without_end) where
   abbrev g : Header
   g = header_now h past
@@ -32,7 +27,7 @@ module _ {B M : Type 0} (words : M → ℕ → ℕ) (Holds : Header → List Len
   low : first + length past ≤ without_end
   low = omega (arith, room)
 
-  -- the row of the driver is the next of what is known and lent
+  -- the row is the next of what is known and lent
   pub next_row : (row : Row) → lenient before.header k row ≡ [] → IsNextRow before.header k ts row before.record (words before.memory)
   next_row row clean = assumption (p.tracked.keeps (clean_tests before.header k row clean).0, subst (λ (x : Header). IsInStep x k ts) (sym p.header) (in_step_now h first past low))
 
@@ -53,38 +48,20 @@ module _ {B M : Type 0} (words : M → ℕ → ℕ) (Holds : Header → List Len
   behind_logged row same later is number numbered log x held = rw same (grind arith)
 
   -- a row of the driver that restores no ring
-  pub driven_logged : (row : Row) → is_ring_row row ≡ false → known_now h (row ∷ past) ≡ learned g k row → (number : ℕ) → number ≡ first + length past → (log : B) (x : RangeIndexes) →
+  pub driven_logged : (row : Row) → is_ring_row row ≡ false → known_now h (row ∷ past) ≡ learned_or_reset g k row → (number : ℕ) → number ≡ first + length past → (log : B) (x : RangeIndexes) →
       HoldsAll Holds before.header (grown before.header k row number ts) log x → IsLogged row log x
   unfolding lents grown
   driven_logged row driven is number numbered log x held = grind (arith, header_driven, behind_logged)
 
-  pub comes_logged : (ring : Ring) → IsComing ring → k.stopped ≡ false → is_bad_ring g k ring ≡ false → HoldsAll Holds g ts before.log before.ranges →
-      HoldsAll Holds (with_ring g ring) (lents h first (RingRow ring ∷ past)) before.log before.ranges
-  comes_logged ring coming on good held =
-      let is = headed_now words h past before p in
-      let d = (tracked_now words h past before p).keeps on in
-      subst (λ us. HoldsAll Holds (with_ring g ring) us before.log before.ranges) (sym (comes_lent h first past low is d ring coming good))
-      (record {
-        held = other_rings g (with_ring g ring) ts before.log (comes_alike g is k d ring coming good ts (lent_open h first past low)) held.held;
-        found = ranges_found g (with_ring g ring) before.ranges (comes_commands g is k d ring coming good) ts held.found;
-      })
+  pub comes_logged : (ring : Ring) (number : ℕ) → number ≡ first + length past → (log : B) (x : RangeIndexes) →
+      HoldsAll Holds (with_ring before.header ring) (passed_on (open_leases before.header k) (open_leases (with_ring before.header ring) (forgotten k ring.id)) number ts) log x → IsLogged (RingRow ring) log x
+  unfolding lents
+  comes_logged ring number numbered log x held = rw (p.header, numbered) at held
 
-  pub goes_logged : (id number : ℕ) → number ≡ first + length past → k.stopped ≡ false → is_bad_free g k id ≡ false → (log : B) → Holds before.header (map (ended_where (is_of_ring id) number) ts) log →
-      HoldsAll Holds g ts before.log before.ranges → HoldsAll Holds (without_ring g id) (lents h first (FreeRow id ∷ past)) log before.ranges
-  goes_logged id number numbered on good log ended held =
-      let is = headed_now words h past before p in
-      let d = (tracked_now words h past before p).keeps on in
-      let over : lents h first (FreeRow id ∷ past) ≡ map (ended_where (is_of_ring id) (first + length past)) ts = goes_lent h first past low is d id good in
-      let there : Holds g (lents h first (FreeRow id ∷ past)) log =
-      subst (λ us. Holds g us log) (ap (λ n. map (ended_where (is_of_ring id) n) ts) numbered ∙ sym over)
-      (subst (λ (y : Header). Holds y (map (ended_where (is_of_ring id) number) ts) log) p.header ended) in
-      let opened = lent_open h first (FreeRow id ∷ past) (omega (arith, room)) in
-      record {
-        held = other_rings g (without_ring g id) (lents h first (FreeRow id ∷ past)) log (goes_alike g is k d id good (lents h first (FreeRow id ∷ past)) opened) there;
-        found = subst (λ us. FindsRanges (without_ring g id) us before.ranges) (sym over)
-            (ranges_found g (without_ring g id) before.ranges (goes_commands g is k d id good) (map (ended_where (is_of_ring id) (first + length past)) ts)
-            (some_end g before.ranges (is_of_ring id) (first + length past) ts held.found));
-      }
+  pub goes_logged : (id number : ℕ) → number ≡ first + length past → (log : B) (x : RangeIndexes) →
+      HoldsAll Holds (without_ring before.header id) (passed_on (open_leases before.header k) (open_leases (without_ring before.header id) (gone before.header k id)) number ts) log x → IsLogged (FreeRow id) log x
+  unfolding lents
+  goes_logged id number numbered log x held = rw (p.header, numbered) at held
 
   -- the doorbell of an endpoint that has a ring
   pub rung_lents : (row : Row) (id : ℕ) → ((a w : ℕ) → row ≡ Write a w → ⊥) → ring_restored g k row ≡ Some id →

@@ -1,5 +1,6 @@
 -- How far the rows of a trace were read and passed, between which rings come and go, and what that says of the whole text
-use Rattle.ownership_checker.proofs.MiddleLaws.{◌≡◌, ℕ, Bool, ◌+◌, ◌-◌, ◌<◌, List, [], ◌∷◌, ◌++◌, ◌∙◌, true, false, Option, Some, None, Result, Ok, Err, All, refl, ap, sym, subst, arith, length, append-nil, append_assoc, add-zero, reverse, All-cons, All-nil, most_streamed_lines, Header, Row, LineFault, trace_of, RowReader, StreamFault, Line, ahead_of, IsCall, has_ended, IsOpened, IsSameTrace, progress_of, HasRead, IfBadLine, IsBadLine, OfStream, Lease, Refusal, without_end, Lent, lents, IsRow, header_now, known_now, IsLeastOfRow, DoNoHarm, IsRingLogged, IsRingPassed, Begins, IsWholeLog, OfTrace, with_rows, trace_verdict, RingPass, end_read, line_read_bad, opened_read, row_numbered, row_read, StepFault, RefusedBy, IfRefused, row_fits, none_refused, one_more, reversed_more, reversed_twice, row_refused, walks, rules, EndsAt, IsToldBad, IsToldTo, bad_followed, opened_told, refused_followed, row_followed}
+use Rattle.ownership_checker.proofs.LowerLaws.{◌≡◌, ℕ, Bool, ◌+◌, ◌-◌, ◌<◌, List, [], ◌∷◌, ◌++◌, ◌∙◌, true, false, Option, Some, None, Result, Ok, Err, All, refl, ap, sym, subst, arith, length, append-nil, append_assoc, add-zero, reverse, All-cons, All-nil, most_streamed_lines, Header, Row, LineFault, trace_of, RowReader, StreamFault, Line, ahead_of, IsCall, has_ended, IsOpened, IsSameTrace, progress_of, HasRead, IfBadLine, IsBadLine, OfStream, Lease, Refusal, without_end, Lent, lents, IsRow, header_now, known_now, IsLeastOfRow, DoNoHarm, IsRingLogged, IsRingPassed, Begins, IsWholeLog, OfTrace, with_rows, trace_verdict, RingPass, end_read, line_read_bad, opened_read, row_numbered, row_read, StepFault, RefusedBy, IfRefused, row_fits, none_refused, one_more, reversed_more, reversed_twice, row_refused, rules, EndsAt, IsToldBad, IsToldTo, bad_followed, opened_told, refused_followed, row_followed}
+use Rattle.ownership_checker.proofs.RingPasses.Walks.{walks}
 
 -- a call between two readers answered so
 abbrev pub Gives : Option (List ℕ) → Option (List ℕ) → RowReader → RowReader → Result (Option (ℕ × Row)) StreamFault → Type 0

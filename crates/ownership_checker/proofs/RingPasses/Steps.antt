@@ -1,7 +1,5 @@
 -- A row more of a pass
-use Rattle.ownership_checker.proofs.LowerLaws.{◌≡◌, ◌+◌, ◌++◌, ◌∷◌, ◌∙◌, ℕ, headline, true, false, List, [], All, Option, Some, None, Result, IfErr, suc, length, reverse, arith, refl, sym, ap, subst, inl, inr, reverse-append, All-cons, All-head, All-nil, All-tail, Header, Known, Ring, IsHeader, DriverKeeps, nothing, on_ring, false≢true, lenient_row, nothing_kept, clean_tests, EventState, Xfer, Row, RingRow, FreeRow, id_below, IsAmong, TraceRecord, FollowsTrace, IsWithin, IsLeast, IsRowStep, Refusal, IsTracked, ContextsFit, IsComing, forgotten, is_bad_free, is_bad_ring, with_ring, without_ring, AreKept, IsRow, header_now, known_now, is_left, restored, restored_on, ring_restored, some_flips, row_comes, stopped_still, BadFree, BadRing, BadWithdraw, withdraws_badly, restored_same, IsLeastOfRow, DoNoHarm, IsRingPassed, NothingFree, RingPass, kept_driver, NopRow, IsFinder, contexts_fit, EntriesFit, nothing_fits, still_fit, row_keeps, withdraw_keeps, gone_ring_kept, comes_keeps, IsRingStep, least_broken, none_broken, reversed_twice, rules, is_ring_row, kept_coming, kept_going, kept_withdrawing, coming_alone, going_alone, withdrawing_alone, comes_free, driven_after, driven_free, driver_same, flips_none_restored, goes_free, header_driven, kept_now, no_rule_broken, nothing_free, stands_where_restored}
-use Rattle.trace_record.proofs.RingFinder.HeaderRings.{shape_allowed}
-use Rattle.leases.proofs.LeaseRows.EntriesFit.{row_fits}
+use Rattle.ownership_checker.proofs.LowerLaws.{reset, resets, reset_keeps, frees_badly, coming_keeps, going_keeps, MayCome, learned_or_reset, ◌≡◌, ◌+◌, ◌++◌, ◌∷◌, ◌∙◌, ℕ, headline, true, false, List, [], All, Option, Result, IfErr, suc, length, reverse, arith, refl, sym, ap, subst, inl, inr, reverse-append, All-cons, All-head, All-nil, All-tail, Header, Known, Ring, IsHeader, DriverKeeps, nothing, false≢true, lenient_row, nothing_kept, clean_tests, EventState, Row, RingRow, FreeRow, id_below, IsAmong, TraceRecord, FollowsTrace, IsWithin, IsLeast, IsRowStep, Refusal, IsTracked, ContextsFit, IsComing, learned, Reg, Bool, if◌then◌else◌, is_bad_ring, with_ring, without_ring, AreKept, IsRow, header_now, known_now, is_left, restored, restored_on, ring_restored, some_flips, row_comes, stopped_still, BadFree, BadRing, BadWithdraw, withdraws_badly, restored_same, IsLeastOfRow, DoNoHarm, IsRingPassed, NothingFree, RingPass, kept_driver, NopRow, IsFinder, contexts_fit, row_keeps, withdraw_keeps, IsRingStep, least_broken, none_broken, reversed_twice, rules, is_ring_row, kept_coming, kept_going, kept_withdrawing, coming_alone, going_alone, withdrawing_alone, comes_free, driven_after, driven_free, driver_same, flips_none_restored, goes_free, header_driven, kept_now, no_rule_broken, nothing_free, stands_where_restored, nothing_fits, tables_fit, shape_allowed}
 use Rattle.trace_record.specs.declared.fault.StepFault as step
 use Rattle.trace_record.specs.declared.fault.StepFault.TheVariants as variants
 use Rattle.trace_record.specs.Steps as steps
@@ -11,9 +9,9 @@ among_last r [] = inl refl
 among_last r (x ∷ rs) = inr (among_last r rs)
 
 -- a ring that a header has behind it may come, by its line alone
-pub coming_by_header : (h : Header) (r : Ring) → IsHeader (with_ring h r) → r.shape.kind ≡ Xfer → IsComing r
+pub coming_by_header : (h : Header) (r : Ring) → IsHeader (with_ring h r) → IsComing r
 unfolding with_ring
-coming_by_header h r is kind = search (rules, id_below (with_ring h r) is r, among_last, shape_allowed (with_ring h r) is r)
+coming_by_header h r is = search (rules, id_below (with_ring h r) is r, among_last, shape_allowed (with_ring h r) is r)
 
 all_joined : (xs ys : List Row) → All IsRow xs → All IsRow ys → All IsRow (xs ++ ys)
 all_joined [] ys first second = second
@@ -37,14 +35,15 @@ refused_too r P Q f so = grind (arith, f)
 pub told_of : (e : step.StepFault) (P Q : Refusal → Type 0) → ((c : Refusal) → P c → Q c) → steps.IfRefused e P → steps.IfRefused e Q
 told_of e P Q f so = grind (arith, f)
 
-forgotten_fits : (k : Known) (id : ℕ) → EntriesFit k → EntriesFit (forgotten k id)
-unfolding forgotten
-forgotten_fits k id fit = still_fit k (forgotten k id) refl (λ s d at. at) fit
-
-restored_fits : (h : Header) (k : Known) (o : Option ℕ) → EntriesFit k → EntriesFit (restored_on h k o)
-unfolding restored_on on_ring
-restored_fits h k None fit = fit
-restored_fits h k (Some r) fit = still_fit k (restored_on h k (Some r)) refl (λ s d at. at) fit
+-- behind a row that breaks no rule the driver keeps what it kept
+module _ (h : Header) (is : IsHeader h) (k : Known) (keeps : DriverKeeps h k) where
+  keeps_behind : (row : Row) → MayCome h k row → (learned_or_reset h k row).stopped ≡ false → DriverKeeps h (learned_or_reset h k row)
+  keeps_behind (Reg r v) may still = by (resets k r v) refl still
+    where
+      by : (b : Bool) → resets k r v ≡ b → (if b then reset h k else learned h k (Reg r v)).stopped ≡ false → DriverKeeps h (if b then reset h k else learned h k (Reg r v))
+      by true done still = reset_keeps h is k keeps r v may.0 done
+      by false none still = kept_driver h is k (Reg r v) keeps may still
+  keeps_behind row may still = kept_driver h is k row keeps may still
 
 module _ {B M : Type 0} (words : M → ℕ → ℕ) where
   pub before_rows : (pass : RingPass B M) → IsHeader pass.header → IsFinder pass.header.rings pass.finder → IsWithin pass.record.events 0 → FollowsTrace pass.header nothing pass.record (words pass.memory) →
@@ -56,7 +55,7 @@ module _ {B M : Type 0} (words : M → ℕ → ℕ) where
     found = found;
     few_reads = unread;
     tracked = record { follows = follows; keeps = λ on. nothing_kept pass.header is };
-    entries = nothing_fits pass.header;
+    tables = nothing_fits pass.header;
     clean = tt;
     unwithdrawn = λ none. nothing_free;
   }
@@ -92,8 +91,8 @@ module _ {B M : Type 0} (words : M → ℕ → ℕ) where
           found = rw (header, same) p.found;
           few_reads = rw is (subst (IsWithin after.events) (omega arith) reads);
           tracked = rw (is, at, header, p.header, driven_after g k row driven)
-              (record { follows = now.followed; keeps = λ still. kept_driver g headed_now (restored g k row) row keeps_restored (row_comes g headed_now k keeps row clean flips) still });
-          entries = rw (driven_after g k row driven) (row_fits g headed_now (restored g k row) row keeps_restored clean (restored_fits g k (ring_restored g k row) p.entries));
+              (record { follows = now.followed; keeps = keeps_behind g headed_now (restored g k row) keeps_restored row (row_comes g headed_now k keeps row clean flips) });
+          tables = tables_fit g headed_now k row keeps_restored clean p.tables;
           clean = (p.clean, no_rule_broken g k row (record { on = on; stands = stands; flips = flips; clean = now.clean }));
           unwithdrawn = none;
         }
@@ -118,14 +117,15 @@ module _ {B M : Type 0} (words : M → ℕ → ℕ) where
     restored_tracked row o after is on stands follows = record { follows = rw (← is) follows; keeps = λ still. row_keeps before.header p.headed k (p.tracked.keeps on) row stands }
 
     -- behind a ring that comes
-    pub comes_behind : (ring : Ring) (after : TraceRecord) → ring.shape.kind ≡ Xfer → (DriverKeeps before.header k → k.stopped ≡ false → IsRingStep before.header k (RingRow ring) after (words before.memory)) →
+    pub comes_behind : (ring : Ring) (after : TraceRecord) → (DriverKeeps before.header k → k.stopped ≡ false → IsRingStep before.header k (RingRow ring) after (words before.memory)) →
         k.stopped ≡ false → IsWithin after.events (length past) → (later : RingPass B M) → later.header ≡ with_ring before.header ring → IsHeader later.header → IsFinder later.header.rings later.finder → later.record ≡ after →
         words later.memory ≡ words before.memory → later.has_withdrawn ≡ before.has_withdrawn → IsRingPassed words h (RingRow ring ∷ past) later
-    comes_behind ring after kind stepped on reads later header is found recorded at same =
+    unfolding ring_restored restored_on
+    comes_behind ring after stepped on reads later header is found recorded at same =
         let keeps = tracked_now.keeps on in
         let now : IsRingStep g k (RingRow ring) after (words before.memory) = rw p.header at (stepped (p.tracked.keeps on) on) in
         let there : later.header ≡ with_ring g ring = header ∙ ap (λ (x : Header). with_ring x ring) p.header in
-        let coming : IsComing ring = coming_by_header g ring (subst IsHeader there is) kind in
+        let coming : IsComing ring = coming_by_header g ring (subst IsHeader there is) in
         let good = kept_coming g k ring now.kept in
         record {
           opening = p.opening;
@@ -133,17 +133,18 @@ module _ {B M : Type 0} (words : M → ℕ → ℕ) where
           headed = is;
           found = found;
           few_reads = rw recorded (one_later after (length past) reads);
-          tracked = rw (recorded, at, there) (record { follows = now.followed; keeps = λ still. comes_keeps g headed_now ring coming k keeps good.1 });
-          entries = forgotten_fits k _ p.entries;
+          tracked = rw (recorded, at, there) (record { follows = now.followed; keeps = λ still. coming_keeps g headed_now ring coming k keeps good.1 });
+          tables = tables_fit g headed_now k (RingRow ring) keeps now.kept.0 p.tables;
           clean = (p.clean, none_broken k _ BadRing (is_bad_ring g k ring) (coming_alone g k ring) good);
           unwithdrawn = λ none. comes_free h past (p.unwithdrawn (sym same ∙ none)) ring;
         }
 
     -- behind a ring that goes
     pub goes_behind : (id : ℕ) (after : TraceRecord) → (DriverKeeps before.header k → k.stopped ≡ false → IsRingStep before.header k (FreeRow id) after (words before.memory)) →
-        k.stopped ≡ false → IsWithin after.events (length past) → (later : RingPass B M) → later.header ≡ without_ring before.header id → IsHeader later.header → IsFinder later.header.rings later.finder → later.record ≡ after →
+        (DriverKeeps before.header k → frees_badly before.header k id ≡ false) → k.stopped ≡ false → IsWithin after.events (length past) → (later : RingPass B M) → later.header ≡ without_ring before.header id → IsHeader later.header → IsFinder later.header.rings later.finder → later.record ≡ after →
         words later.memory ≡ words before.memory → later.has_withdrawn ≡ before.has_withdrawn → IsRingPassed words h (FreeRow id ∷ past) later
-    goes_behind id after stepped on reads later header is found recorded at same =
+    unfolding ring_restored restored_on
+    goes_behind id after stepped allowed on reads later header is found recorded at same =
         let keeps = tracked_now.keeps on in
         let now : IsRingStep g k (FreeRow id) after (words before.memory) = rw p.header at (stepped (p.tracked.keeps on) on) in
         let there : later.header ≡ without_ring g id = header ∙ ap (λ (x : Header). without_ring x id) p.header in
@@ -154,9 +155,9 @@ module _ {B M : Type 0} (words : M → ℕ → ℕ) where
           headed = is;
           found = found;
           few_reads = rw recorded (one_later after (length past) reads);
-          tracked = rw (recorded, at, there) (record { follows = now.followed; keeps = λ still. gone_ring_kept g headed_now k keeps id good.1 });
-          entries = forgotten_fits k _ p.entries;
-          clean = (p.clean, none_broken k _ BadFree (is_bad_free g k id) (going_alone g k id) good);
+          tracked = rw (recorded, at, there) (record { follows = now.followed; keeps = λ still. going_keeps g headed_now id k keeps good.1 });
+          tables = tables_fit g headed_now k (FreeRow id) keeps now.kept.0 p.tables;
+          clean = (p.clean, none_broken k _ BadFree (frees_badly g k id) (going_alone g k id) (on, rw p.header at (allowed (p.tracked.keeps on))));
           unwithdrawn = λ none. goes_free h past (p.unwithdrawn (sym same ∙ none)) id;
         }
 
@@ -165,7 +166,7 @@ module _ {B M : Type 0} (words : M → ℕ → ℕ) where
         (DriverKeeps before.header k → withdraws_badly before.header k r q ≡ false) → k.stopped ≡ false → IsWithin after.events (length past) →
         (later : RingPass B M) → later.header ≡ before.header → later.finder ≡ before.finder → later.record ≡ after → words later.memory ≡ words before.memory → later.has_withdrawn ≡ true →
         IsRingPassed words h (NopRow r q ∷ past) later
-    unfolding on_ring
+    unfolding ring_restored restored_on
     withdrawn_behind r q after stepped good on reads later header same recorded at has =
         let keeps = tracked_now.keeps on in
         let now : IsRingStep g k (NopRow r q) after (words before.memory) = rw p.header at (stepped (p.tracked.keeps on) on) in
@@ -176,7 +177,7 @@ module _ {B M : Type 0} (words : M → ℕ → ℕ) where
           found = rw (header, same) p.found;
           few_reads = rw recorded (one_later after (length past) reads);
           tracked = rw (recorded, at, header, p.header) (record { follows = now.followed; keeps = λ still. withdraw_keeps g r q headed_now k keeps (kept_withdrawing g k r q now.kept).1 });
-          entries = still_fit k (known_now h (NopRow r q ∷ past)) refl (λ s d at. at) p.entries;
+          tables = tables_fit g headed_now k (NopRow r q) keeps now.kept.0 p.tables;
           clean = (p.clean, none_broken k _ BadWithdraw (withdraws_badly g k r q) (withdrawing_alone g k r q) (on, rw p.header at (good (p.tracked.keeps on))));
           unwithdrawn = λ none. absurd (false≢true (sym none ∙ has));
         }
@@ -202,18 +203,17 @@ module _ {B M : Type 0} (words : M → ℕ → ℕ) where
       (least_broken k _ BadRing (is_bad_ring g k ring) (coming_alone g k ring) (on h past p) (subst (λ (x : Header). is_bad_ring x k ring ≡ true) p.header (bad.1 k p.tracked.follows)))
   comes_refused before ring on variants.Memory bad = tt
 
-  pub goes_refused : (before later : RingPass B M) (id : ℕ) → ((h : Header) (past : List Row) → IsRingPassed words h past before → IsRingPassed words h past later × ((known_now h past).stopped ≡ false)) →
-      (e : step.StepFault) →
-      steps.IfRefused e (λ c. (c ≡ BadFree) × ((k : Known) (memory : ℕ → ℕ) → FollowsTrace later.header k later.record memory → DriverKeeps later.header k → is_bad_free later.header k id ≡ true)) →
+  pub goes_refused : (before : RingPass B M) (id : ℕ) → ((h : Header) (past : List Row) → IsRingPassed words h past before → (known_now h past).stopped ≡ false) → (e : step.StepFault) →
+      steps.IfRefused e (λ c. (c ≡ BadFree) × ((k : Known) (memory : ℕ → ℕ) → FollowsTrace before.header k before.record memory → DriverKeeps before.header k → frees_badly before.header k id ≡ true)) →
       steps.IfRefused e (λ c. (h : Header) (past : List Row) → IsRingPassed words h past before → IsLeastOfRow (header_now h past) (known_now h past) (FreeRow id) c)
-  goes_refused before later id still (variants.Refused c) bad = λ h past p.
+  goes_refused before id on (variants.Refused c) bad = λ h past p.
       let g = header_now h past in
       let k = known_now h past in
-      let q = (still h past p).0 in
-      let on = (still h past p).1 in
+      let runs = on h past p in
       subst (λ (x : Refusal). IsLeastOfRow g k (FreeRow id) x) (sym bad.0)
-      (least_broken k _ BadFree (is_bad_free g k id) (going_alone g k id) on (subst (λ (x : Header). is_bad_free x k id ≡ true) q.header (bad.1 k (words later.memory) q.tracked.follows (q.tracked.keeps on))))
-  goes_refused before later id still variants.Memory bad = tt
+      (least_broken k _ BadFree (frees_badly g k id) (going_alone g k id) runs
+      (subst (λ (x : Header). frees_badly x k id ≡ true) p.header (bad.1 k (words before.memory) p.tracked.follows (p.tracked.keeps runs))))
+  goes_refused before id on variants.Memory bad = tt
 
   -- a descriptor that is refused
   pub withdrawn_refused : (before later : RingPass B M) (r q : ℕ) → ((h : Header) (past : List Row) → IsRingPassed words h past before → IsRingPassed words h past later × ((known_now h past).stopped ≡ false)) →

@@ -11,7 +11,7 @@ use Rattle.trace_record.specs.Fresh.{IsWithin}
 use Rattle.ownership_checker.specs.JudgedRows.Tracking.{IsTracked}
 use Rattle.leases.specs.LeaseBooks.Lents.{Lent, lents}
 use Rattle.leases.specs.LeaseRows.CleanRows.{HoldsAll}
-use Rattle.leases.specs.LeaseRows.LeftBehind.{EntriesFit}
+use Rattle.leases.specs.LeaseRows.LeftBehind.{TablesFit}
 use Rattle.ownership_checker.specs.RingPasses.Clean.{AreClean}
 use Rattle.ownership_checker.specs.declared.pass.ring_pass.RingPass.{RingPass}
 
@@ -28,7 +28,7 @@ pub record IsRingPassed {B M : Type 0} (words : M → ℕ → ℕ) (h : Header) 
   pub found : IsFinder pass.header.rings pass.finder
   pub few_reads : IsWithin pass.record.events (length past)
   pub tracked : IsTracked pass.header (known_now h past) pass.record (words pass.memory)
-  pub entries : EntriesFit (known_now h past)
+  pub tables : TablesFit (known_now h past)
   pub clean : AreClean h past
   pub unwithdrawn : pass.has_withdrawn ≡ false → NothingFree (known_now h past)
 

@@ -1,7 +1,6 @@
 //! A pass over rows between which rings come and go, and descriptors are withdrawn.
-ghost use Rattle.std.specs.Prelude.{◌≡◌, ◌+◌, ◌<◌, ◌≤◌, ℕ, true, false, [], ◌∷◌, List, All, length, map, reverse, IfErr, IfOk, OnOk};
-ghost use Rattle.trb.specs.declared.ring_kind.RingKind.TheVariants.{Xfer};
-ghost use Rattle.traces.specs.Header.{IsHeader, ring_with};
+ghost use Rattle.std.specs.Prelude.{◌≡◌, ◌+◌, ◌<◌, ◌≤◌, ℕ, true, false, [], ◌∷◌, List, All, length, reverse, IfErr, IfOk, OnOk};
+ghost use Rattle.traces.specs.Header.{IsHeader};
 ghost use Rattle.traces.specs.Limits.{most_streamed_lines};
 ghost use Rattle.traces.specs.declared.header.Header.{Header};
 ghost use Rattle.traces.specs.declared.row.Row.TheVariants.{Read, Ring as RingRow, Free as FreeRow};
@@ -10,11 +9,7 @@ ghost use Rattle.ring_knowledge.specs.declared.lease.Lease.{Lease};
 ghost use Rattle.ring_knowledge.specs.Known.{Known};
 ghost use Rattle.trace_record.specs.RingFinder.Finding.{IsFinder};
 ghost use Rattle.ownership_rules.specs.Leases.{without_end};
-ghost use Rattle.ownership_rules.specs.Rings.{is_transfer_ring};
-ghost use Rattle.leases.specs.LeaseBooks.InStep.{AreOpen};
-ghost use Rattle.leases.specs.LeaseBooks.Lents.{Lent, ended_where, lents};
-ghost use Rattle.leases.specs.RingLeases.RingLents.{is_of_ring};
-ghost use Rattle.trace_record.specs.FollowsTrace.{FollowsTrace};
+ghost use Rattle.leases.specs.LeaseBooks.Lents.{lents};
 ghost use Rattle.safety.specs.Harmless.{DoNoHarm};
 ghost use Rattle.traces.specs.Rows.{IsRow, is_ring_row};
 ghost use Rattle.ring_knowledge.specs.Histories.{header_now, known_now};
@@ -30,7 +25,7 @@ use crate::pass::behind::Behind;
 use crate::rows::check_row;
 use driver_rows::{check_coming, check_going};
 use guest_memory::WordMemory;
-use leases::{LeaseLog, RangeIndexes, note_going, note_row};
+use leases::{LeaseLog, RangeIndexes, note_coming, note_going, note_row};
 use ownership_rules::Refusal;
 use std::alloc::{AllocError, Global};
 use trace_record::{Finder, RowPlace, StepFault, TraceRecord};
@@ -131,7 +126,7 @@ impl<B: LeaseLog + Drop, M: WordMemory + Drop> RingPass<B, M> {
             IsLeastOfRow (header_now h past) (known_now h past) row.now c)) }
     {
         match row {
-            Row::Ring { ring } => self.ring_comes(ring.as_ring().copy()?),
+            Row::Ring { ring } => self.ring_comes(number, ring.as_ring().copy()?),
             Row::Free { ring: id } => self.ring_goes(number, *id),
             Row::Nop { ring, position } => { self.descriptor_withdrawn(number, *ring, *position) }
             _ => self.row_behind_withdrawals(number, row),
@@ -192,14 +187,13 @@ impl<B: LeaseLog + Drop, M: WordMemory + Drop> RingPass<B, M> {
         )
     }
 
-    /// Checks a transfer ring that comes, and takes it up. No lease begins or ends (xHCI 4.9).
+    /// Checks a ring that comes, notes the leases that begin with it, and takes it up (xHCI 4.9).
     #[inline(never)]
-    fn ring_comes(&mut self, ring: Ring) -> Result<(), StepFault>
+    fn ring_comes(&mut self, number: u32, ring: Ring) -> Result<(), StepFault>
         requires so_far { (h : Header) × (past : List Row) × IsRingPassed M.words h past self.old }
-        requires transfers { ring.shape.kind ≡ Xfer }
         ensures passed { OnOk result ((h : Header) (past : List Row) → IsRingPassed M.words h past self.old → IsRingPassed M.words h (RingRow ring ∷ past) self.new) }
         ensures logged { OnOk result ((list : List Lease) (h : Header) (first : ℕ) (past : List Row) → IsRingPassed M.words h past self.old →
-            first + length past < without_end →
+            number ≡ first + length past → first + length past < without_end →
             IsRingLogged (B.holds list) h first past self.old → IsRingLogged (B.holds list) h first (RingRow ring ∷ past) self.new) }
         ensures refused { IfErr result (λ e. IfRefused e (λ c. (h : Header) (past : List Row) → IsRingPassed M.words h past self.old →
             IsLeastOfRow (header_now h past) (known_now h past) (RingRow ring) c)) }
@@ -207,6 +201,7 @@ impl<B: LeaseLog + Drop, M: WordMemory + Drop> RingPass<B, M> {
         if self.record.registers.is_stopped() {
             return Err(StepFault::Refused(Refusal::AfterStop));
         }
+        note_coming(self.alloc, &mut self.log, &mut self.ranges, number, &ring)?;
         check_coming(
             self.alloc,
             &mut self.header,
@@ -218,7 +213,7 @@ impl<B: LeaseLog + Drop, M: WordMemory + Drop> RingPass<B, M> {
         Ok(())
     }
 
-    /// Checks a ring that goes, ends the leases of its blocks and Links, and forgets it (xHCI 4.9).
+    /// Checks a ring that goes, notes the leases that end with it, and forgets it (xHCI 4.9).
     #[inline(never)]
     fn ring_goes(&mut self, number: u32, id: u8) -> Result<(), StepFault>
         requires so_far { (h : Header) × (past : List Row) × IsRingPassed M.words h past self.old }
@@ -232,7 +227,16 @@ impl<B: LeaseLog + Drop, M: WordMemory + Drop> RingPass<B, M> {
         if self.record.registers.is_stopped() {
             return Err(StepFault::Refused(Refusal::AfterStop));
         }
-        self.end_leases(number, id);
+        note_going(
+            self.alloc,
+            &mut self.log,
+            &self.ranges,
+            &self.header,
+            &self.finder,
+            &self.record,
+            number,
+            id,
+        )?;
         check_going(
             self.alloc,
             &mut self.header,
@@ -241,32 +245,6 @@ impl<B: LeaseLog + Drop, M: WordMemory + Drop> RingPass<B, M> {
             id,
         )?;
         Ok(())
-    }
-
-    /// The leases end of the blocks and Links of the ring with this ID.
-    fn end_leases(&mut self, number: u32, id: u8)
-        requires headed { IsHeader self.old.header }
-        requires found { IsFinder self.old.header.rings self.old.finder }
-        ensures header { self.new.header ≡ self.old.header }
-        ensures finder { self.new.finder ≡ self.old.finder }
-        ensures record { self.new.record ≡ self.old.record }
-        ensures memory { self.new.memory ≡ self.old.memory }
-        ensures ranges { self.new.ranges ≡ self.old.ranges }
-        ensures withdrawn { self.new.has_withdrawn ≡ self.old.has_withdrawn }
-        ensures ended { (list : List Lease) (k : Known) (memory : ℕ → ℕ) (ts : List Lent) → FollowsTrace self.old.header k self.old.record memory →
-            is_transfer_ring (ring_with self.old.header id) ≡ true → AreOpen self.old.header k ts → B.holds list self.old.header ts self.old.log →
-            B.holds list self.old.header (map (ended_where (is_of_ring id) number) ts) self.new.log }
-    {
-        let Some(place) = self.finder.ring_named(id) else {
-            return;
-        };
-        let Some(ring) = self.header.rings.as_slice().get(place) else {
-            return;
-        };
-        let Some(known) = self.record.rings.as_slice().get(place) else {
-            return;
-        };
-        note_going(&mut self.log, number, ring, known);
     }
 
     /// The rings that are there.

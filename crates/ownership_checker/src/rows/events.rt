@@ -73,7 +73,7 @@ fn note_event<M: WordMemory>(
     requires headed { IsHeader header.now }
     requires found { IsFinder header.now.rings finder.now }
     requires as_many { length kept.now.rings.items ≡ length header.now.rings }
-    ensures possible { (k : Known) → FollowsTrace header.now k kept.old (M.words memory.now) → DriverKeeps header.now k → k.started ≡ true → IsPlaced header.now k (Read event) place.now →
+    ensures possible { (k : Known) → FollowsTrace header.now k kept.old (M.words memory.now) → DriverKeeps header.now k → IsPlaced header.now k (Read event) place.now →
         (is_transfer_event (kind event) && not (is_in_profile header.now k event)) ≡ false → result ≡ not (is_impossible_by_kind header.now k (kind event) event) }
     ensures followed { OnTrue result ((k : Known) → FollowsTrace header.now k kept.old (M.words memory.now) → DriverKeeps header.now k → IsPlaced header.now k (Read event) place.now → broken header.now k (Read event) ≡ [] →
         FollowsTrace header.now (event_read header.now k (kind event) event) kept.new (M.words memory.now)) }
@@ -105,9 +105,9 @@ fn note_completion<M: WordMemory>(
     requires headed { IsHeader header.now }
     requires found { IsFinder header.now.rings finder.now }
     requires as_many { length kept.now.rings.items ≡ length header.now.rings }
-    ensures possible { (k : Known) → FollowsTrace header.now k kept.old (M.words memory.now) → DriverKeeps header.now k → k.started ≡ true → IsNext header.now k next →
+    ensures possible { (k : Known) → FollowsTrace header.now k kept.old (M.words memory.now) → DriverKeeps header.now k → IsNext header.now k next →
         result ≡ not (is_impossible_completion header.now k event) }
-    ensures followed { OnTrue result ((k : Known) → FollowsTrace header.now k kept.old (M.words memory.now) → DriverKeeps header.now k → IsNext header.now k next → is_impossible_completion header.now k event ≡ false →
+    ensures followed { OnTrue result ((k : Known) → FollowsTrace header.now k kept.old (M.words memory.now) → DriverKeeps header.now k → k.started ≡ true → IsNext header.now k next → is_impossible_completion header.now k event ≡ false →
         FollowsTrace header.now (completed header.now k event) kept.new (M.words memory.now)) }
     ensures events { kept.new.events ≡ kept.old.events }
 {

@@ -16,8 +16,8 @@ ghost use Rattle.ownership_checker.specs.JudgedRows.Tracking.{IsLeastFrom, IsSte
 
 use crate::rows::events::check_event;
 use driver_rows::{
-    WordWrite, check_declaration, check_register, check_write, is_bad_doorbell, note_plain_write,
-    note_write, plain_refusal, ring_doorbell,
+    WordWrite, check_declaration, check_register, check_register_read, check_write,
+    is_bad_doorbell, note_plain_write, note_write, plain_refusal, ring_doorbell,
 };
 use guest_memory::WordMemory;
 use ownership_rules::Refusal;
@@ -70,6 +70,7 @@ pub(crate) fn check_row<M: WordMemory>(
         ),
         Row::Bell { slot, target } => check_doorbell(header, finder, kept, memory, *slot, *target),
         Row::Read { event } => check_event(header, finder, kept, memory, *event, place),
+        Row::RegRead { register, value } => check_register_read(kept, *register, *value),
         Row::Ring { .. } | Row::Free { .. } | Row::Nop { .. } => Ok(()),
     }
 }

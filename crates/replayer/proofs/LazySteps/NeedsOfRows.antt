@@ -1,5 +1,5 @@
 -- The notes of rows need of each ring what the rows need
-use Rattle.replayer.proofs.LowerLaws.{code_told, rules, ◌≡◌, ◌==◌, ◌&&◌, ◌∷◌, ◌++◌, if◌then◌else◌, ◌∙◌, ℕ, Bool, max, List, [], map, Option, refl, ap, arith, append_assoc, Block, BlockKind, CommandCompletion, code, slot, is_command_completion, is_transfer_event, is_success, Header, Row, Known, RingSpot, event_at, command_at, next_command, number_behind, is_placed_by, is_placed, begins_anew, number_reported, ends_need, need, header_after, known_after, any_notes, post_of, Note, Begun, Made, open_stopped, placed, placed_note, reporting_look, transfer_notes, completing_look, event_notes, row_notes, notes, need_before, need_in, NeedsLaw, has, has_listed, has_placed}
+use Rattle.replayer.proofs.LowerLaws.{Register, code_told, rules, ◌≡◌, ◌==◌, ◌&&◌, ◌∷◌, ◌++◌, if◌then◌else◌, ◌∙◌, ℕ, Bool, max, List, [], map, Option, refl, ap, arith, append_assoc, Block, BlockKind, CommandCompletion, code, slot, is_command_completion, is_transfer_event, is_success, Header, Row, Known, RingSpot, event_at, command_at, next_command, number_behind, is_placed_by, is_placed, begins_anew, number_reported, ends_need, need, header_after, known_after, any_notes, post_of, Note, Begun, Made, open_stopped, placed, floor_note, read_notes, reporting_look, transfer_notes, completing_look, event_notes, row_notes, notes, need_before, need_in, NeedsLaw, has, has_listed, has_placed}
 
 zero_most : (n : ℕ) → max 0 n ≡ n
 zero_most n = omega arith
@@ -16,12 +16,12 @@ begun_need (q ∷ l) rest r = ap (λ n. if q == r then 0 else n) (begun_need l r
 one_or_none : (q r m n : ℕ) (b : Bool) → (if b then max m n else n) ≡ max (if b then m else 0) n
 one_or_none q r m n b = grind (arith, zero_most)
 
-module _ (h : Header) where
-  pub placed_need : (k : Known) (row : Row) (l : List ℕ) (rest : List Note) (r : ℕ) → need_in (map (placed_note h k row) l ++ rest) r ≡ need_in rest r
-  unfolding need_in need_before placed_note
-  placed_need k row [] rest r = refl
-  placed_need k row (q ∷ l) rest r = placed_need k row l rest r
+pub placed_need : (k : Known) (l : List ℕ) (rest : List Note) (r : ℕ) → need_in (map (floor_note k) l ++ rest) r ≡ need_in rest r
+unfolding need_in need_before floor_note
+placed_need k [] rest r = refl
+placed_need k (q ∷ l) rest r = placed_need k l rest r
 
+module _ (h : Header) where
   transfer_need : (k : Known) (b : Block) (o : Option RingSpot) (post : Note) (rest : List Note) (r : ℕ) → IsLook post →
       need_in ((transfer_notes h k b o ++ post ∷ []) ++ rest) r ≡ max (if is_success (code_told h k b) then number_behind r o else 0) (need_in rest r)
   unfolding transfer_notes need_in number_behind need_before reporting_look
@@ -39,16 +39,20 @@ module _ (h : Header) where
 
   completion_need : (k : Known) (b : Block) (rest : List Note) (r : ℕ) → EventNeed k CommandCompletion b rest r
   unfolding event_notes need_in completing_look need_before
-  completion_need k b rest r = grind (arith, placed, completing_look, open_stopped, code, command_at, next_command, placed_note, post_of, need_in, max, made_is_look, placed_need, zero_most, append_assoc, begun_need, has_placed, is_placed_by, slot)
+  completion_need k b rest r = grind (arith, placed, completing_look, open_stopped, code, command_at, next_command, floor_note, post_of, need_in, max, made_is_look, placed_need, zero_most, append_assoc, begun_need, has_placed, is_placed_by, slot)
 
   event_need : (k : Known) (κ : BlockKind) (b : Block) (rest : List Note) (r : ℕ) → EventNeed k κ b rest r
   unfolding event_notes need_in need_before
   event_need k κ b rest r = grind (arith, transfer_need, made_is_look, completion_need, zero_most)
 
+  read_need : (k : Known) (r : Register) (v : ℕ) (rest : List Note) (q : ℕ) → need_in (read_notes h k r v ++ rest) q ≡ need_in rest q
+  unfolding read_notes need_in need_before
+  read_need k r v rest q = grind arith
+
   any_need : (k : Known) (row : Row) (rest : List Note) (r : ℕ) →
       need_in (any_notes h k row ++ rest) r ≡ (if ends_need h k r row then 0 else max (number_reported h k r row) (need_in rest r))
   unfolding any_notes ends_need number_reported need_in need_before row_notes begins_anew is_placed
-  any_need k row rest r = grind (arith, zero_most, begun_need, has_listed, event_need, zero_most)
+  any_need k row rest r = grind (arith, zero_most, begun_need, has_listed, event_need, read_need)
 
 needs_of : (rows : List Row) (h : Header) (k : Known) (r : ℕ) → need_in (notes h k rows) r ≡ need h k r rows
 unfolding notes need need_in need_before

@@ -1,5 +1,5 @@
 -- The steps of the notes of one row are those of the lazy schedule before it
-use Rattle.replayer.proofs.MiddleLaws.{rules, arith, ne_eqb, ◌≡◌, ◌==◌, ◌&&◌, ◌||◌, ◌∷◌, ◌++◌, if◌then◌else◌, ◌∙◌, ℕ, Bool, List, [], map, Option, Some, None, refl, eq-eqb, eqb-true, append_assoc, flat_map, fun_ext, cases_Bool, false≢true, put, Block, BlockKind, CommandCompletion, kind, code, slot, is_command_completion, Spot, Command, Header, Row, Bell, Read, Step, Known, learned, RingSpot, command_at, next_command, is_placed_by, is_placed, need, taken_up_to, command_taken, report_goals, open_goals, stopped_goals, goals, post_of, looks_to, steps_before, brought, pointers_after, Note, Begun, Made, header_behind, rows_behind, any_notes, header_after, known_after, restored_on, ring_restored, steps_for, pointers_for, if_open, open_stopped, placed, placed_note, reporting_look, transfer_notes, completing_look, event_notes, row_notes, need_before, need_in, with_need, filled, note_goals, note_steps, pointers_behind, steps_of, has, has_placed, placed_need}
+use Rattle.replayer.proofs.MiddleLaws.{Register, RegRead, rules, arith, ne_eqb, ◌≡◌, ◌==◌, ◌&&◌, ◌||◌, ◌∷◌, ◌++◌, if◌then◌else◌, ◌∙◌, ℕ, Bool, List, [], map, Option, Some, None, refl, eq-eqb, eqb-true, append_assoc, flat_map, fun_ext, cases_Bool, false≢true, put, Block, BlockKind, CommandCompletion, kind, code, slot, is_command_completion, Spot, Command, Header, Row, Bell, Read, Step, Known, learned, RingSpot, command_at, next_command, is_placed_by, is_placed, need, taken_up_to, command_taken, report_goals, open_goals, stopped_goals, goals, post_of, looks_to, steps_before, brought, pointers_after, Note, Begun, Made, header_behind, rows_behind, any_notes, header_after, known_after, restored_on, ring_restored, steps_for, pointers_for, if_open, open_stopped, placed, floor_note, read_notes, reporting_look, transfer_notes, completing_look, event_notes, row_notes, need_before, need_in, with_need, filled, note_goals, note_steps, pointers_behind, steps_of, has, has_placed, placed_need}
 
 put_first : (f p : ℕ → Spot) (q r : ℕ) (b : Bool) → (if b then f r else (if r == q then f q else p r)) ≡ (if (q == r) || b then f r else p r)
 put_first f p q r b = grind (arith, cases_Bool, eqb-true, eq-eqb, ne_eqb, false≢true, Bool)
@@ -10,14 +10,14 @@ module _ (h : Header) (rows : List Row) where
   begun_steps p [] rest = refl
   begun_steps p (q ∷ l) rest = begun_steps p l rest
 
-  floor_behind : Known → Row → ℕ → Spot
-  floor_behind k row r = ((learned h k row).ring r).floor
+  floor_at : Known → ℕ → Spot
+  floor_at k r = (k.ring r).floor
 
-  placed_steps : (k : Known) (row : Row) (p : ℕ → Spot) (l : List ℕ) (rest : List Note) →
-      steps_of h rows p (filled (map (placed_note h k row) l ++ rest)) ≡ steps_of h rows (λ r. if has r l then floor_behind k row r else p r) (filled rest)
-  unfolding steps_of filled with_need note_steps note_goals pointers_behind placed_note floor_behind header_behind rows_behind
-  placed_steps k row p [] rest = refl
-  placed_steps k row p (q ∷ l) rest = grind (arith, put_first, has, placed_steps k row (put p q (floor_behind k row q)) l rest)
+  placed_steps : (k : Known) (p : ℕ → Spot) (l : List ℕ) (rest : List Note) →
+      steps_of h rows p (filled (map (floor_note k) l ++ rest)) ≡ steps_of h rows (λ r. if has r l then floor_at k r else p r) (filled rest)
+  unfolding steps_of filled with_need note_steps note_goals pointers_behind floor_note floor_at header_behind rows_behind
+  placed_steps k p [] rest = refl
+  placed_steps k p (q ∷ l) rest = grind (arith, put_first, has, placed_steps k (put p q (floor_at k q)) l rest)
 
   -- a look, the post of the event and the row
   look_then : (p : ℕ → Spot) (look : Note) (post : Step) (rest : List Note) → header_behind h rows look ≡ h → rows_behind rows look ≡ rows →
@@ -49,17 +49,17 @@ module _ (h : Header) (rows : List Row) where
 
     -- the tail of a completion: the rings that it binds or moves stand at their floors
     abbrev tail : List Note
-    tail = map (placed_note h k (Read b)) (placed h k b)
+    tail = map (floor_note (learned h k (Read b))) (placed h k b)
 
     tail_needs : (r : ℕ) → need_in (tail ++ rest) r ≡ m r
-    tail_needs r = placed_need h k (Read b) (placed h k b) rest r ∙ needs r
+    tail_needs r = placed_need (learned h k (Read b)) (placed h k b) rest r ∙ needs r
 
     abbrev EventSteps : BlockKind → Type 0
     EventSteps κ =
         steps_of h rows p (filled (event_notes h k κ b ++ rest))
         ≡ (flat_map (looks_to h p) (goals h k later κ b) ++ post_of h κ b ∷ [])
         ++ steps_of h rows (λ r. if is_command_completion κ && code b == 1 && is_placed_by h k r (slot b) (command_at h k (next_command h k))
-        then floor_behind k (Read b) r else brought h p (goals h k later κ b) r) (filled rest)
+        then floor_at (learned h k (Read b)) r else brought h p (goals h k later κ b) r) (filled rest)
 
     completion_steps : EventSteps CommandCompletion
     unfolding event_notes goals completing_look filled with_need need_in need_before note_steps note_goals pointers_behind command_taken header_behind rows_behind
@@ -74,8 +74,13 @@ module _ (h : Header) (rows : List Row) where
 
   pub event_row_steps : (k : Known) (p : ℕ → Spot) (b : Block) (later : List Row) (rest : List Note) → ((r : ℕ) → need_in rest r ≡ need h (learned h k (Read b)) r later) →
       steps_of h rows p (filled (row_notes h k (Read b) ++ rest)) ≡ steps_before h k p (Read b) later ++ steps_of h rows (pointers_after h k p (Read b) later) (filled rest)
-  unfolding row_notes steps_before pointers_after is_placed floor_behind
+  unfolding row_notes steps_before pointers_after is_placed floor_at
   event_row_steps k p b later rest needs = event_steps k later b p rest needs (kind b)
+
+  read_steps : (k : Known) (r : Register) (v : ℕ) (p : ℕ → Spot) (later : List Row) (rest : List Note) →
+      steps_of h rows p (filled (read_notes h k r v ++ rest)) ≡ steps_before h k p (RegRead r v) later ++ steps_of h rows p (filled rest)
+  unfolding read_notes steps_before steps_of filled with_need note_steps note_goals pointers_behind header_behind rows_behind brought
+  read_steps k r v p later rest = grind arith
 
   -- ---- the row of any kind
 
@@ -84,4 +89,5 @@ module _ (h : Header) (rows : List Row) where
   unfolding any_notes row_notes steps_for pointers_for steps_before pointers_after ring_restored restored_on steps_of filled with_need note_steps note_goals pointers_behind header_behind rows_behind brought
   any_steps k p (Read b) later rest needs = event_row_steps k p b later rest needs
   any_steps k p (Bell s t) later rest needs = (grind (arith, begun_steps))
+  any_steps k p (RegRead r v) later rest needs = read_steps k r v p later rest
   any_steps k p _ later rest needs = refl

@@ -1,12 +1,12 @@
 -- Pointers in a table, by ring ID
-use Rattle.replayer.proofs.Words.{refl, ◌≡◌, ◌<◌, if◌then◌else◌, ℕ, true, false, List, length, nat_lt, add-one, arith, eq-eqb, eqb-true, get_or-set_same, get_or-set_other, set, fun_ext, cases_Bool, cond-true, cond-false, false≢true, put, Shape, is_crossing, Spot, Data, Link, rank, behind_taken, further, spot_in}
+use Rattle.replayer.proofs.Words.{refl, ◌≡◌, ◌<◌, if◌then◌else◌, ℕ, true, false, List, length, nat_lt, add-one, arith, eq-eqb, eqb-true, get_or-set_same, get_or-set_other, set, fun_ext, cases_Bool, cond-true, cond-false, false≢true, put, Shape, is_crossing, Spot, Data, Link, rank, behind_blocks, further, spot_in}
 
-pub some_taken : (shape : Shape) (n : ℕ) → 0 < n → (if is_crossing shape n then Link n else Data n) ≡ behind_taken shape n
-unfolding behind_taken
+pub some_taken : (shape : Shape) (n : ℕ) → 0 < n → (if is_crossing shape n then Link n else Data n) ≡ behind_blocks shape n
+unfolding behind_blocks
 some_taken shape n more = grind (arith, add-one)
 
-pub none_taken : (shape : Shape) (n : ℕ) → n ≡ 0 → Data 0 ≡ behind_taken shape n
-unfolding behind_taken
+pub none_taken : (shape : Shape) (n : ℕ) → n ≡ 0 → Data 0 ≡ behind_blocks shape n
+unfolding behind_blocks
 none_taken shape n none = rw none refl
 
 pub put_in : (t : List Spot) (q : ℕ) (s : Spot) → q < length t → spot_in (set t q s) ≡ put (spot_in t) q s

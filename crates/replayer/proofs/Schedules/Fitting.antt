@@ -1,9 +1,10 @@
 -- Rows that break no rule: the rings behind each may stand in a header, and each fits its fields
-use Rattle.replayer.proofs.Words.{List, [], ◌∷◌, ◌++◌, arith, append-nil, subst, sym, reverse, All, All-cons, All-head, All-nil, All-tail, All-weaker, Header, IsHeader, IsTraceRow, IsRowOf, AreRowsOf, Row, Version, RingRow, FreeRow, kept_coming, kept_going, AreKept, IsRow, header_now, known_now, gone_ring_header, comes_header, now_keeps, kept_on, later_kept, one_more, KeepHeaders}
+use Rattle.replayer.proofs.Words.{List, [], ◌∷◌, ◌++◌, arith, append-nil, subst, sym, reverse, All, All-cons, All-head, All-nil, All-tail, All-weaker, Header, IsHeader, IsTraceRow, IsRowOf, AreRowsOf, Row, Version, RingRow, FreeRow, kept_coming, kept_going, forgotten, gone, AreKept, IsRow, header_now, known_now, now_keeps, kept_on, later_kept, one_more, KeepHeaders}
 
 module _ (h : Header) (headed : IsHeader h) where
   -- the rings behind each row may stand in a header
   keep_headers : (rows past : List Row) → All IsRow past → All IsRow rows → AreKept h (reverse rows ++ past) → KeepHeaders (header_now h past) rows
+  unfolding forgotten gone
   keep_headers [] past made left kept = tt
   keep_headers (row ∷ rows) past made left kept =
       let then_kept : AreKept h (reverse rows ++ (row ∷ past)) = subst (AreKept h) (one_more row rows past) kept in
@@ -12,14 +13,8 @@ module _ (h : Header) (headed : IsHeader h) where
       (header_then row past then_made own, keep_headers rows (row ∷ past) then_made (All-tail IsRow row rows left) then_kept)
     where
       header_then : (row : Row) (past : List Row) → All IsRow (row ∷ past) → AreKept h (row ∷ past) → IsHeader (header_now h (row ∷ past))
-      header_then (RingRow ring) past made own =
-          let good = kept_coming (header_now h past) (known_now h past) ring own.1 in
-          let p = now_keeps h headed past (All-tail IsRow (RingRow ring) past made) own.0 good.0 in
-          comes_header (header_now h past) p.headed ring (All-head IsRow (RingRow ring) past made) (known_now h past) p.keeps good.1
-      header_then (FreeRow id) past made own =
-          let good = kept_going (header_now h past) (known_now h past) id own.1 in
-          let p = now_keeps h headed past (All-tail IsRow (FreeRow id) past made) own.0 good.0 in
-          gone_ring_header (header_now h past) p.headed (known_now h past) p.keeps id good.1
+      header_then (RingRow ring) past made own = (now_keeps h headed (RingRow ring ∷ past) made own (kept_coming (header_now h past) (known_now h past) ring own.1).0).headed
+      header_then (FreeRow id) past made own = (now_keeps h headed (FreeRow id ∷ past) made own (kept_going (header_now h past) (known_now h past) id own.1).0).headed
       header_then row past made own = (now_keeps h headed past (All-tail IsRow row past made) own.0 (kept_on (header_now h past) (known_now h past) row own.1)).headed
 
   pub all_headers : (rows : List Row) → All IsRow rows → AreKept h (reverse rows) → KeepHeaders h rows

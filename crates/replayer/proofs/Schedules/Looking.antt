@@ -1,5 +1,6 @@
 -- Looks at rings, one behind the other
-use Rattle.replayer.proofs.LowerLaws.{rules, drop_all, ◌≡◌, ◌∙◌, ℕ, suc, ◌+◌, ◌-◌, ◌<◌, ◌≤◌, ◌||◌, lt-ltb, nat_lt, Bool, true, false, List, [], drop, get_or, length, Option, Some, None, is_some, Ok, Err, ap, refl, arith, option_and_then, Bor, nat_tests, Ring, Row, Read, Block, Step, Look, Seen, Unmade, IsMade, Making, behind_look, blocks_of_ring, is_waited, looked_at, looked_at_each, made_before, made_behind_looks, made_looks, made_step, rings_at, tried_step, unless_possible, with_active, is_command_kind, left, made_is, made_of, unmade}
+use Rattle.replayer.proofs.LowerLaws.{if◌then◌else◌, option_map, Halt, tells_halt, drop_all, ◌≡◌, ◌∙◌, ℕ, suc, ◌+◌, ◌-◌, ◌<◌, ◌≤◌, ◌||◌, lt-ltb, nat_lt, Bool, true, false, List, [], drop, get_or, length, Option, Some, None, is_some, Ok, Err, ap, refl, arith, option_and_then, Bor, nat_tests, Ring, Row, Read, Block, Step, Look, Seen, Unmade, IsMade, Making, behind_look, blocks_of_ring, is_waited, looked_at, looked_at_each, made_before, made_behind_looks, made_looks, made_step, rings_at, tried_step, unless_possible, with_active, is_command_kind, left, made_is, made_of, unmade}
+unfoldable use Rattle.replayer.specs.Schedules.Making.{made_halt}
 
 pub any_before : (ring : Ring) (looks : ℕ) → 0 < looks → nat_lt 0 looks ≡ (nat_lt 0 looks || is_command_kind ring.shape.kind)
 any_before ring looks some = rw (lt-ltb 0 looks some) refl
@@ -18,7 +19,7 @@ module _ (m k : Making) (ring : Ring) (looks : ℕ) where
   module _ (below : looks < blocks_of_ring ring) (so_far : looked_at m ring ≡ made_looks (blocks_of_ring ring - looks) had k ring.id) where
     look_next : looked_at m ring ≡ option_and_then (λ p. behind_look had (made_looks (blocks_of_ring ring - (looks + 1)) true p.1 ring.id) p) (tried_step k (Look ring.id))
     unfolding made_looks
-    look_next = search rules
+    look_next = so_far ∙ ap (λ n. made_looks n had k ring.id) (let e : blocks_of_ring ring - looks ≡ suc (blocks_of_ring ring - (looks + 1)) = omega arith in e)
 
     pub look_failed : {X Z : Type 0} (e : Unmade) (P : X → Option Seen × Making → Type 0) (Q : Z → Bool × Making → Type 0) → IsMade (Err e) (tried_step k (Look ring.id)) P → IsMade (Err e) (looked_at m ring) Q
     look_failed e P Q made = rw look_next (unmade e (tried_step k (Look ring.id)) _ P Q made)
@@ -106,6 +107,22 @@ module _ (m k : Making) (rings : List (Bor Ring)) (active : List Ring) (i : ℕ)
 
 -- ---- rows before which nothing is posted
 
-pub not_read : (m : Making) (row : Row) (late : Option Ring) → ((b : Block) → row ≡ Read b → ⊥) → made_before m row late ≡ Some m
+unmapped : {X Y Z W : Type 0} (e : Unmade) (o : Option Y) (f : Y → W) (P : X → Y → Type 0) (Q : Z → W → Type 0) → IsMade (Err e) o P → IsMade (Err e) (option_map f o) Q
+unmapped e o f P Q made = grind arith
+
+mapped : {Z : Type 0} (x : Option Seen) (z : Z) (o : Option (Option Seen × Making)) (R : Making → Type 0) → IsMade (Ok x) o (λ seen p. (seen ≡ p.0) × R p.1) →
+    IsMade (Ok z) (option_map (λ p. p.1) o) (λ done n. R n)
+mapped x z o R made = grind arith
+
+module _ (m : Making) where
+  pub halt_unmade : {X Z : Type 0} (e : Unmade) (P : X → Option Seen × Making → Type 0) (Q : Z → Making → Type 0) → IsMade (Err e) (tried_step m Halt) P → IsMade (Err e) (made_halt m) Q
+  unfolding made_halt
+  halt_unmade e P Q made = unmapped e (tried_step m Halt) (λ p. p.1) P Q made
+
+  pub halt_made : {Z : Type 0} (x : Option Seen) (z : Z) (R : Making → Type 0) → IsMade (Ok x) (tried_step m Halt) (λ seen p. (seen ≡ p.0) × R p.1) → IsMade (Ok z) (made_halt m) (λ done n. R n)
+  unfolding made_halt
+  halt_made x z R made = mapped x z (tried_step m Halt) R made
+
+pub not_read : (m : Making) (row : Row) (late : Option Ring) → ((b : Block) → row ≡ Read b → ⊥) → made_before m row late ≡ (if tells_halt row then made_halt m else Some m)
 unfolding made_before
 not_read m row late other = grind arith

@@ -1,5 +1,5 @@
 -- The rows of a trace, checked and noted one by one
-use Rattle.replayer.proofs.Words.{◌≡◌, ℕ, ◌+◌, ◌<◌, ◌≤◌, List, [], ◌∷◌, ◌++◌, Some, ap, sym, ◌∙◌, arith, length, get_or, subst, Result, All, OnOk, map, reverse, take, drop, drop_all, take_all, append-nil, append_assoc, common_steps, most_lines, most_streamed_lines, Header, Row, Known, nothing, Refusal, learned, IsKept, header_now, known_now, restored, restored_on, ring_restored, fun_ext, DriverKeeps, IsTransferRing, TraceRecord, FollowsTrace, AreClean, IsLeastOfRow, IsRingPassed, trace_verdict, RingPass, kept_now, row_refused, kept_on, restored_learns, row_learns, Note, Next, Placed, any_notes, notes, placed_note, row_notes, AreNoted, MayBeRead, is_ring_row, header_driven, driven_after, false, false≢true}
+use Rattle.replayer.proofs.Words.{◌≡◌, ℕ, ◌+◌, ◌<◌, ◌≤◌, List, [], ◌∷◌, ◌++◌, Some, ap, sym, ◌∙◌, arith, length, get_or, subst, Result, All, OnOk, map, reverse, take, drop, drop_all, take_all, append-nil, append_assoc, common_steps, most_lines, most_streamed_lines, Header, Row, Known, nothing, Refusal, IsKept, header_now, known_after, known_now, restored_on, ring_restored, DriverKeeps, IsTransferRing, TraceRecord, FollowsTrace, AreClean, IsLeastOfRow, IsRingPassed, trace_verdict, RingPass, kept_now, row_refused, kept_on, Note, Next, any_notes, notes, floor_note, row_notes, AreNoted, MayBeRead, is_ring_row, header_driven, false, false≢true}
 
 pub on_any : {X E P : Type 0} (r : Result X E) → P → OnOk r P
 on_any r p = grind arith
@@ -76,10 +76,6 @@ may_read : (g : Header) (k : Known) (row : Row) → IsKept g k row → MayBeRead
 unfolding ring_restored restored_on
 may_read g k row kept = grind arith
 
-placed_same : (g : Header) (k : Known) (row : Row) → placed_note g (restored g k row) row ≡ placed_note g k row
-unfolding placed_note ring_restored restored_on
-placed_same g k row = fun_ext (λ r. ap (λ t. Placed r t) (grind (arith, row_learns, restored_learns)))
-
 module _ {B M : Type 0} (words : M → ℕ → ℕ) (h : Header) (past : List Row) (row : Row) (pass after : RingPass B M) (p : IsRingPassed words h past pass) (q : IsRingPassed words h (row ∷ past) after) where
   abbrev g : Header
   g = header_now h past
@@ -96,7 +92,7 @@ module _ {B M : Type 0} (words : M → ℕ → ℕ) (h : Header) (past : List Ro
   -- the notes before the row is noted in the record, and those behind
   pub driven_noted : is_ring_row row ≡ false → (old mid new : List Note) (placed : List ℕ) (before behind : Header) (record_ : TraceRecord) (memory : ℕ → ℕ) → before ≡ pass.header → behind ≡ after.header → record_ ≡ after.record →
       memory ≡ words after.memory → (DriverKeeps before k → MayBeRead before k row → AreNoted before k row old mid placed) →
-      ((j : Known) (d : Row) (m : ℕ → ℕ) → FollowsTrace behind (learned behind j d) record_ m → All (IsTransferRing behind) placed → new ≡ mid ++ map (placed_note behind j d) placed) →
+      ((j : Known) (m : ℕ → ℕ) → FollowsTrace behind j record_ m → All (IsTransferRing behind) placed → new ≡ mid ++ map (floor_note j) placed) →
       new ≡ old ++ row_notes g k row
   driven_noted driven old mid new placed before behind record_ memory first second third fourth noted placings =
       let one : before ≡ g = first ∙ p.header in
@@ -104,8 +100,5 @@ module _ {B M : Type 0} (words : M → ℕ → ℕ) (h : Header) (past : List Ro
       let says : AreNoted g k row old mid placed =
       subst (λ x. AreNoted x k row old mid placed) one
       (noted (subst (λ x. DriverKeeps x k) (sym first) (p.tracked.keeps (kept_on g k row kept))) (subst (λ x. MayBeRead x k row) (sym one) (may_read g k row kept))) in
-      let follows : FollowsTrace behind (learned behind (restored g k row) row) record_ memory = rw (two, third, fourth) (rw (q.header, header_driven g row driven, driven_after g k row driven) at q.tracked.follows) in
-      placings (restored g k row) row memory follows (subst (λ x. All (IsTransferRing x) placed) (sym two) says.rings)
-      ∙ ap (λ x. mid ++ map (placed_note x (restored g k row) row) placed) two
-      ∙ ap (λ f. mid ++ map f placed) (placed_same g k row)
-      ∙ says.notes
+      let follows : FollowsTrace behind (known_after g k row) record_ memory = rw (second, third, fourth) q.tracked.follows in
+      placings (known_after g k row) memory follows (subst (λ x. All (IsTransferRing x) placed) (sym two) says.rings) ∙ says.notes

@@ -1,5 +1,5 @@
 -- The schedules that are tried, made step by step
-use Rattle.replayer.proofs.LowerLaws.{arith, ◌≡◌, ℕ, ◌+◌, ◌-◌, ◌<◌, ◌≤◌, is_some, le-leb, true, false, List, [], ◌∷◌, ◌++◌, append-nil, drop, get_or, length, reverse, Option, Some, None, option_and_then, option_map, option_to_list, Result, Ok, Err, refl, subst, drop_all, lt-leb, All-append, All-cons, All-nil, ◌*◌, All, IfErr, IfNone, IfOk, IfSome, take, is_event_kind, Schedule, Header, Ring, Row, Step, header_after, Unmade, Dropped, Memory, IsMade, Making, looked_at_each, eager_row, eager_rows, eager_schedule, late_schedules, lines_of, looked_at_last, nothing_made, without_late, IsNoRead, IsTame, NoneDoesHarm, lazy_behind, Search, AreClean, left, made_is, unmade}
+use Rattle.replayer.proofs.LowerLaws.{Block, Read, slice_get, slice_get-get_or, arith, ◌≡◌, ℕ, ◌+◌, ◌-◌, ◌<◌, ◌≤◌, is_some, le-leb, true, false, List, [], ◌∷◌, ◌++◌, append-nil, drop, get_or, length, reverse, Option, Some, None, option_and_then, option_map, option_to_list, Result, Ok, Err, refl, subst, drop_all, lt-leb, All-append, All-cons, All-nil, ◌*◌, All, IfErr, IfNone, IfOk, IfSome, take, is_event_kind, Schedule, Header, Ring, Row, Step, header_after, Unmade, Dropped, Memory, IsMade, Making, looked_at_each, eager_row, eager_rows, eager_schedule, late_schedules, lines_of, looked_at_last, nothing_made, without_late, IsNoRead, IsTame, NoneDoesHarm, lazy_behind, Search, AreClean, left, made_is, unmade}
 
 -- ---- the looks at the end
 
@@ -89,6 +89,10 @@ none_tried h rows first n lines search is many eager lazy late = grind arith
 pub told_none : {X : Type 0} {E : Type 0} (r : Result (Option X) E) (A : Type 0) (o : ℕ → Option Row) (at : ℕ → Type 0) (B : ℕ → Type 0) → IfOk r (λ found. IfNone found A) → ((refused : ℕ) → at refused → A → B refused) →
     IfOk r (λ found. IfNone found ((refused : ℕ) → at refused → IfSome (o refused) (λ row. IsNoRead row → B refused)))
 told_none given1 given2 o given4 given5 none next = grind arith
+
+-- nothing is told of a row that reads an event
+pub read_told : (rows : List Row) (n : ℕ) (d : Row) (b : Block) (A : Type 0) → n < length rows → get_or rows n d ≡ Read b → IfSome (slice_get rows n) (λ row. IsNoRead row → A)
+read_told rows n d b A inside is = rw (slice_get-get_or rows n d inside, is) (λ none. absurd none)
 
 pub where_none : {X : Type 0} (o : Option X) (A : Type 0) → is_some o ≡ false → IfNone o A → A
 where_none given1 given2 none told = grind arith

@@ -12,8 +12,10 @@ use Rattle.commands.specs.declared.command.Command.{Command}
 use Rattle.commands.specs.declared.command.Command.TheVariants.{StopEndpoint}
 use Rattle.commands.specs.Changes.{Change, changes}
 use Rattle.traces.specs.declared.header.Header.{Header}
+use Rattle.traces.specs.declared.register.Register.{Register}
 use Rattle.traces.specs.declared.row.Row.{Row}
-use Rattle.traces.specs.declared.row.Row.TheVariants.{Bell, Read, Ring as RingRow, Free as FreeRow}
+use Rattle.traces.specs.declared.row.Row.TheVariants.{Bell, Read, Ring as RingRow, Free as FreeRow, RegRead}
+use Rattle.traces.specs.declared.step.Step.TheVariants.{Halt}
 use Rattle.traces.specs.Header.{command_id}
 use Rattle.ring_knowledge.specs.Known.{Known}
 use Rattle.ring_knowledge.specs.Learned.{learned}
@@ -22,7 +24,7 @@ use Rattle.ring_knowledge.specs.Completions.{changed_by}
 use Rattle.traces.specs.LivingRings.{header_after}
 use Rattle.ring_knowledge.specs.Histories.{known_after}
 use Rattle.safety.specs.LazyRuns.Needs.{ring_placed}
-use Rattle.safety.specs.LazyRuns.Lazy.{post_of}
+use Rattle.safety.specs.LazyRuns.Lazy.{is_first_halt, post_of}
 use Rattle.replayer.specs.declared.lazy_steps.note.Note.{Note}
 use Rattle.replayer.specs.declared.lazy_steps.note.Note.TheVariants.{Begun, Succeeded, Taken, StoppedAt, StoppedOpen, Made, Next, Placed}
 
@@ -40,6 +42,10 @@ unfoldable pub open_stopped : Known → ℕ → Option Command → Option ℕ
 open_stopped k completion (Some (StopEndpoint s i)) = if completion == 1 then if_open k (k.ring_of s i) else None
 open_stopped k completion _ = None
 
+-- a ring stands at its floor
+unfoldable pub floor_note : Known → ℕ → Note
+floor_note k r = Placed r (k.ring r).floor
+
 module _ (h : Header) where
   -- the rings that changes bind or move, in their order
   unfoldable pub placed_by_all : Command → Known → List Change → List ℕ
@@ -53,10 +59,6 @@ module _ (h : Header) where
   -- the rings that the command of a Command Completion Event binds or moves
   unfoldable pub placed : Known → Block → List ℕ
   placed k b = if code b == 1 then placed_by k (slot b) (command_at h k (next_command h k)) else []
-
-  -- a ring that the row binds or moves stands at its floor
-  unfoldable pub placed_note : Known → Row → ℕ → Note
-  placed_note k row r = Placed r ((learned h k row).ring r).floor
 
   unfoldable pub reporting_look : Known → Block → RingSpot → Note
   reporting_look k b at =
@@ -75,19 +77,24 @@ module _ (h : Header) where
   completing_look k None = Taken (command_id h) (next_command h k + 1)
   completing_look k (Some r) = StoppedOpen (command_id h) (next_command h k + 1) r 0
 
-  -- the notes of an event, by its kind
+  -- the notes of an event, by its kind: the rings that it binds or moves stand at their floors behind it
   unfoldable pub event_notes : Known → BlockKind → Block → List Note
   event_notes k TransferEvent b = transfer_notes k b (event_at h k b) ++ Made (post_of h TransferEvent b) ∷ []
   event_notes k CommandCompletion b =
       map Begun (placed k b)
       ++ (completing_look k (open_stopped k (code b) (command_at h k (next_command h k)))
-      ∷ Made (post_of h CommandCompletion b) ∷ map (placed_note k (Read b)) (placed k b))
+      ∷ Made (post_of h CommandCompletion b) ∷ map (floor_note (learned h k (Read b))) (placed k b))
   event_notes k other b = Made (post_of h other b) ∷ []
+
+  -- the notes of a register that is read: where it tells of it first, the controller halts
+  unfoldable pub read_notes : Known → Register → ℕ → List Note
+  read_notes k r v = if is_first_halt h k r v then Made Halt ∷ [] else []
 
   -- the notes of a row, before the step to the row
   unfoldable pub row_notes : Known → Row → List Note
   row_notes k (Bell s t) = if s == 0 then [] else map Begun (listed (k.ring_of s t))
   row_notes k (Read b) = event_notes k (kind b) b
+  row_notes k (RegRead r v) = read_notes k r v
   row_notes k _ = []
 
   -- the notes of a row of any kind: a ring that comes stands at its beginning, and of one that goes nothing more is needed

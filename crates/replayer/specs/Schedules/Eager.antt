@@ -4,7 +4,8 @@ use Rattle.traces.specs.declared.header.Header.{Header}
 use Rattle.traces.specs.declared.ring.Ring.{Ring}
 use Rattle.traces.specs.Header.{is_event_kind}
 use Rattle.traces.specs.declared.row.Row.{Row}
-use Rattle.traces.specs.declared.row.Row.TheVariants.{Bell}
+use Rattle.traces.specs.declared.row.Row.TheVariants.{Bell, Reg}
+use Rattle.traces.specs.declared.register.Register.TheVariants.{Usbcmd}
 use Rattle.traces.specs.declared.step.Step.{Step}
 use Rattle.traces.specs.declared.step.Step.TheVariants.{NextRow}
 use Rattle.traces.specs.LivingRings.{header_after}
@@ -19,13 +20,15 @@ is_late (Some late) r = r.id == late.id
 abbrev pub without_late : Header → Option Ring → Header
 without_late h late = record h { rings = filter (λ r. not (is_late late r)) h.rings }
 
-abbrev pub is_bell : Row → Bool
-is_bell (Bell s t) = true
-is_bell _ = false
+-- a controller may look at rings behind the row at which it didn't look before: a doorbell makes one active, and R/S lets those go on that were
+abbrev pub wakes : Row → Bool
+wakes (Bell s t) = true
+wakes (Reg Usbcmd v) = true
+wakes _ = false
 
--- the rings at which a controller looks behind a row: only a doorbell makes a ring active
+-- the rings at which a controller looks behind a row
 unfoldable pub rings_looked_at : Header → List Ring → Row → List Ring
-rings_looked_at h active row = if is_bell row then h.rings else active
+rings_looked_at h active row = if wakes row then h.rings else active
 
 -- the eager steps of rows, of which the first is posted for, made, and followed by looks; h has the rings that are there and aren't late
 unfoldable pub eager_row : Option Ring → Header → List Ring → Row → Making → Option (List Ring × Making)
@@ -49,8 +52,8 @@ lines_of None otherwise = otherwise
 lines_of (Some steps) otherwise = length steps
 
 module _ (h : Header) (rows : List Row) where
-  -- the eager schedule of the first rows: directly before each event that is read its post, behind each row looks at each active ring until it
-  -- waits, and at the end looks at each ring that is there; one ring may be late
+  -- the eager schedule of the first rows: directly before each event that is read its post, before HCHalted is read the halt, behind each row
+  -- looks at each active ring until it waits, and at the end looks at each ring that is there; one ring may be late
   unfoldable pub eager_schedule : List Row → Option Ring → Option (List Step)
   eager_schedule first late =
       option_and_then (λ p. looked_at_last late p.0 p.1) (eager_rows late (without_late h late) [] first (nothing_made h rows))

@@ -1,5 +1,5 @@
 -- Schedules that are made step by step, as the controller's model shows what each step does: xHCI 4.9.2, 6.4.2
-use Rattle.std.specs.Prelude.{ℕ, suc, zero, ◌+◌, if◌then◌else◌, Bool, true, false, List, [], ◌∷◌, ◌++◌, length, nat_le, map, Option, Some, None, option_and_then, Result, Ok, Err}
+use Rattle.std.specs.Prelude.{ℕ, suc, zero, ◌+◌, if◌then◌else◌, Bool, true, false, List, [], ◌∷◌, ◌++◌, length, nat_le, map, Option, Some, None, option_and_then, option_map, Result, Ok, Err}
 use Rattle.std.specs.Borrow.{Bor}
 use Rattle.trb.specs.declared.block.Block.{Block}
 use Rattle.trb.specs.Block.{kind}
@@ -9,9 +9,11 @@ use Rattle.segments.specs.Places.{links, place_count}
 use Rattle.traces.specs.declared.ring.Ring.{Ring}
 use Rattle.traces.specs.Header.{is_command_kind}
 use Rattle.traces.specs.declared.row.Row.{Row}
-use Rattle.traces.specs.declared.row.Row.TheVariants.{Read}
+use Rattle.traces.specs.declared.row.Row.TheVariants.{Read, RegRead}
+use Rattle.traces.specs.declared.register.Register.TheVariants.{Usbsts}
+use Rattle.traces.specs.Register.{halted_bit}
 use Rattle.traces.specs.declared.step.Step.{Step}
-use Rattle.traces.specs.declared.step.Step.TheVariants.{Finish, Look, Other, Report}
+use Rattle.traces.specs.declared.step.Step.TheVariants.{Finish, Halt, Look, Other, Report}
 use Rattle.traces.specs.Limits.{most_schedule_lines}
 use Rattle.world_state.specs.Scenes.{Scene, step_made}
 use Rattle.controller_model.specs.declared.seen.Seen.{Seen}
@@ -109,7 +111,16 @@ unfoldable pub made_post : Making → Step → Option Ring → Option Making
 made_post m s None = made_step m s
 made_post m s (Some late) = made_behind_looks (blocks_of_ring late) m s late.id
 
--- directly before a row the post of the event that it reads, if it reads one
+-- the controller halts, if it may
+unfoldable pub made_halt : Making → Option Making
+made_halt m = option_map (λ p. p.1) (tried_step m Halt)
+
+-- the row tells that the controller has halted, or wasn't started
+abbrev pub tells_halt : Row → Bool
+tells_halt (RegRead Usbsts value) = halted_bit value
+tells_halt row = false
+
+-- directly before a row the post of the event that it reads, if it reads one, and the halt that it tells of
 unfoldable pub made_before : Making → Row → Option Ring → Option Making
 made_before m (Read b) late = made_post m (post_by_kind (kind b) b) late
-made_before m row late = Some m
+made_before m row late = if tells_halt row then made_halt m else Some m

@@ -2,7 +2,8 @@ ghost use Rattle.std.specs.Prelude.{◌≡◌};
 ghost use Rattle.segments.specs.Spots.{number};
 ghost use Rattle.traces.specs.Header.{shape_of};
 ghost use Rattle.trace_record.specs.RingFinder.Finding.{IsFinder};
-ghost use Rattle.safety.specs.LazyRuns.Lazy.{behind_taken, stop_goal, taken_up_to};
+ghost use Rattle.ring_knowledge.specs.Resets.{behind_blocks};
+ghost use Rattle.safety.specs.LazyRuns.Lazy.{stop_goal, taken_up_to};
 ghost use Rattle.replayer.specs.LazySteps.Goals.{place_of};
 ghost use Rattle.replayer.specs.LazySteps.Shapes.{shape_behind};
 
@@ -56,7 +57,7 @@ pub(crate) fn stop_goal(header: &Header, finder: &Finder, at: Goal, need: u64) -
 
 /// The spot at which a pointer stands when so many blocks are taken (xHCI 4.9.2).
 fn spot_taken(shape: Option<&RingShape>, blocks: u64) -> Spot
-    ensures { result ≡ behind_taken (shape_behind shape.entry) blocks }
+    ensures { result ≡ behind_blocks (shape_behind shape.entry) blocks }
 {
     if blocks == 0 {
         Spot::Data(0)

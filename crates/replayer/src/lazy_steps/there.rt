@@ -1,7 +1,5 @@
 ghost use Rattle.std.specs.Prelude.{◌≡◌, ◌<◌, ◌==◌, IfOk, IfSome, OnOk, length, position, remove};
 ghost use Rattle.traces.specs.Header.{IsHeader};
-ghost use Rattle.traces.specs.TraceRows.{IsTraceRow};
-ghost use Rattle.trb.specs.declared.ring_kind.RingKind.TheVariants.{Xfer};
 ghost use Rattle.trace_record.specs.RingFinder.Finding.{IsFinder};
 ghost use Rattle.traces.specs.LivingRings.{header_after, with_ring, without_ring};
 
@@ -18,7 +16,6 @@ pub(crate) fn follow_row(
 ) -> Result<(), AllocError>
     requires found { IsFinder header.now.rings finder.now }
     requires then_headed { IsHeader (header_after header.now row.now) }
-    requires fits { IsTraceRow row.now }
     ensures header { OnOk result (header.new ≡ header_after header.old row.now) }
     ensures found { OnOk result (IsFinder header.new.rings finder.new) }
 {
@@ -37,7 +34,6 @@ pub(crate) fn follow_row(
 fn add_ring(header: &mut Header, finder: &mut Finder, ring: &Ring) -> Result<(), AllocError>
     requires found { IsFinder header.now.rings finder.now }
     requires then_headed { IsHeader (with_ring header.now ring.now) }
-    requires transfers { ring.now.shape.kind ≡ Xfer }
     ensures header { OnOk result (header.new ≡ with_ring header.old ring.now) }
     ensures found { OnOk result (IsFinder header.new.rings finder.new) }
 {

@@ -1,8 +1,7 @@
-ghost use Rattle.std.specs.Prelude.{◌≡◌, ◌++◌, ◌∷◌, [], All, IfOk, OnOk, drop, length, replicate};
+ghost use Rattle.std.specs.Prelude.{◌≡◌, ◌++◌, ◌∷◌, [], IfOk, OnOk, drop, length, replicate};
 ghost use Rattle.std.specs.List.{flat_map};
 ghost use Rattle.segments.specs.declared.spot.Spot.TheVariants.{Data};
 ghost use Rattle.traces.specs.Header.{IsHeader};
-ghost use Rattle.traces.specs.TraceRows.{IsTraceRow};
 ghost use Rattle.trace_record.specs.RingFinder.Finding.{IsFinder};
 ghost use Rattle.safety.specs.LazyRuns.Lazy.{brought, looks_to};
 ghost use Rattle.replayer.specs.LazySteps.Goals.{place_of};
@@ -30,7 +29,6 @@ pub fn steps_of_notes(
 ) -> Result<Vec<Step>, AllocError>
     requires headed { IsHeader header }
     requires then_headed { KeepHeaders header rows.now }
-    requires fits { All IsTraceRow rows.now }
     ensures { IfOk result (λ steps. steps.items ≡ steps_of header rows.now (λ r. Data 0) (filled notes.items)) }
 {
     fill_needs(notes.as_mut_slice());
@@ -46,7 +44,6 @@ fn walk_notes(
 ) -> Result<Vec<Step>, AllocError>
     requires headed { IsHeader header }
     requires then_headed { KeepHeaders header rows.now }
-    requires fits { All IsTraceRow rows.now }
     ensures { IfOk result (λ steps. steps.items ≡ steps_of header rows.now (λ r. Data 0) notes.now) }
 {
     let mut header = header;
@@ -72,7 +69,6 @@ fn follow_note(
 ) -> Result<usize, AllocError>
     requires found { IsFinder header.now.rings finder.now }
     requires then_headed { KeepHeaders header.now (drop next rows.now) }
-    requires fits { All IsTraceRow rows.now }
     ensures header { OnOk result (header.new ≡ header_behind header.old (drop next rows.now) note.now) }
     ensures found { OnOk result (IsFinder header.new.rings finder.new) }
     ensures then_headed { IfOk result (λ after. KeepHeaders header.new (drop after rows.now)) }

@@ -39,9 +39,9 @@ pub(crate) fn note_completion<M: WordMemory>(
 ) -> Result<Vec<u8>, AllocError>
     requires headed { IsHeader header.now }
     requires found { IsFinder header.now.rings finder.now }
-    ensures placed { IfOk result (λ rings. (k : Known) → FollowsTrace header.now k kept.now (M.words memory.now) → DriverKeeps header.now k →
+    ensures placed { IfOk result (λ rings. (k : Known) → FollowsTrace header.now k kept.now (M.words memory.now) → DriverKeeps header.now k → k.started ≡ true →
         is_impossible_completion header.now k event ≡ false → rings.items ≡ placed header.now k event) }
-    ensures noted { IfOk result (λ rings. (k : Known) → FollowsTrace header.now k kept.now (M.words memory.now) → DriverKeeps header.now k →
+    ensures noted { IfOk result (λ rings. (k : Known) → FollowsTrace header.now k kept.now (M.words memory.now) → DriverKeeps header.now k → k.started ≡ true →
         is_impossible_completion header.now k event ≡ false →
         notes.new.items ≡ notes.old.items ++ map Begun rings.items
         ++ completing_look header.now k (open_stopped k (code event) (command_at header.now k (next_command header.now k))) ∷ Made (Finish event) ∷ []) }

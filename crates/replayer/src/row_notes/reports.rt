@@ -1,9 +1,9 @@
 //! The notes of Transfer Events (xHCI 4.6.9, 4.10.2, 6.4.2.1).
-ghost use Rattle.std.specs.Prelude.{◌≡◌, ◌+◌, ◌<◌, ◌^◌, ◌++◌, ◌∷◌, [], ℕ, Some, true, OnOk, if◌then◌else◌, is_some};
+ghost use Rattle.std.specs.Prelude.{◌≡◌, ◌+◌, ◌<◌, ◌^◌, ◌++◌, ◌∷◌, [], ℕ, OnOk, if◌then◌else◌};
 ghost use Rattle.trb.specs.CompletionCode.{is_success};
 ghost use Rattle.trb.specs.declared.kind.BlockKind.TheVariants.{TransferEvent};
 ghost use Rattle.segments.specs.Spots.{number};
-ghost use Rattle.traces.specs.Header.{IsHeader, command_ring};
+ghost use Rattle.traces.specs.Header.{IsHeader};
 ghost use Rattle.ring_knowledge.specs.Known.{Known};
 ghost use Rattle.ring_knowledge.specs.Rings.{code_told, event_at};
 ghost use Rattle.trace_record.specs.RingFinder.Finding.{IsFinder};
@@ -11,6 +11,7 @@ ghost use Rattle.safety.specs.Keeps.{DriverKeeps};
 ghost use Rattle.replayer.specs.LazySteps.Notes.{event_notes, reporting_look, transfer_notes};
 ghost use Rattle.replayer.specs.declared.lazy_steps.note.Note.TheVariants.{Succeeded};
 ghost use Rattle.trace_record.specs.FollowsTrace.{FollowsTrace};
+ghost use Rattle.replayer.specs.RowNotes.Noted.{StopsByCommand};
 
 use crate::lazy_steps::Note;
 use crate::row_notes::notes::add_note;
@@ -32,7 +33,7 @@ pub(crate) fn note_report(
 ) -> Result<(), AllocError>
     requires headed { IsHeader header.now }
     requires found { IsFinder header.now.rings finder.now }
-    ensures { OnOk result ((k : Known) (m : ℕ → ℕ) → FollowsTrace header.now k kept.now m → DriverKeeps header.now k → is_some (command_ring header.now) ≡ true →
+    ensures { OnOk result ((k : Known) (m : ℕ → ℕ) → FollowsTrace header.now k kept.now m → DriverKeeps header.now k → StopsByCommand header.now (code_told header.now k event) →
         notes.new.items ≡ notes.old.items ++ event_notes header.now k TransferEvent event) }
 {
     note_named(header, finder, kept, event, notes)?;
@@ -54,7 +55,7 @@ fn note_named(
 ) -> Result<(), AllocError>
     requires headed { IsHeader header.now }
     requires found { IsFinder header.now.rings finder.now }
-    ensures { OnOk result ((k : Known) (m : ℕ → ℕ) → FollowsTrace header.now k kept.now m → DriverKeeps header.now k → is_some (command_ring header.now) ≡ true →
+    ensures { OnOk result ((k : Known) (m : ℕ → ℕ) → FollowsTrace header.now k kept.now m → DriverKeeps header.now k → StopsByCommand header.now (code_told header.now k event) →
         notes.new.items ≡ notes.old.items ++ transfer_notes header.now k event (event_at header.now k event)) }
 {
     let Some(at) = named_spot(header, finder, kept, event) else {
@@ -92,7 +93,7 @@ fn reporting_look(
     requires headed { IsHeader header.now }
     requires found { IsFinder header.now.rings finder.now }
     requires few { number spot < 2 ^ 63 }
-    ensures { (k : Known) (m : ℕ → ℕ) (event : Block) → FollowsTrace header.now k kept.now m → code ≡ code_told header.now k event → is_some (command_ring header.now) ≡ true →
+    ensures { (k : Known) (m : ℕ → ℕ) (event : Block) → FollowsTrace header.now k kept.now m → code ≡ code_told header.now k event → StopsByCommand header.now code →
         result ≡ reporting_look header.now k event (record { ring = ring; spot = spot }) }
 {
     let taken = Note::Taken {

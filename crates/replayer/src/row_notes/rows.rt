@@ -2,15 +2,15 @@
 ghost use Rattle.std.specs.Prelude.{◌≡◌, ◌++◌, ℕ, [], map, All, IfOk, OnOk};
 ghost use Rattle.traces.specs.Header.{IsHeader};
 ghost use Rattle.traces.specs.declared.header.Header.{Header as HeaderValue};
-ghost use Rattle.traces.specs.declared.row.Row.{Row as RowValue};
 ghost use Rattle.traces.specs.declared.row.Row.TheVariants.{Bell, Read};
 ghost use Rattle.ring_knowledge.specs.Known.{Known};
-ghost use Rattle.ring_knowledge.specs.Learned.{learned};
+ghost use Rattle.ring_knowledge.specs.RegisterRecords.{FollowsRegisters};
 ghost use Rattle.trace_record.specs.RingFinder.Finding.{IsFinder};
 ghost use Rattle.trace_record.specs.DeviceSlots.Devices.{FollowsDevices};
 ghost use Rattle.ownership_rules.specs.Rules.{lenient};
 ghost use Rattle.safety.specs.Keeps.{DriverKeeps, IsTransferRing};
-ghost use Rattle.replayer.specs.LazySteps.Notes.{placed_note, row_notes};
+ghost use Rattle.safety.specs.LazyRuns.Lazy.{is_first_halt};
+ghost use Rattle.replayer.specs.LazySteps.Notes.{floor_note, read_notes, row_notes};
 ghost use Rattle.trace_record.specs.FollowsTrace.{FollowsTrace};
 ghost use Rattle.replayer.specs.RowNotes.Noted.{AreNoted, MayBeRead};
 
@@ -20,9 +20,10 @@ use crate::row_notes::notes::add_note;
 use crate::row_notes::reports::note_report;
 use crate::row_notes::rings::floor_of;
 use guest_memory::WordMemory;
+use ring_knowledge::RegisterRecord;
 use std::alloc::{AllocError, Global};
 use trace_record::{DeviceRecord, Finder, TraceRecord};
-use traces::{Header, Row, Step};
+use traces::{Halt, Header, Register, Row, Step};
 use trb::{Block, BlockKind};
 
 /// Adds the notes of a row that come before it is noted in the record. The result is the IDs of the rings that it binds or moves, in
@@ -47,11 +48,15 @@ pub fn note_row<M: WordMemory>(
             Ok(Vec::new(alloc))
         }
         Row::Read { event } => note_event(alloc, header, finder, kept, memory, *event, notes),
+        Row::RegRead { register, value } => {
+            note_read(&kept.registers, *register, *value, notes)?;
+            Ok(Vec::new(alloc))
+        }
         _ => Ok(Vec::new(alloc)),
     }
 }
 
-/// Adds where the rings with these IDs stand, by the record behind the row that bound or moved them.
+/// Adds where the transfer rings with these IDs stand, by the record behind the row that bound or moved them.
 pub fn note_placed(
     header: &Header,
     finder: &Finder,
@@ -61,8 +66,8 @@ pub fn note_placed(
 ) -> Result<(), AllocError>
     requires headed { IsHeader header.now }
     requires found { IsFinder header.now.rings finder.now }
-    ensures { OnOk result ((k : Known) (row : RowValue) (m : ℕ → ℕ) → FollowsTrace header.now (learned header.now k row) after.now m → All (IsTransferRing header.now) placed.now →
-        notes.new.items ≡ notes.old.items ++ map (placed_note header.now k row) placed.now) }
+    ensures { OnOk result ((k : Known) (m : ℕ → ℕ) → FollowsTrace header.now k after.now m → All (IsTransferRing header.now) placed.now →
+        notes.new.items ≡ notes.old.items ++ map (floor_note k) placed.now) }
 {
     for &ring in placed {
         let spot = floor_of(finder, after, ring);
@@ -86,6 +91,33 @@ fn note_bell(
     match devices.ring_of(slot, target) {
         Some(ring) => add_note(Note::Begun { ring }, notes),
         None => Ok(()),
+    }
+}
+
+/// The notes of a register that is read: where it tells of it first, the controller halts.
+fn note_read(
+    registers: &RegisterRecord,
+    register: Register,
+    value: u64,
+    notes: &mut Vec<Note>,
+) -> Result<(), AllocError>
+    ensures { OnOk result ((h : HeaderValue) (k : Known) → FollowsRegisters k registers.now →
+        notes.new.items ≡ notes.old.items ++ read_notes h k register value) }
+{
+    if !is_first_halt(registers, register, value) {
+        return Ok(());
+    }
+    add_note(Note::Made { step: Step::Halt }, notes)
+}
+
+/// Whether the read shows that the controller has halted since R/S was cleared, and none before did (xHCI 5.4.1.1, 5.4.2, HCH).
+#[tactic(auto, unfolding(safety::specs::LazyRuns::Lazy::is_first_halt))]
+fn is_first_halt(registers: &RegisterRecord, register: Register, value: u64) -> bool
+    ensures { (h : HeaderValue) (k : Known) → FollowsRegisters k registers.now → result ≡ is_first_halt h k register value }
+{
+    match (register, registers.halt()) {
+        (Register::Usbsts, Halt::Asked) => value % 2 == 1,
+        _ => false,
     }
 }
 

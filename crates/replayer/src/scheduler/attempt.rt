@@ -4,14 +4,14 @@ ghost use Rattle.traces.specs.Limits.{most_schedule_lines};
 ghost use Rattle.traces.specs.Rows.{AreSteps, IsRow, IsStep, steps_are_fact};
 ghost use Rattle.traces.specs.TraceRows.{IsTraceRow};
 ghost use Rattle.trb.specs.Block.{IsBlock, kind};
-ghost use Rattle.replayer.specs.Schedules.Making.{is_waited, post_by_kind, rings_at};
+ghost use Rattle.replayer.specs.Schedules.Making.{is_waited, post_by_kind, rings_at, tells_halt};
 ghost use Rattle.traces.specs.Header.{is_command_kind};
 
 use crate::scheduler::rings::add_ring;
 use controller_model::{Seen, StepFault, World};
 use guest_memory::SparseMemory;
 use std::alloc::{AllocError, Global};
-use traces::{Ring, Row, Schedule, Step, Steps, Trace};
+use traces::{Register, Ring, Row, Schedule, Step, Steps, Trace};
 use trb::{Block, BlockKind, RingKind};
 
 /// The most steps that a schedule has.
@@ -46,10 +46,10 @@ pub(crate) struct Attempt<'t> {
 }
 
 impl<'t> Attempt<'t> {
-    ghost use Rattle.std.specs.Prelude.{IfOk, List, option_map};
+    ghost use Rattle.std.specs.Prelude.{IfOk, List, Some, if◌then◌else◌, option_map};
     ghost use Rattle.traces.specs.declared.row.Row.TheVariants.{Read};
     ghost use Rattle.traces.specs.declared.step.Step.TheVariants.{Look as LookAt};
-    ghost use Rattle.replayer.specs.Schedules.Making.{IsMade, Making, blocks_of_ring, looked_at, looked_at_each, made_before, made_behind_looks, made_step, made_steps, tried_step};
+    ghost use Rattle.replayer.specs.Schedules.Making.{IsMade, Making, blocks_of_ring, looked_at, looked_at_each, made_before, made_behind_looks, made_halt, made_step, made_steps, tried_step};
     ghost use Rattle.replayer.specs.Schedules.Eager.{nothing_made};
     ghost use Rattle.replayer.specs.Schedules.Attempts.{HasMade};
 
@@ -113,8 +113,9 @@ impl<'t> Attempt<'t> {
         Ok(())
     }
 
-    /// Posts the event that a row reads, if it reads one. Where a ring is late, it is looked at until the event is possible.
-    pub(crate) fn post_before(&mut self, row: &Row, late: Option<&Ring>) -> Result<(), Unmade>
+    /// Posts the event that a row reads, if it reads one, and halts where a row tells of that. Where a ring is late, it is looked at until
+    /// the event is possible.
+    pub(crate) fn make_before(&mut self, row: &Row, late: Option<&Ring>) -> Result<(), Unmade>
         requires { IsTraceRow row.now }
         ensures { (m : Making) → HasMade self.old m →
             IsMade result (made_before m row.now (option_map (λ ring. ring.now) late.entry)) (λ done n. HasMade self.new n) }
@@ -122,8 +123,19 @@ impl<'t> Attempt<'t> {
         match (row, late) {
             (Row::Read { event }, Some(ring)) => self.make_behind_looks(post_of(event), ring),
             (Row::Read { event }, None) => self.make(post_of(event)),
-            _ => Ok(()),
+            _ => self.halt_before(row),
         }
+    }
+
+    /// The controller halts, if it may, where a row tells of that.
+    fn halt_before(&mut self, row: &Row) -> Result<(), Unmade>
+        ensures { (m : Making) → HasMade self.old m → IsMade result (if tells_halt row.now then made_halt m else Some m) (λ done n. HasMade self.new n) }
+    {
+        if !tells_halt(row) {
+            return Ok(());
+        }
+        self.attempt(Step::Halt)?;
+        Ok(())
     }
 
     /// Makes one more step, as soon as looks at a ring make it possible.
@@ -198,6 +210,19 @@ fn has_waited(seen: Seen) -> bool
     ensures { result ≡ is_waited seen }
 {
     matches!(seen, Seen::Waited)
+}
+
+/// Whether a row tells that the controller has halted, or wasn't started (xHCI 5.4.2, HCH).
+fn tells_halt(row: &Row) -> bool
+    ensures { result ≡ tells_halt row.now }
+{
+    match row {
+        Row::RegRead {
+            register: Register::Usbsts,
+            value,
+        } => value % 2 == 1,
+        _ => false,
+    }
 }
 
 /// How an event is posted, by its type (xHCI 6.4.2).

@@ -145,9 +145,9 @@ fn harm_with_a_late_ring(
     Ok(None)
 }
 
-/// The eager schedule of the first rows, the last of which breaks a rule: directly before each event that is read its post, and after each
-/// row looks at each active ring until it waits, at one that just went too; at the end once more. One ring may be late: it is looked at
-/// only before an event that isn't possible else, and at the end.
+/// The eager schedule of the first rows, the last of which breaks a rule: directly before each event that is read its post, before each row
+/// that shows HCHalted (xHCI 5.4.2) the halt, if it is possible, and after each row looks at each active ring until it waits, at one that just
+/// went too; at the end once more. One ring may be late: it is looked at only before an event that isn't possible else, and at the end.
 fn eager_schedule(
     alloc: Global,
     trace: &Trace,
@@ -171,7 +171,8 @@ fn eager_schedule(
     Ok(attempt.into_schedule())
 }
 
-/// The eager steps of a row: the post of the event that it reads, the row, and looks; the rings that may be active then.
+/// The eager steps of a row: the post of the event that it reads, or the halt that it shows, the row, and looks; the rings that may be active
+/// then.
 fn eager_row<'r>(
     alloc: Global,
     attempt: &mut Attempt,
@@ -184,7 +185,7 @@ fn eager_row<'r>(
     ensures { (g : HeaderValue) (m : Making) → rings_at prompt.now ≡ g.rings → HasMade attempt.old m →
         IsMade result (eager_row (option_map (λ ring. ring.now) late.entry) g (rings_at active.now) row.now m) (λ rings p. (rings_at rings.items ≡ p.0) × HasMade attempt.new p.1) }
 {
-    attempt.post_before(row, late)?;
+    attempt.make_before(row, late)?;
     attempt.make(Step::NextRow)?;
     attempt.look_at_each(alloc, looked_rings(prompt, active, row))
 }

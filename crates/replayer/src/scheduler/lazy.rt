@@ -19,9 +19,10 @@ use guest_memory::{SparseMemory, WordMemory};
 use std::alloc::Global;
 use traces::{Header, Row, Schedule, Step, Steps, Trace};
 
-/// Checks a trace in one pass, and makes its lazy schedule: all rows in their order, and directly before each event that is read the steps
-/// of the controller that it needs; a ring that comes or goes and a descriptor that is withdrawn need none. Where no success is read while
-/// its ring is held, it is a run of the controller's model that contains all rows, its replay does no harm, and behind each row the dequeue
+/// Checks a trace in one pass, and makes its lazy schedule: all rows in their order, directly before each event that is read the steps of
+/// the controller that it needs, and before the row that first shows a halt (HCHalted, xHCI 5.4.2) that the controller halts; a ring that comes
+/// or goes, a descriptor that is withdrawn and a reset need none. Where no event is read once the halt was seen, and no success while its
+/// ring is held, it is a run of the controller's model that contains all rows, its replay does no harm, and behind each row the dequeue
 /// pointer of each ring that an endpoint has is that ring's floor. A schedule has room for it: a trace of at most 2^20 lines has not so
 /// many rows that it would not. Where a row breaks a rule, the first such row is told, and the least of the rules that it breaks.
 pub fn lazy_schedule(alloc: Global, trace: &Trace) -> Result<Schedule, ScheduleFault>

@@ -4,10 +4,10 @@ ghost use Rattle.traces.specs.declared.header.Header.{Header as HeaderValue};
 ghost use Rattle.traces.specs.LivingRings.{header_after};
 ghost use Rattle.replayer.specs.Schedules.Making.{rings_at};
 ghost use Rattle.ring_knowledge.specs.Histories.{header_now};
-ghost use Rattle.replayer.specs.Schedules.Eager.{is_bell, is_late, rings_looked_at, without_late};
+ghost use Rattle.replayer.specs.Schedules.Eager.{is_late, rings_looked_at, wakes, without_late};
 
 use std::alloc::{AllocError, Global};
-use traces::{Header, Ring, Row};
+use traces::{Header, Register, Ring, Row};
 
 /// Whether a ring is the one that is late.
 fn is_late(late: Option<&Ring>, ring: &Ring) -> bool
@@ -70,14 +70,21 @@ pub(crate) fn rings_behind<'t>(
     Ok(rings)
 }
 
-/// Whether the row rings a doorbell.
-fn is_bell(row: &Row) -> bool
-    ensures { result ≡ is_bell row.now }
+/// Whether a controller may look at more rings behind the row than before: a doorbell makes one active, and R/S lets those go on that were.
+fn wakes(row: &Row) -> bool
+    ensures { result ≡ wakes row.now }
 {
-    matches!(row, Row::Bell { .. })
+    matches!(
+        row,
+        Row::Bell { .. }
+            | Row::Reg {
+                register: Register::Usbcmd,
+                ..
+            }
+    )
 }
 
-/// The rings that a controller looks at behind a row: only a doorbell makes a ring active.
+/// The rings that a controller looks at behind a row.
 #[tactic(auto, unfolding(crate::specs::Schedules::Eager::rings_looked_at))]
 pub(crate) fn looked_rings<'a, 't>(
     prompt: &'a [&'t Ring],
@@ -86,7 +93,7 @@ pub(crate) fn looked_rings<'a, 't>(
 ) -> &'a [&'t Ring]
     ensures { (h : HeaderValue) → rings_at prompt.now ≡ h.rings → rings_at result.now ≡ rings_looked_at h (rings_at active.now) row.now }
 {
-    if is_bell(row) { prompt } else { active }
+    if wakes(row) { prompt } else { active }
 }
 
 /// Adds a ring.

@@ -66,7 +66,7 @@ impl RingRecord {
 }
 
 /// The spot behind the block of a position: the Link there, if there is one, else the next block.
-fn after(shape: &RingShape, position: u64) -> Spot
+pub(super) fn after(shape: &RingShape, position: u64) -> Spot
     requires { position + 1 < 2 ^ 64 }
     ensures behind { result ≡ after shape.now position }
     ensures next { number result ≡ position + 1 }

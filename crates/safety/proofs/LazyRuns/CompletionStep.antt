@@ -1,16 +1,16 @@
 -- The step of a row with a Command Completion Event: the looks for it, and what follows where the controller can finish its command
-use Rattle.safety.proofs.UpperLaws.{[], cond_both, ◌≡◌, ◌∷◌, ◌++◌, ◌∙◌, ℕ, true, List, reverse, Some, sym, ap, subst, eq-eqb, rules, and_from, cond-true, not_from_false, Block, kind, pointer, is_command_completion, Spot, cycle_of, is_open, cycle_of_bit, command_of, Header, Read, Row, Step, IsHeader, shape_of, command_id, World, UnderWay, can_post, Known, lenient, next_command, was_stop_seen, DriverKeeps, Agrees, next_at_floor, command_at_is, command_of-with_cycle, ◌≢◌, ◌⊎◌, ◌+◌, ◌≤◌, ◌==◌, if◌then◌else◌, suc, Option, None, arith, refl, inl, inr, flat_map, cases_eq, cases_lt, cond-false, put, code, Data, Shape, IsSpot, number, rank, after, ceiling, MayReach, crossing_positive, after_reached, number-after, rank_least, rank_most, Command, StopEndpoint, changes, RingSpot, command_at, event_read, learned, UnderWayMatches, TakenCommand, ring_here, ring_elsewhere, completion_kind, transfer_not_command, put_at, put_off, next_is, need, ended_with, finish_finished, finished_as, behind_taken, brought, command_taken, lazy_further, lazy_goals, looks_to, open_goals, stopped_goals, taken_up_to, known_changed_by, known_changed_by_all, completed, known_finished, held_at_ceiling, known_in_state, stop_ended, known_succeeded, false, false≢true, IsBlock, RingView, Finish, RingState, state_of, Runs, finish_is, finish_runs, posts_posted, counted, made, lazy_brought, goals, pointers_after, post_of, agrees_now, CompletionSays, completion_says, commands_open, CommandsOpen, AreTimely, IsHeld, need_of_held, timely_then, StandsAt, Follows, Leads, Past, may_post, AtFloors, Traced, traced_behind, looks_for, MayBring, commands_stand, IsActiveIfOpen, Carries, HadBefore, RingsGo}
+use Rattle.safety.proofs.UpperLaws.{[], cond_both, ◌≡◌, ◌∷◌, ◌++◌, ◌∙◌, ℕ, true, List, reverse, Some, sym, ap, subst, eq-eqb, rules, and_from, cond-true, not_from_false, Block, kind, pointer, is_command_completion, Spot, cycle_of, is_open, cycle_of_bit, command_of, Header, Read, Row, Step, IsHeader, shape_of, command_id, World, UnderWay, can_post, Known, lenient, next_command, was_stop_seen, DriverKeeps, Agrees, next_at_floor, command_at_is, command_of-with_cycle, ◌≢◌, ◌⊎◌, ◌+◌, ◌≤◌, ◌==◌, if◌then◌else◌, suc, Option, None, arith, refl, inl, inr, flat_map, cases_eq, cases_lt, cond-false, put, code, Data, Shape, IsSpot, number, rank, after, ceiling, MayReach, crossing_positive, after_reached, number-after, rank_least, rank_most, Command, StopEndpoint, changes, RingSpot, command_at, event_read, learned, UnderWayMatches, TakenCommand, ring_here, ring_elsewhere, completion_kind, transfer_not_command, put_at, put_off, next_is, need, ended_with, finish_finished, finished_as, behind_blocks, brought, command_taken, lazy_further, lazy_goals, looks_to, open_goals, stopped_goals, taken_up_to, known_changed_by, known_changed_by_all, completed, known_finished, held_at_ceiling, known_in_state, stop_ended, known_succeeded, false, false≢true, IsBlock, RingView, Finish, RingState, state_of, Runs, finish_is, finish_runs, posts_posted, counted, made, lazy_brought, goals, pointers_after, post_of, agrees_now, CompletionSays, completion_says, commands_open, CommandsOpen, AreTimely, IsHeld, need_of_held, timely_then, StandsAt, Follows, Leads, Past, may_post, AtFloors, Traced, traced_behind, looks_for, MayBring, commands_stand, IsActiveIfOpen, Carries, HadBefore, RingsGo, is_named, is_done, named_if_taken}
 use Rattle.safety.proofs.DriverHistories.{kept_driver, run_keeps}
 use Rattle.safety.specs.LazyRuns.Needs.{is_placed}
 use Rattle.safety.proofs.LazyRuns.LooksRun.{AllBrought, Fits, AllFit, AreApart, goals_reached, stands_same, further_then, further_not}
-use Rattle.safety.proofs.LazyRuns.PostStep.{IsPosted, behind_read, posts_last, running_now, runs_behind, all_read_behind, event_step}
+use Rattle.safety.proofs.LazyRuns.PostStep.{IsPosted, behind_read, post_made, posts_last, read_halt, read_named, running_named, running_now, runs_behind, all_read_behind, event_step}
 
 -- The lazy run directly before a finish: the command is under way, and the controller can end it as a clean event says
 
 -- The world directly before the controller finishes a command: the next command is taken, and no more than that
-behind_is : (shape : Shape) (p : ℕ) → behind_taken shape (p + 1) ≡ after shape p
-unfolding behind_taken
-behind_is shape p = let one : p + 1 ≡ suc p = omega arith in ap (λ n. behind_taken shape n) one
+behind_is : (shape : Shape) (p : ℕ) → behind_blocks shape (p + 1) ≡ after shape p
+unfolding behind_blocks
+behind_is shape p = let one : p + 1 ≡ suc p = omega arith in ap (λ n. behind_blocks shape n) one
 
 -- no spot is before the first
 first_least : (shape : Shape) (t : Spot) → IsSpot shape t → 1 ≤ rank t
@@ -24,8 +24,8 @@ module _ (h : Header) where
   needless r = record { ring = r; spot = Data 0 } ∷ []
 
   no_need : (r n : ℕ) → n ≡ 0 → ◌≡◌ {A = List RingSpot} (taken_up_to h r n ∷ []) (needless r)
-  unfolding taken_up_to behind_taken
-  no_need r n none = ap (λ m. let g : RingSpot = record { ring = r; spot = behind_taken (shape_of h r) m } in g ∷ []) none
+  unfolding taken_up_to behind_blocks
+  no_need r n none = ap (λ m. let g : RingSpot = record { ring = r; spot = behind_blocks (shape_of h r) m } in g ∷ []) none
 
   -- none, or one of a ring that an endpoint has, with no need
   abbrev IsIdle : Known → List RingSpot → Type 0
@@ -47,7 +47,7 @@ module _ (h : Header) where
     open_idle s i (Some r) had here one =
         let other : r ≢ command_id h = transfer_not_command h is r (d.states.transfer s i r had) in
         let held : IsHeld (learned h past.known (Read b)) r = search (rules, cond-true, stop_succeeded, ring_elsewhere, completion_kind) in
-        let none : need h (learned h k (Read b)) r later ≡ 0 = need_of_held later h (learned h past.known (Read b)) r other held (timely_then h past.known b later timely) in
+        let none : need h (learned h k (Read b)) r later ≡ 0 = need_of_held later h (learned h past.known (Read b)) r (d.states.transfer s i r had) held (timely_then h past.known b later timely) in
         cond_both (is_open (k.ring r)) _ [] (IsIdle k) (λ _. inr (s, i, r, had, no_need r (need h (learned h k (Read b)) r later) none)) (λ _. inl refl)
 
     stop_idle : (s i : ℕ) → command_at h k (next_command h k) ≡ Some (StopEndpoint s i) → IsIdle k (if code b == 1 then open_goals h k later b (k.ring_of s i) else [])
@@ -69,8 +69,11 @@ module _ (h : Header) where
       opened : CommandsOpen h k
       opened = commands_open h k d says.below
 
+      named : is_named past.known ≡ true
+      named = named_if_taken h k d says.started says.below
+
       goal : Spot
-      goal = behind_taken (shape_of h (command_id h)) (next_command h k + 1)
+      goal = behind_blocks (shape_of h (command_id h)) (next_command h k + 1)
 
       goal_is : goal ≡ after (shape_of h (command_id h)) (next_command h k)
       unfolding goal
@@ -81,7 +84,7 @@ module _ (h : Header) where
 
       may_bring : MayBring h k w (command_id h) goal
       may_bring = record {
-        active = trace.command_active opened.opened;
+        active = trace.command_active named opened.opened;
         reach = subst (λ t. MayReach (shape_of h (command_id h)) (k.ring (command_id h)) t) (sym goal_is)
             (after_reached (shape_of h (command_id h)) (k.ring (command_id h)) (next_command h k) (omega (arith, next_is h k)) opened.given);
         one_command = λ same. omega (arith, goal_number);
@@ -89,7 +92,7 @@ module _ (h : Header) where
 
       command_fits : Fits h past.known w pointers (command_taken h k)
       unfolding command_taken taken_up_to goal
-      command_fits = record { stands = trace.command says.started; may = λ further. may_bring }
+      command_fits = record { stands = trace.command named; may = λ further. may_bring }
 
       idle_fits : (s i r : ℕ) → k.ring_of s i ≡ Some r → Fits h past.known w pointers (let g : RingSpot = record { ring = r; spot = Data 0 } in g)
       idle_fits s i r had =
@@ -147,9 +150,11 @@ module _ (h : Header) where
       past_it = search (rules, k, at_command, cases_lt, goal, further_then, goal_number, further_not, rank_least, rank_most)
 
       -- the run comes to where the event is posted
-      pub prepared : (made : List Step) → Leads h past made ((Read b) ∷ later) w →
+      pub prepared : (made : List Step) → is_done past.known.halt ≡ false → Leads h past made ((Read b) ∷ later) w →
           AllBrought h past ((Read b) ∷ later) made w pointers (lazy_goals h k later (kind b) b) (flat_map (looks_to h pointers) (lazy_goals h k later (kind b) b))
-      prepared made run = search (rules, flat_map, looks_to, goals_are, goals_reached, command_taken, k, stopped_goals, command_at, next_command, all_fit)
+      prepared made running run =
+          subst (λ g. AllBrought h past ((Read b) ∷ later) made w pointers g (flat_map (looks_to h pointers) g)) (sym goals_are)
+          (goals_reached h is past ((Read b) ∷ later) made w pointers _ running all_fit.apart all_fit.fit run trace)
 
       pub rings_stay : (s i r : ℕ) → k.ring_of s i ≡ Some r → brought h pointers (lazy_goals h k later (kind b) b) r ≡ pointers r
       rings_stay s i r had = ap (λ g. brought h pointers g r) goals_are ∙ all_fit.others s i r had
@@ -165,8 +170,8 @@ module _ (h : Header) where
 
       pub is_taken : (v : World) → Traced h past.known (brought h pointers (lazy_goals h k later (kind b) b)) v → IsTaken v
       is_taken v now =
-          let at : StandsAt h v (command_id h) at_command = subst (λ t. StandsAt h v (command_id h) t) spot_now (now.command says.started) in
-          taken_of v at_command v.under_way refl past_it (commands_stand h is k v d (agrees_now h past.known v now.runs now.all_read) at_command says.started at).under_way
+          let at : StandsAt h v (command_id h) at_command = subst (λ t. StandsAt h v (command_id h) t) spot_now (now.command named) in
+          taken_of v at_command v.under_way refl past_it (commands_stand h is k v d (agrees_now h past.known v now.runs now.all_read) at_command named at).under_way
 
 module _ (h : Header) where
   -- where the rings stand before the event is posted
@@ -190,12 +195,12 @@ module _ (h : Header) where
     pub stopped_is : taken.has_stopped ≡ was_stop_seen past.known says.command
 
   module _ (is : IsHeader h) (past : Past h) (later : List Row) (b : Block) (w : World) (completion : is_command_completion (kind b) ≡ true) (clean : lenient h past.known (Read b) ≡ [])
-      (timely : AreTimely h past.known ((Read b) ∷ later)) (f : Follows h past.known past.pointers w) where
+      (timely : AreTimely h past.known ((Read b) ∷ later)) (f : Follows h past.known past.pointers w) (running : is_done past.known.halt ≡ false) where
     pub ready_to_finish : Leads h past past.made ((Read b) ∷ later) w → ReadyToFinish past later b
     ready_to_finish run =
         let says = completion_says h past.known b completion clean in
         let trace = traced_behind h past.known past.pointers w f in
-        let looked = prepared h is past later b completion timely past.keeps w says past.pointers trace past.made run in
+        let looked = prepared h is past later b completion timely past.keeps w says past.pointers trace past.made running run in
         let one = is_taken h is past later b completion timely past.keeps w says past.pointers trace looked.world looked.traced in
         let g = agrees_now h past.known looked.world looked.traced.runs looked.traced.all_read in
         let floor = next_at_floor h is past.known past.keeps says.started says.below in
@@ -232,7 +237,6 @@ module _ (h : Header) where
 module _ (h : Header) where
   -- what the completion's row adds, with m known of endpoints and their rings
   pub record CompletionLearns (k l m : Known) : Type 0 where
-    pub started : l.started ≡ k.started
     pub ring_of : (s i : ℕ) → l.ring_of s i ≡ m.ring_of s i
     pub rings : (q : ℕ) → q ≢ command_id h → l.ring q ≡ m.ring q
 
@@ -241,6 +245,7 @@ module _ (h : Header) where
     pub memory : v.memory ≡ (posts_posted h w b).memory
     pub posted : v.posted ≡ w.posted + 1
     pub reads : v.reads ≡ w.reads
+    pub halted : v.halted ≡ w.halted
     pub rings : (q : ℕ) → state_of v q ≡ state_of x q
     pub command : state_of x (command_id h) ≡ state_of w (command_id h)
 
@@ -256,7 +261,7 @@ module _ (h : Header) where
   module _ (is : IsHeader h) (past : Past h) (later : List Row) (b : Block) (block : IsBlock b) (clean : lenient h past.known (Read b) ≡ []) (completion : is_command_completion (kind b) ≡ true)
       (now : ℕ → Spot) (brought : (q : ℕ) → lazy_brought h past.pointers (goals h past.known later (kind b) b) q ≡ now q) (w u x : World) (m : Known) (trace : Traced h past.known now w)
       (stay : (s i r : ℕ) → past.known.ring_of s i ≡ Some r → now r ≡ (past.known.ring r).floor)
-      (started : past.known.started ≡ true) (opened : is_open (past.known.ring (command_id h)) ≡ true)
+      (running : is_done past.known.halt ≡ false) (opened : is_open (past.known.ring (command_id h)) ≡ true)
       (at : finish_finished h h w b ≡ Some u) (leaves : FinishLeaves w u x b) (learns : CompletionLearns past.known (learned h past.known (Read b)) m)
       (goes : RingsGo h past.known m x (λ r. is_placed h past.known r b)) where
     abbrev l : Known
@@ -266,14 +271,17 @@ module _ (h : Header) where
     abbrev v : World
     v = behind_read h u
 
-    running : w.stopped ≡ false
-    running = running_now h is past later b block w trace.runs trace.all_read
+    on : w.stopped ≡ false
+    on = running_now h is past later b block w trace.runs trace.all_read
 
     posted : IsPosted h past w u b
-    posted = assumption (finish_is h w u b at, leaves, finish_runs h is past.known w u b block running trace.runs (run_keeps h is past.known w past.keeps trace.runs) at)
+    posted = assumption (finish_is h w u b at, leaves, finish_runs h is past.known w u b block on trace.runs (run_keeps h is past.known w past.keeps trace.runs) at)
 
     runs : Runs h l v
     runs = runs_behind h is past later b block w trace.runs trace.all_read u posted
+
+    called : is_named past.known ≡ true
+    called = running_named h past.known b past.keeps clean running
 
     rings_are : (q : ℕ) → state_of v q ≡ state_of x q
     unfolding counted
@@ -319,13 +327,16 @@ module _ (h : Header) where
       floors = floor_is;
       traced = pointer_is;
       active = still_active;
-      before = λ off. absurd (false≢true (sym off ∙ learns.started ∙ started));
-      command = λ on. (search (rules, command_id, other_pointer, brought, stands_same, command_is));
-      command_active = λ on. ap (λ (g : RingState). g.active) command_is ∙ trace.command_active opened;
+      halted = leaves.halted ∙ trace.halted ∙ sym (read_halt h past.known b);
+      before = λ there unused off. absurd (false≢true (sym off ∙ read_named h past.known b ∙ called));
+      command = λ on.
+          subst (λ t. StandsAt h v (command_id h) t) (sym (other_pointer b past later (command_id h) goes.not_command ∙ brought (command_id h)))
+          (stands_same h w v (command_id h) (now (command_id h)) command_is (trace.command called));
+      command_active = λ on opened_then. ap (λ (g : RingState). g.active) command_is ∙ trace.command_active called opened;
     }
 
     pub completion_step : Leads h past (reverse (looks_for h past later b) ++ past.made) ((Read b) ∷ later) w → Carries h past (Read b) later
     unfolding post_of made
     completion_step run =
-        event_step h is past later b block w trace.runs trace.all_read u posted (Finish b) (reverse (looks_for h past later b) ++ past.made) (finish_finished h h w b) (λ e. cc) refl at
-        (posts_last h b past later (Finish b) (ap (λ t. post_of h t b) (completion_kind (kind b) completion))) follows run
+        event_step h is past later b block w trace.runs trace.all_read u posted (Finish b) (reverse (looks_for h past later b) ++ past.made) (λ e. cc)
+        (post_made h w u b (finish_finished h h w b) (trace.halted ∙ running) on posted.can at) (posts_last h b past later (Finish b) (ap (λ t. post_of h t b) (completion_kind (kind b) completion))) follows run

@@ -1,10 +1,10 @@
 -- The step of a row that reads a Command Completion Event, whatever its command and its code
-use Rattle.safety.proofs.UpperLaws.{typed_by_context, [], ◌≡◌, ◌+◌, ◌==◌, ◌∙◌, ℕ, not, true, false, List, Option, Some, is_some, unwrap_or, refl, sym, ap, rules, or_parts, cond-false, cond-true, Block, IsBlock, kind, code, slot, is_command_completion, Command, changes, command_of, named_context, can_succeed, Header, Read, Row, Config, IsHeader, command_id, register_or_zero, World, posted, Known, event_read, learned, lenient, on_ring, command_at, next_command, is_bad_area, has_bad_context, CommandKeeps, Agrees, bad_command_context, ring_elsewhere, StatesMatch, ChangeKeeps, states_match, let_go, completion_kind, seen_after, stop_ended_is, next_unfinished, stored, stored_block, world_changed_by_all, bindings_effect, ended, ended_with, passes_end, finish_succeeded, completed, known_finished, known_succeeded, is_placed_by, ◌≢◌, ◌<◌, ◌∷◌, Bool, map, All, get_or, eq-eqb, list_any, All-head, All-tail, ConfigureEndpoint, Running, Change, SlotGoesOn, Disables, Places, placed_by_context, added_endpoints, is_dropped, context_pointer, context_cycle, is_ring, is_among, has_repeats, ring_bound, binding_in, DriverKeeps, Stands, bad_context_parts, same_context, configure_same, slot_above, may_add, have_none, numbered, apart, ReadyAt, HasNone, ring_at, ready_next, placed_there, none_there, false≢true, each_fails, any_of_map, known_changed_by, subst, inl, inr, cases_Bool, PlacesNone, command_numbered, SetTrDequeue, Stopped, may_move, MayMove, ContextSize, AreNoPlacings, arith, AddressDevice, is_off, address_same, first_binds, second_moves, slot_binds, slot_moves, and_left, and_right, not-true, was_stop_seen, learned_read, next_known, failed_read, put_off, Carries, Past, RingsGo, AtFloors, Follows, Leads, AreTimely, same_meant}
+use Rattle.safety.proofs.UpperLaws.{typed_by_context, [], ◌≡◌, ◌+◌, ◌==◌, ◌∙◌, ℕ, not, true, false, List, Option, Some, is_some, unwrap_or, refl, sym, ap, rules, or_parts, cond-false, cond-true, Block, IsBlock, kind, code, slot, is_command_completion, Command, changes, command_of, named_context, can_succeed, Header, Read, Row, Config, IsHeader, command_id, register_or_zero, World, posted, Known, event_read, learned, lenient, on_ring, command_at, next_command, is_bad_area, has_bad_context, CommandKeeps, Agrees, bad_command_context, ring_elsewhere, StatesMatch, ChangeKeeps, states_match, let_go, completion_kind, seen_after, stop_ended_is, next_unfinished, stored, stored_block, world_changed_by_all, bindings_effect, ended, ended_with, passes_end, finish_succeeded, completed, known_finished, known_succeeded, is_placed_by, ◌≢◌, ◌<◌, ◌∷◌, Bool, map, All, get_or, eq-eqb, list_any, All-head, All-tail, ConfigureEndpoint, Running, Change, SlotGoesOn, Disables, Places, placed_by_context, added_endpoints, is_dropped, context_pointer, context_cycle, is_ring, is_among, has_repeats, ring_bound, binding_in, DriverKeeps, Stands, bad_context_parts, same_context, configure_same, slot_above, may_add, have_none, numbered, apart, ReadyAt, HasNone, ring_at, ready_next, placed_there, none_there, false≢true, each_fails, any_of_map, known_changed_by, subst, inl, inr, cases_Bool, PlacesNone, command_numbered, SetTrDequeue, Stopped, may_move, MayMove, ContextSize, AreNoPlacings, arith, AddressDevice, is_off, address_same, first_binds, second_moves, slot_binds, slot_moves, and_left, and_right, not-true, was_stop_seen, learned_read, next_known, failed_read, put_off, Carries, Past, RingsGo, AtFloors, Follows, Leads, AreTimely, same_meant, is_done}
 use Rattle.std.proofs.Common.{option_map}
 use Rattle.safety.specs.LazyRuns.Needs.{is_placed}
 use Rattle.safety.proofs.LazyRuns.ChangesGo.{ListGoes, ChangeGoes, no_change_goes, change_then_goes, change_goes, changes_go, bind_goes, move_goes}
 use Rattle.safety.proofs.LazyRuns.CompletionStep.{ReadyToFinish, finish_posted, spots_then, ready_to_finish, floors_then, CompletionLearns, FinishLeaves, completion_step}
-use Rattle.safety.proofs.LazyRuns.PostStep.{EventLawOf}
+use Rattle.safety.proofs.LazyRuns.PostStep.{EventLawOf, timely_running}
 
 -- The success of a command, from its changes: the lazy run goes on
 
@@ -23,9 +23,9 @@ module _ (h : Header) where
   -- ---- what it leaves
 
   success_learns : (k : Known) (b : Block) (c : Command) → is_command_completion (kind b) ≡ true → (code b == 1) ≡ true → command_at h k (next_command h k) ≡ Some c →
-      (known_succeeded h k (slot b) c).started ≡ k.started → CompletionLearns h k (learned h k (Read b)) (known_succeeded h k (slot b) c)
+      CompletionLearns h k (learned h k (Read b)) (known_succeeded h k (slot b) c)
   unfolding learned event_read completed known_finished on_ring
-  success_learns k b c completion one here started = search (rules, completion_kind, cond-true, seen_after, stop_ended_is, ring_elsewhere)
+  success_learns k b c completion one here = search (rules, completion_kind, cond-true, seen_after, stop_ended_is, ring_elsewhere)
 
   -- ---- the step
 
@@ -70,15 +70,15 @@ module _ (h : Header) where
     unfolding known_succeeded
     keeps = list.keeps
 
-    started : m.started ≡ k.started
-    started = ap (λ (y : Known). y.started) keeps.rest.known
+    still : list.world.halted ≡ w.halted
+    still = ap (λ (y : World). y.halted) keeps.rest.world
 
-    pub success_step : IsBlock b → lenient h past.known (Read b) ≡ [] → Carries h past (Read b) later
-    unfolding posted stored_block stored ended_with ended known_succeeded is_placed is_placed_by
-    success_step block clean =
+    pub success_step : IsBlock b → lenient h past.known (Read b) ≡ [] → is_done past.known.halt ≡ false → Carries h past (Read b) later
+    unfolding posted stored_block stored ended_with ended known_succeeded is_placed is_placed_by list
+    success_step block clean running =
         completion_step h is past later b block clean completion (spots_then h past later b) (λ q. refl) w (let_go (posted h list.world b)) list.world m ready.traced ready.stay
-        ready.says.started ready.opened (finish_posted h past later b (let_go (posted h list.world b)) completion ready (search (rules, cond-true, code, option_map, ended, finish_succeeded, w, slot, command_of, succeeds))) (search (rules, let_go))
-        (success_learns k b c completion one ready.says.here started) (search (rules, list, code, is_placed_by, slot, command_at, next_command, command_id)) ready.run
+        running ready.opened (finish_posted h past later b (let_go (posted h list.world b)) completion ready (search (rules, cond-true, code, option_map, ended, finish_succeeded, w, slot, command_of, succeeds))) (search (rules, let_go, still))
+        (success_learns k b c completion one ready.says.here) (search (rules, list, code, is_placed_by, slot, command_at, next_command, command_id)) ready.run
 
   -- the states of what is known are those of the world, before the first change
   pub states_then : (past : Past h) (later : List Row) (b : Block) → IsHeader h → (ready : ReadyToFinish h past later b) → StatesMatch h past.known ready.world
@@ -165,13 +165,13 @@ module _ (h : Header) where
   -- what it leaves of the world, and what it adds to what is known
   failed_leaves : (w : World) (b : Block) → FinishLeaves h w (let_go (posted h w b)) w b
   unfolding posted stored_block stored
-  failed_leaves w b = record { memory = refl; posted = refl; reads = refl; rings = λ q. refl; command = refl }
+  failed_leaves w b = record { memory = refl; posted = refl; reads = refl; halted = refl; rings = λ q. refl; command = refl }
 
   failed_learns : (k : Known) (b : Block) (c : Command) → is_command_completion (kind b) ≡ true → command_at h k (next_command h k) ≡ Some c → (code b == 1) ≡ false →
       CompletionLearns h k (learned h k (Read b)) k
   failed_learns k b c completion here fails =
       let same : learned h k (Read b) ≡ next_known h k (seen_after k c) (k.reads + 1) = learned_read h k b ∙ failed_read h k b c (k.reads + 1) completion here fails in
-      subst (λ l. CompletionLearns h k l k) (sym same) (record { started = refl; ring_of = λ s i. refl; rings = λ q other. put_off k.ring (command_id h) _ q other })
+      subst (λ l. CompletionLearns h k l k) (sym same) (record { ring_of = λ s i. refl; rings = λ q other. put_off k.ring (command_id h) _ q other })
 
   module _ (past : Past h) (later : List Row) (b : Block) (completion : is_command_completion (kind b) ≡ true) (fails : (code b == 1) ≡ false) (ready : ReadyToFinish h past later b) where
     fails_so : ended_with h h ready.world b ready.taken ≡ Some (let_go (posted h ready.world b))
@@ -185,10 +185,11 @@ module _ (h : Header) where
   pub failed_step : (past : Past h) (later : List Row) (b : Block) (w : World) → is_command_completion (kind b) ≡ true → (code b == 1) ≡ false → IsHeader h → IsBlock b → lenient h past.known (Read b) ≡ [] →
       AreTimely h past.known ((Read b) ∷ later) → Leads h past past.made ((Read b) ∷ later) w → Follows h past.known past.pointers w → Carries h past (Read b) later
   failed_step past later b w completion fails is block clean timely run f =
-      let ready : ReadyToFinish h past later b = ready_to_finish h is past later b w completion clean timely f run in
+      let running = timely_running h past.known b timely.0.1 in
+      let ready : ReadyToFinish h past later b = ready_to_finish h is past later b w completion clean timely f running run in
       let v : World = let_go (posted h ready.world b) in
       completion_step h is past later b block clean completion (spots_then h past later b) (λ q. refl) ready.world v ready.world past.known ready.traced ready.stay
-      ready.says.started ready.opened (finish_posted h past later b v completion ready (fails_so past later b completion fails ready)) (failed_leaves ready.world b)
+      running ready.opened (finish_posted h past later b v completion ready (fails_so past later b completion fails ready)) (failed_leaves ready.world b)
       (failed_learns past.known b ready.says.command completion ready.says.here fails) (rings_stay past later b completion fails ready) ready.run
 
 -- The success of an Address Device: the default control endpoint's ring is bound, or stays where it is
@@ -279,7 +280,8 @@ pub completion_law : (h : Header) → EventLawOf h is_command_completion
 completion_law h past later b w completion is block clean timely run f =
     elim (cases_Bool (code b == 1)) [
       | inl one ↦
-          let ready : ReadyToFinish h past later b = ready_to_finish h is past later b w completion clean timely f run in
-          success_step h past later b completion one ready is (command_effect h is past later b ready ready.says.command refl) block clean
+          let running = timely_running h past.known b timely.0.1 in
+          let ready : ReadyToFinish h past later b = ready_to_finish h is past later b w completion clean timely f running run in
+          success_step h past later b completion one ready is (command_effect h is past later b ready ready.says.command refl) block clean running
       | inr fails ↦ failed_step h past later b w completion fails is block clean timely run f
     ]

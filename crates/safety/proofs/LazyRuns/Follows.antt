@@ -1,5 +1,5 @@
 -- What the induction over the rows follows: where rings stand in the world, what is known of them there, and what looks may be made
-use Rattle.safety.proofs.MiddleLaws.{rules, [], ◌≡◌, ◌⊎◌, ◌∷◌, ◌++◌, ℕ, true, false, List, reverse, Some, Block, IsBlock, Spot, Data, is_open, IsSpot, number, spot_address, spot_cycle, Header, Row, Read, Step, NextRow, IsHeader, shape_of, command_id, World, next_take, Known, learned, lenient, DriverKeeps, Runs, live_reached, live_with, steps_before, pointers_after, AreAtFloors, ◌∙◌, option_and_then, sym, ap, subst, IsDriverRow, live_step, Option, cond-false, row_done, counted, steps_made, while_running, ◌≢◌, ◌+◌, ◌<◌, ◌≤◌, rank, MayReach, RingSpot, next_command, state_of, further, looks_to, flat_map, kind, goals, Bool, inl, inr, cases_Bool, cases_eq, false≢true, Shape, IsShape, data_not_link, IsDriverRing, RingMatches, Unreported, UnderWayMatches, Agrees, transfer_driver, ring_shape, command_is_ring, arith, Sub, Write, Reg, Bell, refl, RingRow, FreeRow, NopRow, is_ring_row}
+use Rattle.safety.proofs.MiddleLaws.{rules, [], ◌≡◌, ◌⊎◌, ◌∷◌, ◌++◌, ℕ, true, false, List, reverse, Some, Block, IsBlock, Spot, Data, is_open, IsSpot, number, spot_address, spot_cycle, Header, Row, Read, Step, NextRow, IsHeader, shape_of, command_id, World, next_take, Known, learned, lenient, DriverKeeps, Runs, live_reached, live_with, steps_before, pointers_after, AreAtFloors, ◌∙◌, option_and_then, sym, ap, subst, IsDriverRow, live_step, Option, cond-false, row_done, counted, steps_made, while_running, ◌≢◌, ◌+◌, ◌<◌, ◌≤◌, rank, MayReach, RingSpot, next_command, state_of, further, looks_to, flat_map, kind, goals, Bool, inl, inr, cases_Bool, cases_eq, false≢true, Shape, IsShape, data_not_link, IsDriverRing, RingMatches, Unreported, UnderWayMatches, Agrees, transfer_driver, ring_shape, command_is_ring, arith, Sub, Write, Reg, Bell, refl, RingRow, FreeRow, NopRow, is_ring_row, is_done, is_some, command_ring, is_used, is_named, RegRead, Halt, is_first_halt, until_halted, None, crossing_positive}
 use Rattle.std.proofs.Common.{option_map}
 use Rattle.safety.proofs.LazyRuns.NeedsOfHeld.{AreTimely}
 
@@ -21,14 +21,16 @@ module _ (h : Header) where
   pub record Follows (k : Known) (pointers : ℕ → Spot) (w : World) : Type 0 where
     pub runs : Runs h k w
     pub all_read : w.posted ≡ w.reads
+    -- the controller halts where it is seen to have halted, and not before
+    pub halted : w.halted ≡ is_done k.halt
     -- the rings that an endpoint has
     pub floors : (s i r : ℕ) → k.ring_of s i ≡ Some r → StandsAt w r (k.ring r).floor
     pub traced : (s i r : ℕ) → k.ring_of s i ≡ Some r → pointers r ≡ (k.ring r).floor
     pub active : (s i r : ℕ) → k.ring_of s i ≡ Some r → IsActiveIfOpen k w r
-    -- the command ring: it may stand behind its floor, where a Stop Endpoint was taken and isn't finished
-    pub before : k.started ≡ false → pointers (command_id h) ≡ Data 0
-    pub command : k.started ≡ true → StandsAt w (command_id h) (pointers (command_id h))
-    pub command_active : IsActiveIfOpen k w (command_id h)
+    -- the command ring: once CRCR names it, it may stand behind its floor, where a Stop Endpoint was taken and isn't finished
+    pub before : is_some (command_ring h) ≡ true → is_used h k ≡ false → is_named k ≡ false → pointers (command_id h) ≡ Data 0
+    pub command : is_named k ≡ true → StandsAt w (command_id h) (pointers (command_id h))
+    pub command_active : is_named k ≡ true → IsActiveIfOpen k w (command_id h)
 
   -- what the step of a row rests on: the steps so far, the newest first, are a run beside these rows that begins with the rings of another
   -- header; what is known behind it; and where the schedule has the pointers
@@ -65,12 +67,21 @@ driver_no_ring (Sub r blocks) driver_row = refl
 driver_no_ring (Write a w) driver_row = refl
 driver_no_ring (Reg r v) driver_row = refl
 driver_no_ring (Bell s t) driver_row = refl
+driver_no_ring (RegRead r v) driver_row = refl
 driver_no_ring row driver_row = absurd driver_row
 
 module _ (h : Header) where
-  pub no_steps : (k : Known) (pointers : ℕ → Spot) (row : Row) (later : List Row) → IsDriverRow row → steps_before h k pointers row later ≡ []
+  -- the row shows first that the controller has halted
+  abbrev pub sees_halt : Known → Row → Bool
+  sees_halt k (RegRead r v) = is_first_halt h k r v
+  sees_halt k _ = false
+
+  -- but for that one no step is made before a row of the driver
+  pub no_steps : (k : Known) (pointers : ℕ → Spot) (row : Row) (later : List Row) → IsDriverRow row → sees_halt k row ≡ false → steps_before h k pointers row later ≡ []
   unfolding steps_before
-  no_steps k pointers o later driver_row = grind arith
+  no_steps k pointers (RegRead r v) later driver_row none = cond-false (is_first_halt h k r v) (Halt ∷ []) [] none
+  no_steps k pointers (Read b) later driver_row none = absurd driver_row
+  no_steps k pointers row later driver_row none = refl
 
   pub pointers_same : (k : Known) (pointers : ℕ → Spot) (row : Row) (later : List Row) (r : ℕ) → IsDriverRow row → pointers_after h k pointers row later r ≡ pointers r
   unfolding pointers_after
@@ -85,15 +96,18 @@ module _ (h : Header) where
   next_reached past made w v row later driven run at = search rules
 
   -- a step of the controller is made
-  pub step_reached : (past : Past h) (to_come : List Row) (made : List Step) (w u : World) (s : Step) (o : Option World) → (s ≡ NextRow → ⊥) → steps_made h h w s ≡ while_running h w o →
-      Leads h past made to_come w → w.stopped ≡ false → o ≡ Some u → Leads h past (s ∷ made) to_come (counted h u)
-  unfolding while_running
-  step_reached past to_come made w u s o other same run running at =
-      grind (arith, option_and_then, live_step, option_map, live_with, counted, cond-false, w.stopped)
+  pub step_reached : (past : Past h) (to_come : List Row) (made : List Step) (w u : World) (s : Step) → (s ≡ NextRow → ⊥) → steps_made h h w s ≡ Some u →
+      Leads h past made to_come w → Leads h past (s ∷ made) to_come (counted h u)
+  step_reached past to_come made w u s other at run = grind (arith, option_and_then, live_step, option_map, live_with, counted)
 
-  pub driver_reached : (past : Past h) (w v : World) (row : Row) (later : List Row) → IsDriverRow row → Leads h past past.made (row ∷ later) w →
+  -- so it is while the controller runs
+  pub until_made : (w u : World) (o : Option World) → w.halted ≡ false → w.stopped ≡ false → o ≡ Some u → until_halted h w o ≡ Some u
+  unfolding until_halted while_running
+  until_made w u o running on at = cond-false w.halted None _ running ∙ cond-false w.stopped None o on ∙ at
+
+  pub driver_reached : (past : Past h) (w v : World) (row : Row) (later : List Row) → IsDriverRow row → sees_halt past.known row ≡ false → Leads h past past.made (row ∷ later) w →
       row_done h w row ≡ Some v → Leads h past (NextRow ∷ reverse (steps_before h past.known past.pointers row later) ++ past.made) later (counted h v)
-  driver_reached past w v row later driver_row run at = search (rules, no_steps, next_reached, driver_no_ring)
+  driver_reached past w v row later driver_row none run at = search (rules, no_steps, next_reached, driver_no_ring)
 
 -- The looks of the lazy schedule at one ring are a run, and bring the ring to its spot
 
@@ -107,6 +121,7 @@ pub record LooksLeave (h : Header) (w v : World) (r : ℕ) : Type 0 where
   pub under_way : r ≢ command_id h → v.under_way ≡ w.under_way
   pub started : v.started ≡ w.started
   pub stopped : v.stopped ≡ w.stopped
+  pub halted : v.halted ≡ w.halted
   pub memory : v.memory ≡ w.memory
   pub slot_state : v.slot_state ≡ w.slot_state
   pub endpoint_state : v.endpoint_state ≡ w.endpoint_state
@@ -135,7 +150,7 @@ module _ (h : Header) where
   abbrev pub LooksLaw : Type 0
   LooksLaw =
       (past : Past h) (to_come : List Row) (made : List Step) (w : World) (pointers : ℕ → Spot) (goal : RingSpot) → IsHeader h → Leads h past made to_come w → Runs h past.known w →
-      w.posted ≡ w.reads → StandsAt h w goal.ring (pointers goal.ring) →
+      w.posted ≡ w.reads → w.halted ≡ false → StandsAt h w goal.ring (pointers goal.ring) →
       (rank (pointers goal.ring) < rank goal.spot → MayBring past.known w goal.ring goal.spot) →
       Looked past to_come made w goal.ring (further (pointers goal.ring) goal.spot) (looks_to h pointers goal)
 
@@ -146,10 +161,11 @@ module _ (h : Header) where
   pub record Traced (k : Known) (pointers : ℕ → Spot) (w : World) : Type 0 where
     pub runs : Runs h k w
     pub all_read : w.posted ≡ w.reads
+    pub halted : w.halted ≡ is_done k.halt
     pub rings : (s i r : ℕ) → k.ring_of s i ≡ Some r → StandsAt h w r (pointers r)
     pub active : (s i r : ℕ) → k.ring_of s i ≡ Some r → IsActiveIfOpen k w r
-    pub command : k.started ≡ true → StandsAt h w (command_id h) (pointers (command_id h))
-    pub command_active : IsActiveIfOpen k w (command_id h)
+    pub command : is_named k ≡ true → StandsAt h w (command_id h) (pointers (command_id h))
+    pub command_active : is_named k ≡ true → IsActiveIfOpen k w (command_id h)
 
   -- so it is behind each row
   pub traced_behind : (k : Known) (pointers : ℕ → Spot) (w : World) → Follows h k pointers w → Traced k pointers w
@@ -183,6 +199,25 @@ module _ (h : Header) where
 pub one_spot : (shape : Shape) → IsShape shape → (t u : Spot) → IsSpot shape t → IsSpot shape u → spot_address shape t ≡ spot_address shape u → number t ≡ number u → t ≡ u
 one_spot shape is o x a b same at = grind (arith, data_not_link)
 
+-- the first spot
+pub first_spot : (shape : Shape) (t : Spot) → IsSpot shape t → number t ≡ 0 → t ≡ Data 0
+first_spot shape o is none = grind (arith, crossing_positive)
+
+-- a command ring that wasn't started is at its beginning
+module _ (h : Header) (k : Known) (w : World) (g : Agrees h k [] w) (unused : is_used h k ≡ false) where
+  none_taken : (t : Spot) → next_take (shape_of h (command_id h)) (w.events (command_id h)) ≡ number t → number t ≡ 0
+  none_taken t next = sym next ∙ g.matches.new unused
+
+  pub stands_first : (t : Spot) → StandsAt h w (command_id h) t → t ≡ Data 0
+  stands_first t at = first_spot (shape_of h (command_id h)) t at.is_spot (none_taken t at.next)
+
+  pub first_stands : is_named k ≡ true → StandsAt h w (command_id h) (Data 0)
+  first_stands named =
+      let c = g.matches.command named in
+      let m = c.ring in
+      subst (λ t. StandsAt h w (command_id h) t) (first_spot (shape_of h (command_id h)) c.spot m.is_spot (none_taken c.spot m.next))
+      (record { is_spot = m.is_spot; pointer = m.pointer; cycle = m.cycle; next = m.next })
+
 module _ (h : Header) (is : IsHeader h) (k : Known) (w : World) (d : DriverKeeps h k) (g : Agrees h k [] w) where
   same_there : (r : ℕ) (t u : Spot) → IsDriverRing h r → RingMatches (shape_of h r) (k.ring r) (state_of w r) t → StandsAt h w r u → t ≡ u
   same_there r t u ring m at = one_spot (shape_of h r) (ring_shape h is r ring).is t u m.is_spot at.is_spot (sym m.pointer ∙ at.pointer) (sym m.next ∙ at.next)
@@ -207,7 +242,7 @@ module _ (h : Header) (is : IsHeader h) (k : Known) (w : World) (d : DriverKeeps
     pub matches : RingMatches (shape_of h (command_id h)) (k.ring (command_id h)) (state_of w (command_id h)) t
     pub under_way : UnderWayMatches h k t w.under_way
 
-  pub commands_stand : (t : Spot) → k.started ≡ true → StandsAt h w (command_id h) t → CommandsStand t
+  pub commands_stand : (t : Spot) → is_named k ≡ true → StandsAt h w (command_id h) t → CommandsStand t
   commands_stand t on at =
       let ring : IsDriverRing h (command_id h) = command_is_ring h k d on in
       let c = g.matches.command on in
@@ -220,7 +255,7 @@ module _ (h : Header) (is : IsHeader h) (k : Known) (w : World) (d : DriverKeeps
 
   commands_active : (t : Spot) → w.is_active (command_id h) ≡ true → StandsAt h w (command_id h) t → RingStands (command_id h) t
   commands_active t active at =
-      elim (cases_Bool k.started) [ inl on ↦ assumption (commands_stand t on at) | inr off ↦ absurd (false≢true (sym (g.matches.before off).inactive ∙ active)) ]
+      elim (cases_Bool (is_named k)) [ inl on ↦ assumption (commands_stand t on at) | inr off ↦ absurd (false≢true (sym (g.matches.before off).rests.inactive ∙ active)) ]
 
   endpoint_active : (r : ℕ) (t : Spot) → r ≢ command_id h → w.is_active r ≡ true → StandsAt h w r t → RingStands r t
   endpoint_active r t other active at =

@@ -1,18 +1,20 @@
--- Each position before a ring's floor was given by a write of its own: floors, summed, and events that are read are no more than rows
-use Rattle.safety.proofs.UpperLaws.{[], ◌≡◌, ◌≢◌, ◌+◌, ◌<◌, ◌≤◌, ◌∷◌, ◌∙◌, ℕ, suc, true, List, All, length, Option, arith, refl, sym, ap, rules, cases_eq, cond_both, All-head, All-tail, is_inside, put, put_at, put_off, Opens, RingChange, RingView, new_ring, floor_number, Header, Row, Sub, Write, Reg, Bell, Read, RingRow, FreeRow, IsHeader, shape_of, command_id, Register, Known, on_ring, nothing, endpoint_rung, rung, learned, AreKept, IsRow, header_now, known_now, forgotten, restored, restored_on, ring_restored, with_ring, without_ring, register_leaves, view_after, kind, Block, DriverKeeps, IsDriverRing, ring_shape, Declares, changed, ring_with, is_driver_ring, driver_ring, endpoints_of, rings_of, still_of, not_in_both, transfer_driver, written_view, event_same, still_reads, RingsKeep, RingWithdraws, given_among, all_given, same_given, no_more, of_driver, on_driver, off_driver, none_of_driver, driver_le, total, total_grows, total_le, total_none, total_one, false, false≢true, NopRow, kept_coming, kept_going, kept_withdrawing, is_ring_row}
+-- Each position before a ring's floor was given by a write of its own: floors, summed, and what else each row does are no more than rows
+use Rattle.safety.proofs.UpperLaws.{[], ◌≡◌, ◌≢◌, ◌+◌, ◌<◌, ◌≤◌, ◌∷◌, ◌∙◌, ℕ, suc, true, List, All, length, Option, arith, refl, sym, ap, rules, cases_eq, cond_both, All-head, All-tail, is_inside, put, put_at, put_off, Opens, RingChange, RingView, floor_number, Header, Row, Sub, Write, Reg, Bell, Read, RingRow, FreeRow, IsHeader, shape_of, command_id, Register, Known, on_ring, nothing, endpoint_rung, rung, learned, AreKept, IsRow, header_now, known_now, forgotten, restored, restored_on, ring_restored, with_ring, without_ring, register_leaves, view_after, kind, Block, DriverKeeps, IsDriverRing, ring_shape, Declares, changed, ring_with, is_driver_ring, driver_ring, endpoints_of, rings_of, still_of, not_in_both, written_view, event_same, still_reads, RingsKeep, RingWithdraws, given_among, all_given, same_given, no_more, of_driver, on_driver, off_driver, none_of_driver, driver_le, total, total_grows, total_le, total_none, total_one, false, false≢true, NopRow, kept_coming, kept_going, kept_withdrawing, is_ring_row, RegRead, status_leaves, reset, given_up, held_at_given, is_ring, resets, cases_Bool, cond-true, cond-false, subst, inl, inr, if◌then◌else◌}
 use Rattle.safety.proofs.LazyRuns.Progress.{one_more, none_given}
 use Rattle.safety.proofs.DriverRows.{nothing_keeps}
 use Rattle.safety.proofs.Histories.{row_keeps}
 use Rattle.safety.proofs.RingChanges.Restored.{row_comes, row_keeps as kept_row}
 use Rattle.safety.proofs.RingChanges.LiveHeadline.{Keeps, kept_on, now_keeps}
-use Rattle.safety.proofs.LazyRuns.RingRows.{OthersStay, comes_stay, goes_stay}
-use Rattle.safety.proofs.RingChanges.GoneRings as rings_gone
+use Rattle.safety.proofs.LazyRuns.RingRows.{OthersStay, comes_stay, goes_stay, reset_on}
+use Rattle.ring_knowledge.specs.Histories.{gone as known_gone}
+use Rattle.traces.specs.Header.{command_ring, id_of}
 
--- how many rows read an event
-unfoldable pub events : List Row → ℕ
-events [] = 0
-events ((Read b) ∷ past) = suc (events past)
-events (_ ∷ past) = events past
+-- how many rows read an event or a register
+unfoldable pub reads : List Row → ℕ
+reads [] = 0
+reads ((Read b) ∷ past) = suc (reads past)
+reads (RegRead r v ∷ past) = suc (reads past)
+reads (_ ∷ past) = reads past
 
 module _ (h : Header) where
   -- ---- rows that give nothing
@@ -34,6 +36,13 @@ module _ (h : Header) where
 
   register_none : (k : Known) (r : Register) (x : ℕ) → GivesNone k (learned h k (Reg r x))
   register_none k r x q = ap (λ f. (f q).given) (register_leaves h k r x).ring
+
+  status_none : (k : Known) (r : Register) (x : ℕ) → GivesNone k (learned h k (RegRead r x))
+  status_none k r x q = ap (λ f. (f q).given) (status_leaves h k r x).ring
+
+  reset_none : (k : Known) → GivesNone k (reset h k)
+  unfolding reset given_up held_at_given
+  reset_none k q = cond_both (is_ring q (id_of (command_ring h))) _ _ (λ (v : RingView). v.given ≡ (k.ring q).given) (λ _. refl) (λ _. refl)
 
   event_none : (k : Known) (b : Block) → GivesNone k (learned h k (Read b))
   unfolding learned
@@ -94,7 +103,13 @@ module _ (h : Header) where
     row_most is k (RingRow ring) = omega arith
     row_most is k (FreeRow id) = omega arith
     row_most is k (NopRow r p) = omega arith
-    row_most is k _ = search (rules, arith, none_more, declares_none, register_none, rung_none, event_none)
+    row_most is k _ = search (rules, arith, none_more, declares_none, register_none, rung_none, event_none, status_none)
+
+    status_most : (k : Known) (r : Register) (x : ℕ) → all_rings (learned h k (RegRead r x)) ≤ all_rings k
+    status_most k r x = none_more k (learned h k (RegRead r x)) (status_none k r x)
+
+    reset_most : (k : Known) → all_rings (reset h k) ≤ all_rings k
+    reset_most k = none_more k (reset h k) (reset_none k)
 
     event_most : (k : Known) (b : Block) → all_rings (learned h k (Read b)) ≤ all_rings k
     event_most k b = none_more k (learned h k (Read b)) (event_none k b)
@@ -107,31 +122,43 @@ module _ (h : Header) where
 
 -- ---- a ring comes or goes
 
-module _ (h g : Header) (k : Known) (id : ℕ) (o : OthersStay h g k id) (n : ℕ → ℕ) where
-  abbrev without : Known
-  without = forgotten k id
-
-  other_same : (r : ℕ) → r ≢ id → of_ring g n without r ≡ of_ring h n k r
-  unfolding of_ring of_driver forgotten
-  other_same r other = search (rules, is_driver_ring, given_among, without, ring_with, put_off, new_ring)
+module _ (h g : Header) (k l : Known) (id : ℕ) (o : OthersStay h g k l id) (n : ℕ → ℕ) where
+  other_same : (r : ℕ) → r ≢ id → of_ring g n l r ≡ of_ring h n k r
+  unfolding of_ring of_driver
+  other_same r other =
+      ap (λ v. if is_driver_ring (ring_with g r) then given_among v (n r) else 0) (o.rings r other)
+      ∙ ap (λ q. if is_driver_ring q then given_among (k.ring r) (n r) else 0) (o.listed r other)
 
   -- nothing of it is given
-  here_none : of_ring g n without id ≡ 0
-  unfolding of_ring forgotten
-  here_none = ap (λ m. of_driver g id m) (none_given (without.ring id) (n id) (λ p. ap (λ (v : RingView). v.given p) (put_at k.ring id new_ring))) ∙ none_of_driver g id
+  here_none : of_ring g n l id ≡ 0
+  unfolding of_ring
+  here_none = ap (λ m. of_driver g id m) (none_given (l.ring id) (n id) (λ p. ap (λ (v : RingView). v.given p) o.new)) ∙ none_of_driver g id
 
-  comes_most : all_rings g n without ≤ all_rings h n k
+  comes_most : all_rings g n l ≤ all_rings h n k
   unfolding all_rings
-  comes_most = search (rules, without, total_le, here_none, other_same)
+  comes_most =
+      total_le (of_ring g n l) (of_ring h n k) 256
+      (λ r. elim (cases_eq r id) [ inl same ↦ omega (arith, ap (of_ring g n l) same, here_none) | inr other ↦ omega (arith, other_same r other) ])
+
+module _ (h g : Header) (k l : Known) (id : ℕ) (o : OthersStay h g k l id) (n : ℕ → ℕ) (m : ℕ) where
+  -- of the others the same positions are counted
+  others_same : (r : ℕ) → r ≢ id → of_ring g n l r ≡ of_ring h (put n id m) k r
+  unfolding of_ring
+  others_same r other =
+      other_same h g k l id o n r other ∙ ap (λ x. of_driver h r (given_among (k.ring r) x)) (sym (put_off n id m r other))
+
+  goes_none : all_rings g n l ≤ all_rings h (put n id m) k
+  unfolding all_rings
+  goes_none =
+      total_le (of_ring g n l) (of_ring h (put n id m) k) 256
+      (λ r. elim (cases_eq r id) [ inl same ↦ omega (arith, ap (of_ring g n l) same, here_none h g k l id o n) | inr other ↦ omega (arith, others_same r other) ])
 
   -- where the first m positions of it were given
-  goes_most : (m : ℕ) → id < 256 → given_among (k.ring id) m ≡ m → all_rings g n without + of_driver h id m ≤ all_rings h (put n id m) k
+  goes_most : id < 256 → given_among (k.ring id) m ≡ m → all_rings g n l + of_driver h id m ≤ all_rings h (put n id m) k
   unfolding all_rings of_ring
-  goes_most m low all =
-      let there : ℕ → ℕ = put n id m in
-      let here : of_driver h id (given_among (k.ring id) (there id)) ≡ of_driver h id m = ap (λ x. of_driver h id (given_among (k.ring id) x)) (put_at n id m) ∙ ap (λ x. of_driver h id x) all in
-      total_grows (of_ring g n without) (of_ring h there k) id (of_driver h id m) 256 low
-      (λ r other. omega (arith, other_same r other, ap (λ x. of_driver h r (given_among (k.ring r) x)) (put_off n id m r other))) (omega (arith, here_none, here))
+  goes_most low all =
+      let here : of_driver h id (given_among (k.ring id) (put n id m id)) ≡ of_driver h id m = ap (λ x. of_driver h id (given_among (k.ring id) x)) (put_at n id m) ∙ ap (λ x. of_driver h id x) all in
+      total_grows (of_ring g n l) (of_ring h (put n id m) k) id (of_driver h id m) 256 low (λ r other. omega (arith, others_same r other)) (omega (arith, here_none h g k l id o n, here))
 
 -- ---- behind all rows
 
@@ -140,48 +167,77 @@ unfoldable pub floors : Header → Known → ℕ
 floors h k = total (λ r. of_driver h r (floor_number (k.ring r))) 256
 
 module _ (h : Header) where
-  -- those of the rings that went
+  -- those of the rings that went, and a row for each of these
   unfoldable pub gone : List Row → ℕ
   gone [] = 0
-  gone (FreeRow id ∷ past) = gone past + of_driver (header_now h past) id (floor_number ((known_now h past).ring id))
+  gone (FreeRow id ∷ past) = gone past + of_driver (header_now h past) id (floor_number ((known_now h past).ring id)) + 1
   gone (_ ∷ past) = gone past
 
   module _ (is : IsHeader h) where
     pub kept_before : (row : Row) (past : List Row) → All IsRow (row ∷ past) → AreKept h (row ∷ past) → Keeps h is past
     kept_before row past are kept = now_keeps h is past (All-tail IsRow row past are) kept.0 (kept_on (header_now h past) (known_now h past) row kept.1)
 
-    driven : (row : Row) (past : List Row) → is_ring_row row ≡ false → All IsRow (row ∷ past) → AreKept h (row ∷ past) → (n : ℕ → ℕ) → all_rings (header_now h past) n (known_now h past) + gone past + events past ≤ length past →
-        all_rings (header_now h past) n (known_now h (row ∷ past)) + gone past + events past ≤ length (row ∷ past)
-    driven (RingRow ring) past other are kept n before = absurd (false≢true (sym other))
-    driven (FreeRow id) past other are kept n before = absurd (false≢true (sym other))
-    driven (NopRow r p) past other are kept n before = absurd (false≢true (sym other))
-    driven row past other are kept n before =
+    -- a row that restores a ring, or none
+    plain_most : (row : Row) (past : List Row) → All IsRow (row ∷ past) → AreKept h (row ∷ past) → (n : ℕ → ℕ) → all_rings (header_now h past) n (known_now h past) + gone past + reads past ≤ length past →
+        all_rings (header_now h past) n (learned (header_now h past) (restored (header_now h past) (known_now h past) row) row) + gone past + reads past ≤ length (row ∷ past)
+    plain_most row past are kept n before =
         let g : Header = header_now h past in
         omega (arith, before, restored_most g n (known_now h past) row, row_most g n (kept_before row past are kept).headed (restored g (known_now h past) row) row)
 
-    -- each write gives one position at most; of a ring that goes those before its floor were given
-    given_most : (past : List Row) → All IsRow past → AreKept h past → (n : ℕ → ℕ) → all_rings (header_now h past) n (known_now h past) + gone past + events past ≤ length past
-    unfolding events gone ring_restored restored_on
-    given_most [] are kept n = omega (arith, before_any h n)
-    given_most ((Read b) ∷ past) are kept n =
-        omega (arith, given_most past (All-tail IsRow (Read b) past are) kept.0 n, event_most (header_now h past) n (known_now h past) b)
-    given_most (NopRow r p ∷ past) are kept n =
-        omega (arith, given_most past (All-tail IsRow (NopRow r p) past are) kept.0 n, withdrawn_most (header_now h past) n (known_now h past) r p)
-    given_most (RingRow ring ∷ past) are kept n =
-        let p = kept_before (RingRow ring) past are kept in
-        let stay = comes_stay (header_now h past) p.headed (known_now h past) p.keeps ring (All-head IsRow (RingRow ring) past are) (kept_coming (header_now h past) (known_now h past) ring kept.1).1 in
-        omega (arith, given_most past (All-tail IsRow (RingRow ring) past are) kept.0 n, comes_most (header_now h past) (with_ring (header_now h past) ring) (known_now h past) ring.id stay n)
-    given_most (FreeRow id ∷ past) are kept n =
+    register_most : (r : Register) (x : ℕ) (past : List Row) → All IsRow (Reg r x ∷ past) → AreKept h (Reg r x ∷ past) → (n : ℕ → ℕ) →
+        all_rings (header_now h past) n (known_now h past) + gone past + reads past ≤ length past →
+        all_rings (header_now h past) n (known_now h (Reg r x ∷ past)) + gone past + reads past ≤ length (Reg r x ∷ past)
+    unfolding ring_restored restored_on
+    register_most r x past are kept n before =
+        let g : Header = header_now h past in
+        let k : Known = known_now h past in
+        cond_both (resets k r x) (reset g k) (learned g k (Reg r x)) (λ l. all_rings g n l + gone past + reads past ≤ length (Reg r x ∷ past))
+        (λ _. omega (arith, before, reset_most g n k)) (λ _. plain_most (Reg r x) past are kept n before)
+
+    driven : (row : Row) (past : List Row) → is_ring_row row ≡ false → All IsRow (row ∷ past) → AreKept h (row ∷ past) → (n : ℕ → ℕ) → all_rings (header_now h past) n (known_now h past) + gone past + reads past ≤ length past →
+        all_rings (header_now h past) n (known_now h (row ∷ past)) + gone past + reads past ≤ length (row ∷ past)
+    driven (RingRow ring) past other are kept n before = absurd (false≢true (sym other))
+    driven (FreeRow id) past other are kept n before = absurd (false≢true (sym other))
+    driven (NopRow r p) past other are kept n before = absurd (false≢true (sym other))
+    driven (Reg r x) past other are kept n before = register_most r x past are kept n before
+    driven row past other are kept n before = plain_most row past are kept n before
+
+    -- of a ring that goes those before its floor were given
+    freed_most : (id : ℕ) (past : List Row) → All IsRow (FreeRow id ∷ past) → AreKept h (FreeRow id ∷ past) → (n : ℕ → ℕ) →
+        all_rings (header_now h (FreeRow id ∷ past)) n (known_now h (FreeRow id ∷ past)) + of_driver (header_now h past) id (floor_number ((known_now h past).ring id))
+        ≤ all_rings (header_now h past) (put n id (floor_number ((known_now h past).ring id))) (known_now h past)
+    freed_most id past are kept n =
         let p = kept_before (FreeRow id) past are kept in
         let good = (kept_going (header_now h past) (known_now h past) id kept.1).1 in
         let g : Header = header_now h past in
         let k : Known = known_now h past in
         let m : ℕ = floor_number (k.ring id) in
-        let all : given_among (k.ring id) m ≡ m = all_given (k.ring id) m (p.keeps.rings id (transfer_driver g id (rings_gone.gone g p.headed k p.keeps id good))).passed in
+        let stay = goes_stay g p.headed k p.keeps id good in
+        elim (cases_Bool (is_driver_ring (ring_with g id))) [
+          | inl driver ↦ goes_most g (without_ring g id) k _ id stay n m (All-head IsRow (FreeRow id) past are) (all_given (k.ring id) m (p.keeps.rings id (driver_ring g id driver)).passed)
+          | inr other ↦ omega (arith, goes_none g (without_ring g id) k _ id stay n m, off_driver g id m other)
+        ]
+
+    -- each write gives one position at most
+    given_most : (past : List Row) → All IsRow past → AreKept h past → (n : ℕ → ℕ) → all_rings (header_now h past) n (known_now h past) + gone past + reads past ≤ length past
+    unfolding reads gone ring_restored restored_on
+    given_most [] are kept n = omega (arith, before_any h n)
+    given_most ((Read b) ∷ past) are kept n =
+        omega (arith, given_most past (All-tail IsRow (Read b) past are) kept.0 n, event_most (header_now h past) n (known_now h past) b)
+    given_most (RegRead r v ∷ past) are kept n =
+        omega (arith, given_most past (All-tail IsRow (RegRead r v) past are) kept.0 n, status_most (header_now h past) n (known_now h past) r v)
+    given_most (NopRow r p ∷ past) are kept n =
+        omega (arith, given_most past (All-tail IsRow (NopRow r p) past are) kept.0 n, withdrawn_most (header_now h past) n (known_now h past) r p)
+    given_most (RingRow ring ∷ past) are kept n =
+        let p = kept_before (RingRow ring) past are kept in
+        let g : Header = header_now h past in
+        let stay = comes_stay g p.headed (known_now h past) p.keeps ring (All-head IsRow (RingRow ring) past are) (kept_coming g (known_now h past) ring kept.1).1 in
+        omega (arith, given_most past (All-tail IsRow (RingRow ring) past are) kept.0 n, comes_most g (with_ring g ring) (known_now h past) _ ring.id stay n)
+    given_most (FreeRow id ∷ past) are kept n =
         omega (
           arith,
-          given_most past (All-tail IsRow (FreeRow id) past are) kept.0 (put n id m),
-          goes_most g (without_ring g id) k id (goes_stay g p.headed k p.keeps id good) n m (All-head IsRow (FreeRow id) past are) all,
+          given_most past (All-tail IsRow (FreeRow id) past are) kept.0 (put n id (floor_number ((known_now h past).ring id))),
+          freed_most id past are kept n,
         )
     given_most (row ∷ past) are kept n = driven row past refl are kept n (given_most past (All-tail IsRow row past are) kept.0 n)
 
@@ -190,13 +246,9 @@ module _ (h : Header) where
     rings_behind : (row : Row) (past : List Row) → All IsRow (row ∷ past) → AreKept h (row ∷ past) → (known_now h (row ∷ past)).stopped ≡ false → RingsKeep (header_now h (row ∷ past)) (known_now h (row ∷ past))
     rings_behind row past are kept on = rings_of (header_now h (row ∷ past)) (known_now h (row ∷ past)) (now_keeps h is (row ∷ past) are kept on).keeps
 
-    rings_kept : (past : List Row) → All IsRow past → AreKept h past → RingsKeep (header_now h past) (known_now h past)
-    unfolding on_ring forgotten
-    rings_kept [] are kept = nothing_keeps h is
-    rings_kept (NopRow r q ∷ past) are kept = rings_behind (NopRow r q) past are kept (kept_withdrawing (header_now h past) (known_now h past) r q kept.1).0
-    rings_kept (RingRow ring ∷ past) are kept = rings_behind (RingRow ring) past are kept (kept_coming (header_now h past) (known_now h past) ring kept.1).0
-    rings_kept (FreeRow id ∷ past) are kept = rings_behind (FreeRow id) past are kept (kept_going (header_now h past) (known_now h past) id kept.1).0
-    rings_kept (row ∷ past) are kept =
+    rings_then : (row : Row) (past : List Row) → All IsRow (row ∷ past) → AreKept h (row ∷ past) →
+        RingsKeep (header_now h past) (learned (header_now h past) (restored (header_now h past) (known_now h past) row) row)
+    rings_then row past are kept =
         let p = kept_before row past are kept in
         let g : Header = header_now h past in
         let k : Known = restored g (known_now h past) row in
@@ -204,7 +256,26 @@ module _ (h : Header) where
         row_keeps g p.headed k row (rings_of g k d) (endpoints_of g k d.states) d.commands_stay (row_comes g p.headed (known_now h past) p.keeps row kept.1.0 kept.1.2)
         (still_reads g p.headed k row (rings_of g k d) (endpoints_of g k d.states) (still_of g p.headed k row d kept.1.0))
 
-    pub floors_most : (past : List Row) → All IsRow past → AreKept h past → floors (header_now h past) (known_now h past) + gone past + events past ≤ length past
+    register_kept : (r : Register) (x : ℕ) (past : List Row) → All IsRow (Reg r x ∷ past) → AreKept h (Reg r x ∷ past) → RingsKeep (header_now h past) (known_now h (Reg r x ∷ past))
+    unfolding ring_restored restored_on
+    register_kept r x past are kept =
+        let g : Header = header_now h past in
+        let k : Known = known_now h past in
+        elim (cases_Bool (resets k r x)) [
+          | inl now ↦ rings_behind (Reg r x) past are kept (ap (λ (l : Known). l.stopped) (cond-true (resets k r x) (reset g k) (learned g k (Reg r x)) now) ∙ reset_on g k (kept_on g k (Reg r x) kept.1))
+          | inr none ↦ subst (λ l. RingsKeep g l) (sym (cond-false (resets k r x) (reset g k) (learned g k (Reg r x)) none)) (rings_then (Reg r x) past are kept)
+        ]
+
+    rings_kept : (past : List Row) → All IsRow past → AreKept h past → RingsKeep (header_now h past) (known_now h past)
+    unfolding on_ring forgotten known_gone
+    rings_kept [] are kept = nothing_keeps h is
+    rings_kept (NopRow r q ∷ past) are kept = rings_behind (NopRow r q) past are kept (kept_withdrawing (header_now h past) (known_now h past) r q kept.1).0
+    rings_kept (RingRow ring ∷ past) are kept = rings_behind (RingRow ring) past are kept (kept_coming (header_now h past) (known_now h past) ring kept.1).0
+    rings_kept (FreeRow id ∷ past) are kept = rings_behind (FreeRow id) past are kept (kept_going (header_now h past) (known_now h past) id kept.1).0
+    rings_kept (Reg r x ∷ past) are kept = register_kept r x past are kept
+    rings_kept (row ∷ past) are kept = rings_then row past are kept
+
+    pub floors_most : (past : List Row) → All IsRow past → AreKept h past → floors (header_now h past) (known_now h past) + gone past + reads past ≤ length past
     unfolding floors all_rings of_ring
     floors_most past are kept =
         let g : Header = header_now h past in

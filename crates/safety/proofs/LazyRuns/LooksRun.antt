@@ -1,5 +1,5 @@
 -- The looks for an event, at one ring after the other, are a run: each ring comes to its goal
-use Rattle.safety.proofs.UpperLaws.{[], ◌≡◌, ◌+◌, ◌-◌, ◌*◌, ◌<◌, ◌≤◌, ◌∷◌, ◌++◌, ◌∙◌, ℕ, suc, zero, List, filter, map, nat_lt, reverse, arith, refl, sym, ap, subst, inl, inr, lt-ltb, le-ltb, append_assoc, rules, cases_lt, cond-true, cond-false, reverse-append, Spot, Shape, IsSpot, number, rank, next, spots_from, rank_least, rank_most, same_rank, next_later, next_least, Header, Row, Step, Look, IsHeader, shape_of, World, counted, Known, DriverKeeps, Agrees, Runs, look_runs, false, Some, ◌≢◌, ◌==◌, ◌&&◌, if◌then◌else◌, Bool, true, is_some, ne_eqb, cases_Bool, cases_eq, and_left, and_right, Block, cycle, kind, is_link, Data, Link, after, command_id, RingState, RingMatches, state_of, Takeable, Crossable, takeable, crossable, ring_shape, seen, only_crossed, only_taken, only_begun, behind_link, behind_block, TakeDone, CrossDone, take_done, cross_done, block_no_link, link_is, OnlyRing, stands_at, block_found, not, eq-eqb, IsDriverRing, Stands, further, looks_to, spots_before, crossed, looked, looked_at, seen_by_look, looks_taken, taken_on, steps_made, flat_map, put, RingSpot, put_at, put_off, lazy_brought, lazy_further, step_reached, agrees_now, StandsAt, Leads, Past, MayBring, Looked, LooksLeave, LooksLaw, RingStands, ring_stands, commands_stand, Traced}
+use Rattle.safety.proofs.UpperLaws.{[], ◌≡◌, ◌+◌, ◌-◌, ◌*◌, ◌<◌, ◌≤◌, ◌∷◌, ◌++◌, ◌∙◌, ℕ, suc, zero, List, filter, map, nat_lt, reverse, arith, refl, sym, ap, subst, inl, inr, lt-ltb, le-ltb, append_assoc, rules, cases_lt, cond-true, cond-false, reverse-append, Spot, Shape, IsSpot, number, rank, next, spots_from, rank_least, rank_most, same_rank, next_later, next_least, Header, Row, Step, Look, IsHeader, shape_of, World, counted, Known, DriverKeeps, Agrees, Runs, look_runs, false, Some, ◌≢◌, ◌==◌, ◌&&◌, if◌then◌else◌, Bool, true, is_some, ne_eqb, cases_Bool, cases_eq, and_left, and_right, Block, cycle, kind, is_link, Data, Link, after, command_id, RingState, RingMatches, state_of, Takeable, Crossable, takeable, crossable, ring_shape, seen, only_crossed, only_taken, only_begun, behind_link, behind_block, TakeDone, CrossDone, take_done, cross_done, block_no_link, link_is, OnlyRing, stands_at, block_found, not, eq-eqb, IsDriverRing, Stands, further, looks_to, spots_before, crossed, looked, looked_at, seen_by_look, looks_taken, taken_on, steps_made, flat_map, put, RingSpot, put_at, put_off, lazy_brought, lazy_further, step_reached, agrees_now, StandsAt, Leads, Past, MayBring, Looked, LooksLeave, LooksLaw, RingStands, ring_stands, commands_stand, Traced, is_done, until_made}
 use Rattle.safety.proofs.DriverHistories.{run_keeps}
 
 -- The looks of the lazy schedule at one ring are a run: by induction over the spots on the way
@@ -150,10 +150,10 @@ module _ (h : Header) where
     still_may w v t leaves may = record { active = leaves.active ∙ may.active; reach = may.reach; one_command = may.one_command }
 
     brings : (n : ℕ) (made : List Step) (w : World) (s t : Spot) → IsSpot (shape_of h r) t → rank s ≤ rank t → rank t < rank s + n → Leads h past made to_come w → Runs h past.known w → w.posted ≡ w.reads →
-        StandsAt h w r s → (rank s < rank t → MayBring h past.known w r t) → Looked h past to_come made w r t (looks_on r t s n)
+        w.halted ≡ false → StandsAt h w r s → (rank s < rank t → MayBring h past.known w r t) → Looked h past to_come made w r t (looks_on r t s n)
     unfolding steps_made
-    brings zero made w s t is_spot le near run runs read at may = absurd (omega (arith, le, near))
-    brings (suc n) made w s t is_spot le near run runs read at may =
+    brings zero made w s t is_spot le near run runs read running at may = absurd (omega (arith, le, near))
+    brings (suc n) made w s t is_spot le near run runs read running at may =
         elim (cases_lt (rank s) (rank t)) [
           | inr same ↦
               let here : s ≡ t = same_rank s t (omega (arith, le, same)) in
@@ -164,12 +164,12 @@ module _ (h : Header) where
               let g : Agrees h k [] w = agrees_now h past.known w runs read in
               let one : LookDone h w r s = one_look h is k w d g r s t before at (may before) in
               let v : World = counted h one.world in
-              let then_run : Leads h past (Look r ∷ made) to_come v = step_reached h past to_come made w one.world (Look r) (looked h h w r) (λ e. cc) refl run (g.stands.stopped ∙ runs.on) one.made in
+              let then_run : Leads h past (Look r ∷ made) to_come v = step_reached h past to_come made w one.world (Look r) (λ e. cc) (until_made h w one.world (looked h h w r) running (g.stands.stopped ∙ runs.on) one.made) run in
               let then_runs : Runs h past.known v = look_runs h is past.known w one.world r runs (run_keeps h is k w d runs) one.made in
               let later : rank s < rank (next (shape_of h r) s) = next_later (shape_of h r) s in
               let rest : Looked h past to_come (Look r ∷ made) v r t (looks_on r t (next (shape_of h r) s) n) =
               brings n (Look r ∷ made) v (next (shape_of h r) s) t is_spot (next_least (shape_of h r) s t is_spot before) (omega (arith, near, later)) then_run then_runs
-              (one.leaves.posted ∙ read ∙ sym one.leaves.reads) one.stands (λ on. still_may w v t one.leaves (may before)) in
+              (one.leaves.posted ∙ read ∙ sym one.leaves.reads) (one.leaves.halted ∙ running) one.stands (λ on. still_may w v t one.leaves (may before)) in
               record {
                 world = rest.world;
                 run = subst (λ l. Leads h past (reverse l ++ made) to_come rest.world) (sym (more_looks r t s n before))
@@ -185,7 +185,7 @@ module _ (h : Header) where
   looks_are pointers r t = refl
 
   pub looks_law : LooksLaw h
-  looks_law past to_come made w pointers goal is run runs read at may =
+  looks_law past to_come made w pointers goal is run runs read running at may =
       let r : ℕ = goal.ring in
       let t : Spot = goal.spot in
       let s : Spot = pointers goal.ring in
@@ -194,7 +194,7 @@ module _ (h : Header) where
         | inl before ↦
             subst (λ u. Looked h past to_come made w r u (looks_to h pointers goal)) (sym (further_then s t before))
             (subst (λ l. Looked h past to_come made w r t l) (sym (looks_are pointers r t))
-            (brings is past to_come r n made w s t (may before).reach.is_spot (omega (arith, before)) (omega (arith, rank_most t, rank_least s)) run runs read at may))
+            (brings is past to_come r n made w s t (may before).reach.is_spot (omega (arith, before)) (omega (arith, rank_most t, rank_least s)) run runs read running at may))
         | inr behind ↦
             subst (λ u. Looked h past to_come made w r u (looks_to h pointers goal)) (sym (further_not s t (omega (arith, behind))))
             (stays is past to_come r made w s (looks_to h pointers goal) (looks_are pointers r t ∙ no_looks r t s n (omega (arith, behind))) run runs at)
@@ -236,7 +236,15 @@ module _ (h : Header) where
     still_active q = search rules
 
     moved_on : Runs h k v → Traced h k now w → Traced h k (put now r t) v
-    moved_on runs trace = search (rules, moved_stands, trace.rings, still_active, trace.active, command_id, trace.command, trace.command_active)
+    moved_on runs trace = record {
+      runs = runs;
+      all_read = leaves.posted ∙ trace.all_read ∙ sym leaves.reads;
+      halted = leaves.halted ∙ trace.halted;
+      rings = λ s i q at. moved_stands q (trace.rings s i q at);
+      active = λ s i q at opened. still_active q ∙ trace.active s i q at opened;
+      command = λ on. moved_stands (command_id h) (trace.command on);
+      command_active = λ on opened. still_active (command_id h) ∙ trace.command_active on opened;
+    }
 
   same_spot_looks : (pointers now : ℕ → Spot) (goal : RingSpot) → now goal.ring ≡ pointers goal.ring → looks_to h now goal ≡ looks_to h pointers goal
   unfolding looks_to
@@ -263,7 +271,7 @@ module _ (h : Header) where
   two_lists : (a b made : List Step) → reverse (a ++ b) ++ made ≡ reverse b ++ (reverse a ++ made)
   two_lists a b made = ap (λ l. l ++ made) (reverse-append a b) ∙ append_assoc (reverse b) (reverse a) made
 
-  module _ (is : IsHeader h) (past : Past h) (to_come : List Row) (pointers : ℕ → Spot) where
+  module _ (is : IsHeader h) (past : Past h) (to_come : List Row) (pointers : ℕ → Spot) (running : is_done past.known.halt ≡ false) where
     all_brought : (goals : List RingSpot) (made : List Step) (w : World) (now : ℕ → Spot) → AreSame pointers now goals → AreApart goals → AllFit past.known w now goals →
         Leads h past made to_come w → Traced h past.known now w → AllBrought past to_come made w now goals (flat_map (looks_to h pointers) goals)
     unfolding lazy_brought
@@ -274,7 +282,7 @@ module _ (h : Header) where
         let looks : List Step = looks_to h pointers goal in
         let one : Looked h past to_come made w r t looks =
         subst (λ l. Looked h past to_come made w r t l) (same_spot_looks pointers now goal same.0)
-        (looks_law h past to_come made w now goal is run trace.runs trace.all_read fits.0.stands fits.0.may) in
+        (looks_law h past to_come made w now goal is run trace.runs trace.all_read (trace.halted ∙ running) fits.0.stands fits.0.may) in
         let v : World = one.world in
         let on : AllBrought past to_come (reverse looks ++ made) v (put now r t) rest (flat_map (looks_to h pointers) rest) =
         all_brought rest (reverse looks ++ made) v (put now r t) (same_still pointers now r t rest apart.0 same.1) apart.1
@@ -287,6 +295,6 @@ module _ (h : Header) where
         }
 
   -- goals on rings apart are reached one after the other
-  pub goals_reached : IsHeader h → (past : Past h) (to_come : List Row) (made : List Step) (w : World) (pointers : ℕ → Spot) (goals : List RingSpot) → AreApart goals → AllFit past.known w pointers goals →
-      Leads h past made to_come w → Traced h past.known pointers w → AllBrought past to_come made w pointers goals (flat_map (looks_to h pointers) goals)
-  goals_reached is past to_come made w pointers goals apart fits run trace = all_brought is past to_come pointers goals made w pointers (all_same pointers goals) apart fits run trace
+  pub goals_reached : IsHeader h → (past : Past h) (to_come : List Row) (made : List Step) (w : World) (pointers : ℕ → Spot) (goals : List RingSpot) → is_done past.known.halt ≡ false → AreApart goals →
+      AllFit past.known w pointers goals → Leads h past made to_come w → Traced h past.known pointers w → AllBrought past to_come made w pointers goals (flat_map (looks_to h pointers) goals)
+  goals_reached is past to_come made w pointers goals running apart fits run trace = all_brought is past to_come pointers running goals made w pointers (all_same pointers goals) apart fits run trace

@@ -1,8 +1,42 @@
 -- The step of a row that reads an event: the lazy run posts it directly before, whichever step it is that posts it
-use Rattle.safety.proofs.UpperLaws.{event_read, reported_can, [], ◌≡◌, ◌+◌, ◌∷◌, ◌++◌, ◌∙◌, true, false, List, reverse, Some, arith, refl, sym, ap, subst, inl, reverse-append, Block, IsBlock, block_at, kind, same_words, address_of, Header, Read, Step, NextRow, Row, IsHeader, event_shape, World, read_made, learned, Runs, words_itself, post_keeps, read_runs, Option, stored, stored_block, driver_event_read, row_done, can_post, posts_posted, counted, steps_made, while_running, pointers_after, post_of, steps_before, ◌≢◌, ◌&&◌, ℕ, inr, cond-false, false≢true, code, slot, is_transfer_event, is_command_completion, Spot, is_open, Report, command_id, Known, command_at, next_command, lenient, event_facts, report_runs, transfer_kind, reported, made, brought, goals, is_placed_by, ◌||◌, Bool, or_cases, BlockKind, is_other_event, None, rules, and_from, cond-true, Other, learned_read, says_nothing, other_runs, with_reads, other_posted, lazy_goals, step_reached, agrees_now, next_reached, Follows, Carries, Leads, Past, looks_for, StandsAt, IsActiveIfOpen, Traced, AreTimely, EventLaw, is_event_read, may_post}
+use Rattle.safety.proofs.UpperLaws.{event_read, reported_can, [], ◌≡◌, ◌+◌, ◌∷◌, ◌++◌, ◌∙◌, true, false, List, reverse, Some, arith, refl, sym, ap, subst, inl, reverse-append, Block, IsBlock, block_at, kind, same_words, address_of, Header, Read, Step, NextRow, Row, IsHeader, event_shape, World, read_made, learned, Runs, words_itself, post_keeps, read_runs, Option, stored, stored_block, driver_event_read, row_done, can_post, posts_posted, counted, steps_made, pointers_after, post_of, steps_before, ◌≢◌, ◌&&◌, ℕ, inr, cond-false, false≢true, code, slot, is_transfer_event, is_command_completion, Spot, is_open, Report, command_id, Known, command_at, next_command, lenient, event_facts, report_runs, transfer_kind, reported, made, brought, goals, is_placed_by, ◌||◌, Bool, or_cases, BlockKind, is_other_event, None, rules, and_from, cond-true, Other, learned_read, says_nothing, other_runs, with_reads, other_posted, lazy_goals, step_reached, agrees_now, next_reached, Follows, Carries, Leads, Past, looks_for, StandsAt, IsActiveIfOpen, Traced, AreTimely, EventLaw, is_event_read, may_post, is_late, is_done, or_parts, is_none, noting_post, until_halted, is_named, is_some, event_same, DriverKeeps, until_made}
 use Rattle.world_state.specs.World.{event_at}
 use Rattle.safety.proofs.DriverHistories.{run_keeps}
 use Rattle.safety.specs.LazyRuns.Needs.{is_placed}
+use Rattle.safety.proofs.StepRuns.{can_there, sized_there}
+use Rattle.std.proofs.Common.{option_map}
+use Rattle.traces.specs.Header.{event_ring}
+use Rattle.traces.specs.declared.register.Register.TheVariants.{Crcr}
+
+-- no event is read timely where the controller was seen to have halted
+pub timely_running : (h : Header) (k : Known) (b : Block) → is_late h k (Read b) ≡ false → is_done k.halt ≡ false
+unfolding is_late
+timely_running h k b timely = (or_parts (is_done k.halt) _ timely).0
+
+module _ (h : Header) where
+  -- an event ring is there
+  noted_same : (u : World) → is_none (event_ring h) ≡ false → noting_post h u ≡ u
+  unfolding noting_post
+  noted_same u there = ap (λ (b : Bool). let x : World = record u { posted_nowhere = b } in x) (grind arith)
+
+  pub post_made : (w u : World) (b : Block) (o : Option World) → w.halted ≡ false → w.stopped ≡ false → can_post h w b ≡ true → o ≡ Some u →
+      until_halted h w (option_map (noting_post h) o) ≡ Some u
+  post_made w u b o running on can at =
+      until_made h w u (option_map (noting_post h) o) running on
+      (ap (λ p. option_map (noting_post h) p) at ∙ ap (λ v. Some v) (noted_same u (sized_there h (can_there h w b can))))
+
+  -- an event says nothing of the run, nor of what CRCR names
+  pub read_named : (k : Known) (b : Block) → is_named (learned h k (Read b)) ≡ is_named k
+  unfolding learned
+  read_named k b = ap (λ f. is_some (f Crcr)) (event_same h k (kind b) b).register
+
+  pub read_halt : (k : Known) (b : Block) → is_done (learned h k (Read b)).halt ≡ is_done k.halt
+  unfolding learned
+  read_halt k b = ap is_done (event_same h k (kind b) b).halt
+
+  -- the command ring is named while the controller runs
+  pub running_named : (k : Known) (b : Block) → DriverKeeps h k → lenient h k (Read b) ≡ [] → is_done k.halt ≡ false → is_named k ≡ true
+  running_named k b d clean running = d.run.running (event_facts h k b clean).started running
 
 module _ (h : Header) where
   -- a step that posts b leads from w to u
@@ -46,15 +80,15 @@ module _ (h : Header) where
       unfolding counted
       all_read_behind = omega (arith, all_read, p.posted, p.reads)
 
-      pub event_step : (s : Step) (mid : List Step) (o : Option World) → (s ≡ NextRow → ⊥) → steps_made h h w s ≡ while_running h w o → o ≡ Some u →
+      pub event_step : (s : Step) (mid : List Step) → (s ≡ NextRow → ⊥) → steps_made h h w s ≡ Some u →
           NextRow ∷ reverse (steps_before h past.known past.pointers (Read b) later) ++ past.made ≡ NextRow ∷ s ∷ mid →
           Follows h (learned h past.known (Read b)) (pointers_after h past.known past.pointers (Read b) later) (behind_read u) →
           Leads h past mid ((Read b) ∷ later) w → Carries h past (Read b) later
       unfolding row_done
-      event_step s mid o other made at same follows leads = record {
+      event_step s mid other made same follows leads = record {
         world = behind_read u;
         run = subst (λ made. Leads h past made later (behind_read u)) (sym same)
-            (next_reached h past (s ∷ mid) (counted h u) (record (counted h u) { reads = (counted h u).reads + 1 }) (Read b) later refl (step_reached h past ((Read b) ∷ later) mid w u s o other made leads running_now at) reads_it);
+            (next_reached h past (s ∷ mid) (counted h u) (record (counted h u) { reads = (counted h u).reads + 1 }) (Read b) later refl (step_reached h past ((Read b) ∷ later) mid w u s other made leads) reads_it);
         goes = inl follows;
       }
 
@@ -69,12 +103,12 @@ module _ (h : Header) where
     pub pointers : v.pointer_of ≡ w.pointer_of
     pub cycles : v.cycle_state ≡ w.cycle_state
     pub events : v.events ≡ w.events
+    pub halted : v.halted ≡ w.halted
     pub active : (q : ℕ) → q ≢ r → v.is_active q ≡ w.is_active q
 
   -- an event brings the floor of ring r to a spot, and leaves the other rings
   pub record EventLearns (k l : Known) (r : ℕ) (t : Spot) : Type 0 where
     pub ring_of : l.ring_of ≡ k.ring_of
-    pub started : l.started ≡ k.started
     pub floor : (l.ring r).floor ≡ t
     pub others : (q : ℕ) → q ≢ r → l.ring q ≡ k.ring q
 
@@ -89,7 +123,7 @@ module _ (h : Header) where
 
   module _ (is : IsHeader h) (past : Past h) (later : List Row) (b : Block) (pointers : ℕ → Spot) (w u : World) (r : ℕ) (t : Spot) (block : IsBlock b) (clean : lenient h past.known (Read b) ≡ [])
       (transfer : is_transfer_event (kind b) ≡ true) (trace : Traced h past.known pointers w) (at : reported h w b ≡ Some u) (leaves : ReportLeaves w u b r)
-      (learns : EventLearns past.known (learned h past.known (Read b)) r t) where
+      (learns : EventLearns past.known (learned h past.known (Read b)) r t) (running : is_done past.known.halt ≡ false) where
     abbrev l : Known
     l = learned h past.known (Read b)
 
@@ -97,11 +131,11 @@ module _ (h : Header) where
     abbrev v : World
     v = behind_read h u
 
-    running : w.stopped ≡ false
-    running = running_now h is past later b block w trace.runs trace.all_read
+    on : w.stopped ≡ false
+    on = running_now h is past later b block w trace.runs trace.all_read
 
     posted : IsPosted h past w u b
-    posted = assumption (reported_can h w u b at, leaves, report_runs h is past.known w u b block running trace.runs (run_keeps h is past.known w past.keeps trace.runs) at)
+    posted = assumption (reported_can h w u b at, leaves, report_runs h is past.known w u b block on trace.runs (run_keeps h is past.known w past.keeps trace.runs) at)
 
     stands : (q : ℕ) (s : Spot) → StandsAt h w q s → StandsAt h v q s
     unfolding counted
@@ -110,8 +144,8 @@ module _ (h : Header) where
     had : (s i q : ℕ) → l.ring_of s i ≡ Some q → past.known.ring_of s i ≡ Some q
     had s i q there = ap (λ g. g s i) (sym learns.ring_of) ∙ there
 
-    started : past.known.started ≡ true
-    started = (event_facts h past.known b clean).started
+    named : is_named past.known ≡ true
+    named = running_named h past.known b past.keeps clean running
 
     module _ (no_command : r ≢ command_id h) (here : pointers r ≡ t) (others : (s i q : ℕ) → past.known.ring_of s i ≡ Some q → q ≢ r → pointers q ≡ (past.known.ring q).floor)
         (after : (q : ℕ) → pointers_after h past.known past.pointers (Read b) later q ≡ pointers q) (still : IsActiveIfOpen (learned h past.known (Read b)) u r) where
@@ -127,16 +161,17 @@ module _ (h : Header) where
         floors = λ s i q there. subst (λ e. StandsAt h v q e) (search (rules, had)) (stands q (pointers q) (trace.rings s i q (had s i q there)));
         traced = λ s i q there. after q ∙ (search (rules, had));
         active = λ s i q there. active q (trace.active s i q (had s i q there));
-        before = λ off. absurd (false≢true (sym off ∙ learns.started ∙ started));
-        command = λ on. subst (λ e. StandsAt h v (command_id h) e) (sym (after (command_id h))) (stands (command_id h) (pointers (command_id h)) (trace.command started));
-        command_active = active (command_id h) trace.command_active;
+        halted = leaves.halted ∙ trace.halted ∙ sym (read_halt h past.known b);
+        before = λ there unused off. absurd (false≢true (sym off ∙ (read_named h past.known b ∙ named)));
+        command = λ on. subst (λ e. StandsAt h v (command_id h) e) (sym (after (command_id h))) (stands (command_id h) (pointers (command_id h)) (trace.command named));
+        command_active = λ on. active (command_id h) (trace.command_active named);
       }
 
       pub report_step : Leads h past (reverse (looks_for h past later b) ++ past.made) ((Read b) ∷ later) w → Carries h past (Read b) later
       unfolding post_of made
       report_step run =
-          event_step h is past later b block w trace.runs trace.all_read u posted (Report b) (reverse (looks_for h past later b) ++ past.made) (reported h w b) (λ e. cc) refl at
-          (posts_last h b past later (Report b) (ap (λ t. post_of h t b) (transfer_kind (kind b) transfer))) follows run
+          event_step h is past later b block w trace.runs trace.all_read u posted (Report b) (reverse (looks_for h past later b) ++ past.made) (λ e. cc)
+          (post_made h w u b (reported h w b) (trace.halted ∙ running) on posted.can at) (posts_last h b past later (Report b) (ap (λ t. post_of h t b) (transfer_kind (kind b) transfer))) follows run
 
 -- An event that tells of no block: the lazy run posts it directly before it is read, and needs no look for it
 module _ (h : Header) where
@@ -172,12 +207,12 @@ module _ (h : Header) where
   unfolding pointers_after brought is_placed
   pointers_same b past later r s silent = search (rules, cond-false)
 
-  post_made : (w : World) (b : Block) → can_post h w b ≡ true → is_other_event (kind b) ≡ true → other_posted h w b ≡ Some (posts_posted h w b)
+  other_made : (w : World) (b : Block) → can_post h w b ≡ true → is_other_event (kind b) ≡ true → other_posted h w b ≡ Some (posts_posted h w b)
   unfolding other_posted
-  post_made w b can other = cond-true (can_post h w b && is_other_event (kind b)) (Some (posts_posted h w b)) None (and_from (can_post h w b) (is_other_event (kind b)) can other)
+  other_made w b can other = cond-true (can_post h w b && is_other_event (kind b)) (Some (posts_posted h w b)) None (and_from (can_post h w b) (is_other_event (kind b)) can other)
 
   module _ (is : IsHeader h) (past : Past h) (later : List Row) (b : Block) (w : World) (block : IsBlock b) (clean : lenient h past.known (Read b) ≡ [])
-      (f : Follows h past.known past.pointers w) (step : Step) (silent : IsSilent past.known later b step) (goes_on : Runs h past.known (counted h (posts_posted h w b))) where
+      (f : Follows h past.known past.pointers w) (running : is_done past.known.halt ≡ false) (step : Step) (silent : IsSilent past.known later b step) (goes_on : Runs h past.known (counted h (posts_posted h w b))) where
     abbrev read_known : Known
     read_known = learned h past.known (Read b)
 
@@ -210,27 +245,31 @@ module _ (h : Header) where
       floors = λ s i r at. subst (λ t. StandsAt h behind r t) (ap (λ (m : Known). (m.ring r).floor) (sym same)) (stands_on r (past.known.ring r).floor (f.floors s i r (had_before s i r at)));
       traced = λ s i r at. pointers_same b past later r step silent ∙ f.traced s i r (had_before s i r at) ∙ ap (λ (m : Known). (m.ring r).floor) (sym same);
       active = λ s i r at opened. f.active s i r (had_before s i r at) (ap (λ (m : Known). is_open (m.ring r)) (sym same) ∙ opened);
-      before = λ off. pointers_same b past later (command_id h) step silent ∙ f.before (ap (λ (m : Known). m.started) (sym same) ∙ off);
+      halted = f.halted ∙ sym (read_halt h past.known b);
+      before = λ there unused off. absurd (false≢true (sym off ∙ read_named h past.known b ∙ running_named h past.known b past.keeps clean running));
       command = λ on.
           subst (λ t. StandsAt h behind (command_id h) t) (sym (pointers_same b past later (command_id h) step silent))
-          (stands_on (command_id h) (past.pointers (command_id h)) (f.command (ap (λ (m : Known). m.started) (sym same) ∙ on)));
-      command_active = λ opened. f.command_active (ap (λ (m : Known). is_open (m.ring (command_id h))) (sym same) ∙ opened);
+          (stands_on (command_id h) (past.pointers (command_id h)) (f.command (sym (read_named h past.known b) ∙ on)));
+      command_active = λ on opened. f.command_active (sym (read_named h past.known b) ∙ on) (ap (λ (m : Known). is_open (m.ring (command_id h))) (sym same) ∙ opened);
     }
 
-    pub silent_step : (o : Option World) → (step ≡ NextRow → ⊥) → steps_made h h w step ≡ while_running h w o → o ≡ Some (posts_posted h w b) →
+    -- which step it is that makes the post
+    pub silent_step : (o : Option World) → (step ≡ NextRow → ⊥) → steps_made h h w step ≡ until_halted h w (option_map (noting_post h) o) → o ≡ Some (posts_posted h w b) →
         Leads h past past.made ((Read b) ∷ later) w → Carries h past (Read b) later
     silent_step o other made at =
-        event_step h is past later b block w f.runs f.all_read (posts_posted h w b) post step past.made o other made at (lazy_event b past later step silent) follows_on
+        event_step h is past later b block w f.runs f.all_read (posts_posted h w b) post step past.made other
+        (made ∙ post_made h w (posts_posted h w b) b o (f.halted ∙ running) (running_now h is past later b block w f.runs f.all_read) can at)
+        (lazy_event b past later step silent) follows_on
 
   other_step : IsHeader h → (past : Past h) (later : List Row) (b : Block) (w : World) → IsBlock b → lenient h past.known (Read b) ≡ [] → is_other_event (kind b) ≡ true →
-      Follows h past.known past.pointers w → Leads h past past.made ((Read b) ∷ later) w → Carries h past (Read b) later
+      Follows h past.known past.pointers w → is_done past.known.halt ≡ false → Leads h past past.made ((Read b) ∷ later) w → Carries h past (Read b) later
   unfolding made
-  other_step is past later b w block clean other f =
+  other_step is past later b w block clean other f running =
       let can : can_post h w b ≡ true = may_post h is past.known w b past.keeps (agrees_now h past.known w f.runs f.all_read) clean in
-      let at = post_made w b can other in
+      let at = other_made w b can other in
       let runs = other_runs h is past.known w (posts_posted h w b) b block (running_now h is past later b block w f.runs f.all_read) f.runs
       (run_keeps h is past.known w past.keeps f.runs) at in
-      silent_step is past later b w block clean f (Other b) (other_silent past.known later b other) runs (other_posted h w b) (λ e. cc) refl at
+      silent_step is past later b w block clean f running (Other b) (other_silent past.known later b other) runs (other_posted h w b) (λ e. cc) refl at
 
 module _ (h : Header) where
   -- the step of a row that reads an event of some kinds
@@ -247,5 +286,5 @@ module _ (h : Header) where
           | inl one ↦ transfer past later b w one is block clean timely run f
           | inr two ↦ completion past later b w two is block clean timely run f
         ]
-        | inr other ↦ other_step h is past later b w block clean other f run
+        | inr other ↦ other_step h is past later b w block clean other f (timely_running h past.known b timely.0.1) run
       ]

@@ -1,5 +1,5 @@
 -- How far the pointers of a driver's rings have come, and which positions are given, summed: looks move pointers on, by as many places as there are looks
-use Rattle.safety.proofs.LowerLaws.{put_at, put_off, ◌≡◌, ◌≢◌, ◌+◌, ◌*◌, ◌<◌, ◌≤◌, ℕ, suc, zero, arith, sym, subst, inl, inr, cases_eq, cases_lt, ◌||◌, ◌∙◌, Bool, true, false, refl, ap, cases_Bool, is_inside, RingView, Writes, changed, gives, IsShape, Shape, address_inside, gives_is, gives_one, ◌∷◌, List, filter, length, max, nat_lt, ltb-true, ltb-false, rules, cond_both, length-map, next, number, rank, spots_from, Spot, number-after, next_later, Header, RingSpot, behind_taken, further, looks_to, spots_before, [], ◌-◌, ◌==◌, if◌then◌else◌, map, eq-eqb, ne_eqb, length-append, cond-false, cond-true, flat_map, put, rank_least, rank_most, Step, Look, command_id, ring_with, shape_of, is_driver_ring, brought}
+use Rattle.safety.proofs.LowerLaws.{put_at, put_off, ◌≡◌, ◌≢◌, ◌+◌, ◌*◌, ◌<◌, ◌≤◌, ℕ, suc, zero, arith, sym, subst, inl, inr, cases_eq, cases_lt, ◌||◌, ◌∙◌, Bool, true, false, refl, ap, cases_Bool, is_inside, RingView, Writes, changed, gives, IsShape, Shape, address_inside, gives_is, gives_one, ◌∷◌, List, filter, length, max, nat_lt, ltb-true, ltb-false, rules, cond_both, length-map, next, number, rank, spots_from, Spot, number-after, next_later, Header, RingSpot, behind_blocks, further, looks_to, spots_before, [], ◌-◌, ◌==◌, if◌then◌else◌, map, eq-eqb, ne_eqb, length-append, cond-false, cond-true, flat_map, put, rank_least, rank_most, Step, Look, command_id, ring_with, shape_of, is_driver_ring, brought}
 
 -- Sums of a function over the numbers below a bound
 
@@ -137,8 +137,8 @@ pub further_most : (s t : Spot) (n : ℕ) → number s ≤ n → number t ≤ n 
 unfolding further
 further_most s t n a b = cond_both (nat_lt (rank s) (rank t)) t s (λ u. number u ≤ n) (λ _. b) (λ _. a)
 
-pub number_taken : (shape : Shape) (n : ℕ) → number (behind_taken shape n) ≡ n
-unfolding behind_taken
+pub number_taken : (shape : Shape) (n : ℕ) → number (behind_blocks shape n) ≡ n
+unfolding behind_blocks
 number_taken shape zero = omega arith
 number_taken shape (suc p) = number-after shape p ∙ omega arith
 

@@ -1,7 +1,18 @@
 -- What a Transfer Event says that breaks no rule, by its code: the spot that it names, and what the controller did there
-use Rattle.safety.proofs.MiddleLaws.{named_no_service, no_service, spot_told, is_code_of_profile, has_isoch, is_of_service, ◌⊎◌, is_off, is_stopping, code_told, [], ◌≡◌, ◌<◌, ◌&&◌, ◌||◌, ◌∙◌, ℕ, not, Bool, true, false, Option, Some, None, sym, ap, ltb-true, rules, and_cases, and_parts, or_parts, or_cases, not-false, not-true, false≢true, none-some, same_Some, Block, is_set, word, kind, code, pointer, slot, endpoint, is_transfer_event, is_success, is_halting, is_trb_error, Spot, Data, ceiling, named, is_data_below, is_open, is_stop_spot, is_running, Header, Read, shape_of, Known, RingSpot, spot_on, is_in_profile, is_working, is_stopping_now, can_report, can_report_at, is_impossible_by_kind, is_impossible_transfer, lenient, event_facts, transfer_kind, chain, spot_is, arith, event_at}
+use Rattle.safety.proofs.MiddleLaws.{named_no_service, no_service, spot_told, is_code_of_profile, has_isoch, is_of_service, ◌⊎◌, is_off, is_stopping, code_told, [], ◌≡◌, ◌<◌, ◌&&◌, ◌||◌, ◌∙◌, ℕ, not, Bool, true, false, Option, Some, None, sym, ap, ltb-true, rules, and_cases, and_parts, or_parts, or_cases, not-false, not-true, false≢true, none-some, same_Some, Block, is_set, word, kind, code, pointer, slot, endpoint, is_transfer_event, is_success, is_halting, is_trb_error, Spot, Data, ceiling, named, is_data_below, is_open, is_stop_spot, is_running, Header, Read, shape_of, Known, RingSpot, spot_on, is_in_profile, is_working, is_stopping_now, can_report, can_report_at, is_impossible_by_kind, is_impossible_transfer, lenient, event_facts, transfer_kind, chain, spot_is, arith, event_at, may_be_taken, false_from_ne_true, eqb-true, inl, inr, ◌==◌, refl}
 use Rattle.std.proofs.Common.{option_map}
 use Rattle.safety.proofs.StopRead.{StopCode}
+
+-- a success and an error are no stop
+
+not_stopping : (c n : ℕ) → (c == n) ≡ true → is_stopping n ≡ false → is_stopping c ≡ false
+not_stopping c n same off = ap is_stopping (eqb-true c n same) ∙ off
+
+pub success_goes_on : (c : ℕ) → is_success c ≡ true → is_stopping c ≡ false
+success_goes_on c success = elim (or_cases (c == 1) (c == 13) success) [ inl one ↦ not_stopping c 1 one refl | inr short ↦ not_stopping c 13 short refl ]
+
+pub error_goes_on : (c : ℕ) → (is_halting c || is_trb_error c) ≡ true → is_stopping c ≡ false
+error_goes_on c breaks = search (rules, or_cases, not_stopping)
 
 module _ (h : Header) where
   -- the ring of its endpoint, and the spot there that it names
@@ -109,3 +120,12 @@ module _ (h : Header) where
     pub stop_code : is_success (code_told h k b) ≡ false → (is_halting (code_told h k b) || is_trb_error (code_told h k b)) ≡ false → StopCode (code_told h k b)
     unfolding stops
     stop_code fails quiet = grind (arith, or_parts, and_parts, cases)
+
+    -- where it tells of a stop the next command can have been taken
+    pub stopping_taken : is_stopping (code_told h k b) ≡ true → may_be_taken h k ≡ true
+    unfolding is_stopping_now
+    stopping_taken stopping =
+        let c : ℕ = code_told h k b in
+        let fails : is_success c ≡ false = false_from_ne_true (is_success c) (λ success. false≢true (sym (success_goes_on c success) ∙ stopping)) in
+        let quiet : (is_halting c || is_trb_error c) ≡ false = false_from_ne_true (is_halting c || is_trb_error c) (λ breaks. false≢true (sym (error_goes_on c breaks) ∙ stopping)) in
+        (and_parts (may_be_taken h k) _ (stop_names fails quiet).now).0

@@ -1,20 +1,9 @@
 -- What a Transfer Event asks for and teaches, and that the controller can report it
-use Rattle.safety.proofs.UpperLaws.{told_same, code_posted, reported_on, and_right, cond-false, code_told, [], ◌≡◌, ◌≢◌, ◌+◌, ◌≤◌, ◌==◌, ◌||◌, ◌∷◌, ◌∙◌, ℕ, suc, nat_lt, true, false, List, Some, arith, refl, sym, ap, subst, inl, inr, lt-ltb, le-ltb, eqb-true, rules, cases_lt, cond-true, or_cases, false≢true, Block, kind, slot, endpoint, is_transfer_event, is_success, is_halting, is_trb_error, is_stopping, Spot, Shape, number, rank, after, Reaches, Holds, is_open, same_rank, Header, Row, Read, shape_of, Known, RingSpot, on_ring, event_read, learned, passed, broken_off, stopped_at, transferred, transferred_at, transfer_read, ring_here, learned_read, put_at, put_off, transfer_kind, TransferLeaves, transferred_leaves, with_reads, behind_taken, further, taken_up_to, report_goals, goals, brought, ◌-◌, ◌<◌, ◌&&◌, zero, Bool, length, map, Option, None, position, get_or, eq-eqb, range_with_len, cases_Bool, and_from, not_from_false, length-map-range_with_len, get_or-map-range_with_len, put, put_pair, IsBlock, pointer, address_of, spot_address, declared, floor_number, named, RingKeeps, named_ahead, position-None, IsNamed, named_spot-Some, EndpointState, Halted, Error, is_running, IsHeader, command_id, World, unreported, lenient, IsDriverRing, DriverKeeps, state_of, BoundRing, Agrees, transfer_driver, transfer_not_command, number_after, PostKeeps, post_keeps, open_takes, stored, stored_block, can_post, is_last, posts_posted, report_code, report_error, report_success, reported, with_reported, TransferFacts, NamesBlock, StandsAt, may_post}
+use Rattle.safety.proofs.UpperLaws.{told_same, code_posted, reported_on, and_right, cond-false, code_told, [], ◌≡◌, ◌≢◌, ◌+◌, ◌≤◌, ◌==◌, ◌||◌, ◌∷◌, ◌∙◌, ℕ, suc, nat_lt, true, false, List, Some, arith, refl, sym, ap, subst, inl, inr, lt-ltb, le-ltb, rules, cases_lt, cond-true, false≢true, Block, kind, slot, endpoint, is_transfer_event, is_success, is_halting, is_trb_error, is_stopping, Spot, Shape, number, rank, after, Reaches, Holds, is_open, same_rank, Header, Row, Read, shape_of, Known, RingSpot, on_ring, event_read, learned, passed, broken_off, stopped_at, transferred, transferred_at, transfer_read, ring_here, learned_read, put_at, put_off, transfer_kind, TransferLeaves, transferred_leaves, with_reads, behind_blocks, further, taken_up_to, report_goals, goals, brought, ◌-◌, ◌<◌, ◌&&◌, zero, Bool, length, map, Option, None, position, get_or, eq-eqb, range_with_len, cases_Bool, and_from, not_from_false, length-map-range_with_len, get_or-map-range_with_len, put, put_pair, IsBlock, pointer, address_of, spot_address, declared, floor_number, named, RingKeeps, named_ahead, position-None, IsNamed, named_spot-Some, EndpointState, Halted, Error, is_running, IsHeader, command_id, World, unreported, lenient, IsDriverRing, DriverKeeps, state_of, BoundRing, Agrees, transfer_driver, transfer_not_command, number_after, PostKeeps, post_keeps, open_takes, stored, stored_block, can_post, is_last, posts_posted, report_code, report_error, report_success, reported, with_reported, TransferFacts, NamesBlock, StandsAt, may_post}
 use Rattle.std.proofs.Common.{option_map}
 use Rattle.safety.proofs.LazyRuns.PostStep.{EventLearns, ReportLeaves}
 
 -- For a Transfer Event the schedule brings its ring behind the block that it names, and what is known of the ring then
-
--- ---- codes
-
-not_stopping : (c n : ℕ) → (c == n) ≡ true → is_stopping n ≡ false → is_stopping c ≡ false
-not_stopping c n same off = ap is_stopping (eqb-true c n same) ∙ off
-
-pub success_goes_on : (c : ℕ) → is_success c ≡ true → is_stopping c ≡ false
-success_goes_on c success = elim (or_cases (c == 1) (c == 13) success) [ inl one ↦ not_stopping c 1 one refl | inr short ↦ not_stopping c 13 short refl ]
-
-pub error_goes_on : (c : ℕ) → (is_halting c || is_trb_error c) ≡ true → is_stopping c ≡ false
-error_goes_on c breaks = search (rules, or_cases, not_stopping)
 
 -- ---- spots
 
@@ -22,9 +11,9 @@ pub further_is : (s t : Spot) → rank s ≤ rank t → further s t ≡ t
 unfolding further
 further_is s t near = search (rules, cases_lt, cond-true, nat_lt, lt-ltb, cond-false, le-ltb, same_rank)
 
-behind_next : (shape : Shape) (p n : ℕ) → n ≡ suc p → behind_taken shape n ≡ after shape p
-unfolding behind_taken
-behind_next shape p n same = ap (λ m. behind_taken shape m) same
+behind_next : (shape : Shape) (p n : ℕ) → n ≡ suc p → behind_blocks shape n ≡ after shape p
+unfolding behind_blocks
+behind_next shape p n same = ap (λ m. behind_blocks shape m) same
 
 module _ (h : Header) where
   pub taken_behind : (r p : ℕ) → taken_up_to h r (p + 1) ≡ record { ring = r; spot = after (shape_of h r) p }
@@ -57,10 +46,10 @@ module _ (h : Header) where
         learned_read h k b ∙ ap (λ m. with_reads m (k.reads + 1))
         (ap (λ t. event_read h k t b) (transfer_kind (kind b) transfer) ∙ ap (λ o. transferred_at h k b o) f.at)
 
-    learns_at : (t : Spot) (l : Known) → learned h k (Read b) ≡ with_reads l (k.reads + 1) → l.started ≡ k.started → TransferLeaves k l (slot b) (endpoint b) f.ring → (l.ring f.ring).floor ≡ t →
+    learns_at : (t : Spot) (l : Known) → learned h k (Read b) ≡ with_reads l (k.reads + 1) → TransferLeaves k l (slot b) (endpoint b) f.ring → (l.ring f.ring).floor ≡ t →
         EventLearns h k (learned h k (Read b)) f.ring t
-    learns_at t l same started leaves floor =
-        subst (λ m. EventLearns h k m f.ring t) (sym same) (record { ring_of = leaves.ring_of; started = started; floor = floor; others = leaves.others })
+    learns_at t l same leaves floor =
+        subst (λ m. EventLearns h k m f.ring t) (sym same) (record { ring_of = leaves.ring_of; floor = floor; others = leaves.others })
 
     pub learns : (t : Spot) → ((transferred h k (code_told h k b) (slot b) (endpoint b) f.ring f.spot).ring f.ring).floor ≡ t → EventLearns h k (learned h k (Read b)) f.ring t
     unfolding transferred passed broken_off stopped_at on_ring
@@ -202,7 +191,7 @@ module _ (h : Header) where
           let x : Reports w b f.ring = record {
             world = v;
             at = report_at v (cond-true (is_success (code_told h k b)) _ _ success ∙ found);
-            leaves = record { memory = refl; posted = refl; reads = refl; pointers = refl; cycles = refl; events = refl; active = λ q other. refl };
+            leaves = record { memory = refl; posted = refl; reads = refl; pointers = refl; cycles = refl; events = refl; halted = refl; active = λ q other. refl };
           } in
           (x, refl)
 

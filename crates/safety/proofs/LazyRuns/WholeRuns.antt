@@ -1,11 +1,11 @@
 -- A Transfer Event, whatever its code: the lazy run brings its ring to where the event says, reports it, and reads it; and with that the lazy law
-use Rattle.safety.proofs.UpperLaws.{can_post, may_post, is_off, post_of, made, event_read, transfer_read, transferred_at, transfer_kind, Report, code_told, code, is_of_service, has_isoch, reported, reported_on, report_runs, ServiceFacts, Header, LazyLaw, AllAreRead, EventLaw, [], ◌||◌, inl, inr, cases_Bool, is_success, is_halting, is_trb_error, is_transfer_event, ◌≡◌, ◌≢◌, ◌≤◌, ◌&&◌, ◌∷◌, ◌∙◌, ℕ, true, false, List, Option, Some, arith, sym, ap, subst, false≢true, not-false, and_from, Block, IsBlock, kind, slot, endpoint, is_stopping, Spot, Data, is_open, floor_number, MayReach, rank, number, after, ceiling_within, after_reached, next_later, Read, Row, IsHeader, shape_of, command_id, World, Known, learned, lenient, RingSpot, transferred, IsDriverRing, DriverKeeps, Agrees, transfer_driver, ring_shape, is_held_ring, is_late, brought, ◌+◌, ◌-◌, ◌<◌, ◌==◌, not, length, None, refl, ltb-true, eq-eqb, rules, and_parts, cond-true, cond-false, not_from_true, pointer, ceiling, cycle_of_bit, command_of, is_stop_of, is_running, UnderWay, unreported, command_at, next_command, is_stopping_now, may_be_taken, UnderWayMatches, CommandMatches, event_facts, put_off, at_floor, command_is_ring, command_at_is, command_of-with_cycle, StopCode, stored, stored_block, is_last, is_stop_under_way, posts_posted, report_code, report_stop, stopped_with, with_reported, ne_eqb, cases_lt, put, number-after, stop_spot_reached, rank_least, rank_most, transfer_not_command, put_at, next_is, goals, further, report_goals, command_taken, taken_up_to, stop_goal, need, ◌++◌, reverse, flat_map, looks_to, StandsAt, IsActiveIfOpen, Follows, Carries, Leads, Past, Traced, traced_behind, TransferFacts, NamesBlock, success_names, error_names, commands_open, CommandsOpen, AreTimely, IsHeld, need_of_held, timely_then, StopsThere, stop_names, stop_code, agrees_now, transfer_facts}
+use Rattle.safety.proofs.UpperLaws.{can_post, may_post, is_off, post_of, made, event_read, transfer_read, transferred_at, transfer_kind, Report, code_told, code, reported, reported_on, report_runs, ServiceFacts, Header, LazyLaw, AllAreRead, EventLaw, [], ◌||◌, inl, inr, cases_Bool, is_success, is_halting, is_trb_error, is_transfer_event, ◌≡◌, ◌≢◌, ◌≤◌, ◌&&◌, ◌∷◌, ◌∙◌, ℕ, true, false, List, Option, Some, arith, sym, ap, subst, false≢true, not-false, and_from, Block, IsBlock, kind, slot, endpoint, is_stopping, Spot, Data, is_open, floor_number, MayReach, rank, number, after, ceiling_within, after_reached, next_later, Read, Row, IsHeader, shape_of, command_id, World, Known, learned, lenient, RingSpot, transferred, IsDriverRing, DriverKeeps, Agrees, transfer_driver, ring_shape, is_held_ring, is_late, brought, ◌+◌, ◌-◌, ◌<◌, ◌==◌, not, length, None, refl, ltb-true, eq-eqb, rules, and_parts, cond-true, cond-false, not_from_true, pointer, ceiling, cycle_of_bit, command_of, is_stop_of, is_running, UnderWay, unreported, command_at, next_command, is_stopping_now, may_be_taken, UnderWayMatches, CommandMatches, event_facts, put_off, at_floor, command_is_ring, command_at_is, command_of-with_cycle, StopCode, stored, stored_block, is_last, is_stop_under_way, posts_posted, report_code, report_stop, stopped_with, with_reported, ne_eqb, cases_lt, put, number-after, stop_spot_reached, rank_least, rank_most, transfer_not_command, put_at, next_is, goals, further, report_goals, command_taken, taken_up_to, stop_goal, need, ◌++◌, reverse, flat_map, looks_to, StandsAt, IsActiveIfOpen, Follows, Carries, Leads, Past, Traced, traced_behind, TransferFacts, NamesBlock, success_names, error_names, commands_open, CommandsOpen, AreTimely, IsHeld, need_of_held, timely_then, StopsThere, stop_names, stop_code, agrees_now, transfer_facts, is_named, is_done, named_if_taken, error_goes_on, success_goes_on}
 use Rattle.safety.proofs.DriverHistories.{run_keeps}
-use Rattle.safety.proofs.LazyRuns.PostStep.{IsSilent, running_now, silent_step, event_law, EventLawOf, EventLearns, pointers_transfer, report_step}
+use Rattle.safety.proofs.LazyRuns.PostStep.{IsSilent, running_named, running_now, timely_running, silent_step, event_law, EventLawOf, EventLearns, pointers_transfer, report_step}
 use Rattle.safety.proofs.LazyRuns.Completions.{completion_law}
 use Rattle.safety.proofs.LazyRuns.Induction.{lazy_from_events, all_read_from_events}
 use Rattle.safety.proofs.LazyRuns.LooksRun.{AllFit, further_then, further_not, Fits, AreApart, AllBrought, goals_reached}
-use Rattle.safety.proofs.LazyRuns.TransferGoals.{Reports, names, ahead, success_reports, error_reports, success_goes_on, error_goes_on, block_goal, brought_here, brought_off, read_is, learns, success_floor, error_ring, report_at, IsHeldAt, further_is, taken_behind, goals_are, stop_ring, no_command as off_command}
+use Rattle.safety.proofs.LazyRuns.TransferGoals.{Reports, names, ahead, success_reports, error_reports, block_goal, brought_here, brought_off, read_is, learns, success_floor, error_ring, report_at, IsHeldAt, further_is, taken_behind, goals_are, stop_ring, no_command as off_command}
 
 module _ (h : Header) where
   -- the next command may be taken, and is a Stop Endpoint for the endpoint
@@ -19,14 +19,14 @@ module _ (h : Header) where
 
   module _ (is : IsHeader h) (k : Known) (w : World) (b : Block) (block : IsBlock b) (d : DriverKeeps h k) (g : Agrees h k [] w) (clean : lenient h k (Read b) ≡ []) (transfer : is_transfer_event (kind b) ≡ true)
       (f : TransferFacts h k b) (next : StopIsNext k (slot b) (endpoint b)) (t : Spot) (commands : StandsAt h w (command_id h) t) (taken : next_command h k + 1 ≤ number t) where
-    is_started : k.started ≡ true
-    is_started = (event_facts h k b clean).started
+    is_called : is_named k ≡ true
+    is_called = named_if_taken h k d (event_facts h k b clean).started next.below
 
     -- the command that was taken is that Stop Endpoint
     command_is : (y : UnderWay) (c : CommandMatches h k w) → w.under_way ≡ Some y → command_of y.block ≡ command_at h k (next_command h k)
     command_is y c at =
         let under : UnderWayMatches h k c.spot (Some y) = subst (λ o. UnderWayMatches h k c.spot o) at c.under_way in
-        let l = at_floor h is k d (command_is_ring h k d is_started) (commands_open h k d next.below).given in
+        let l = at_floor h is k d (command_is_ring h k d is_called) (commands_open h k d next.below).given in
         ap (λ e. command_of e) (under.1.words l.block l.queued) ∙ command_of-with_cycle l.block _ (cycle_of_bit (shape_of h (command_id h)) (next_command h k))
         ∙ sym (command_at_is h k (next_command h k) l.block l.queued)
 
@@ -36,7 +36,7 @@ module _ (h : Header) where
     under_by (Some y) c at = search (rules, command_is)
 
     under : is_stop_under_way h (slot b) (endpoint b) w.under_way ≡ true
-    under = under_by w.under_way (g.matches.command is_started) refl
+    under = under_by w.under_way (g.matches.command is_called) refl
 
     module _ (stop : StopCode (code_told h k b)) (runs : is_running (k.endpoint_state (slot b) (endpoint b)) ≡ true) (on : w.is_active f.ring ≡ true) (here : pointer b ≡ w.pointer_of f.ring) where
       abbrev u : World
@@ -52,7 +52,7 @@ module _ (h : Header) where
         world = stopped n;
         at = report_at h is k w b block d g clean transfer f (stopped n)
             (cond-false _ _ _ stop.success ∙ cond-false _ _ _ stop.halting ∙ cond-false _ _ _ stop.error ∙ cond-true _ _ _ stop.stopping ∙ made);
-        leaves = record { memory = refl; posted = refl; reads = refl; pointers = refl; cycles = refl; events = refl; active = λ q other. put_off w.is_active f.ring false q other };
+        leaves = record { memory = refl; posted = refl; reads = refl; pointers = refl; cycles = refl; events = refl; halted = refl; active = λ q other. put_off w.is_active f.ring false q other };
       }
 
       may_stop : not (is_stop_under_way h (slot b) (endpoint b) u.under_way && is_running (u.endpoint_state (slot b) (endpoint b)) && u.is_active f.ring) ≡ false
@@ -92,7 +92,7 @@ module _ (h : Header) where
   stops_there at n none = cond-false (n == number at.spot + 1) (taken_up_to h at.ring n) at (ne_eqb n (number at.spot + 1) (λ same. omega (arith, same, none)))
 
   module _ (is : IsHeader h) (past : Past h) (later : List Row) (b : Block) (block : IsBlock b) (clean : lenient h past.known (Read b) ≡ []) (transfer : is_transfer_event (kind b) ≡ true) (w : World)
-      (f : Follows h past.known past.pointers w) (e : TransferFacts h past.known b) where
+      (f : Follows h past.known past.pointers w) (running : is_done past.known.halt ≡ false) (e : TransferFacts h past.known b) where
     trace : Traced h past.known past.pointers w
     trace = traced_behind h past.known past.pointers w f
 
@@ -116,12 +116,12 @@ module _ (h : Header) where
         (reports : (u : World) → Traced h past.known (brought h at_first list) u → (x : Reports h u b e.ring) × IsActiveIfOpen (learned h past.known (Read b)) x.world e.ring)
         (run : Leads h past past.made ((Read b) ∷ later) w) where
       looked : AllBrought h past ((Read b) ∷ later) past.made w at_first list (flat_map (looks_to h at_first) list)
-      looked = search (rules, goals_reached, apart, fits, trace)
+      looked = goals_reached h is past ((Read b) ∷ later) past.made w at_first list running apart fits run trace
 
       row_carries : Carries h past (Read b) later
       row_carries =
           let one = reports looked.world looked.traced in
-          report_step h is past later b (brought h at_first list) looked.world one.0.world e.ring t block clean transfer looked.traced one.0.at one.0.leaves learns no_command here
+          report_step h is past later b (brought h at_first list) looked.world one.0.world e.ring t block clean transfer looked.traced one.0.at one.0.leaves learns running no_command here
           (λ s i q at other. others s i q at other ∙ f.traced s i q at)
           (λ q. pointers_transfer h b past later q transfer ∙ ap (λ l. brought h at_first l q) are)
           one.1 (subst (λ l. Leads h past (reverse l ++ past.made) ((Read b) ∷ later) looked.world) (ap (λ l. flat_map (looks_to h at_first) l) (sym are)) looked.run)
@@ -216,8 +216,8 @@ module _ (h : Header) where
       opened : CommandsOpen h past.known
       opened = commands_open h past.known past.keeps next.below
 
-      started : past.known.started ≡ true
-      started = (event_facts h past.known b clean).started
+      named : is_named past.known ≡ true
+      named = running_named h past.known b past.keeps clean running
 
       there : IsHeldAt h past.known b transfer e (code_told h past.known b) (slot b) (endpoint b) e.ring e.spot (transferred h past.known (code_told h past.known b) (slot b) (endpoint b) e.ring e.spot) e.spot
       there = stop_ring h past.known b transfer e (code_told h past.known b) (slot b) (endpoint b) e.ring e.spot coded.success coded.halting coded.error coded.stopping
@@ -226,7 +226,7 @@ module _ (h : Header) where
       held = ap (λ (l : Known). is_open (l.ring e.ring)) (read_is h past.known b transfer e) ∙ there.held
 
       needs_none : need h (learned h past.known (Read b)) e.ring later ≡ 0
-      needs_none = need_of_held later h (learned h past.known (Read b)) e.ring no_command held (timely_then h past.known b later timely)
+      needs_none = need_of_held later h (learned h past.known (Read b)) e.ring (past.keeps.states.transfer (slot b) (endpoint b) e.ring e.bound) held (timely_then h past.known b later timely)
 
       -- ---- the goals
 
@@ -271,9 +271,9 @@ module _ (h : Header) where
       command_fits : Fits h past.known w at_first command
       unfolding command
       command_fits = record {
-        stands = trace.command started;
+        stands = trace.command named;
         may = λ further. record {
-          active = f.command_active opened.opened;
+          active = f.command_active named opened.opened;
           reach = after_reached (shape_of h (command_id h)) (past.known.ring (command_id h)) (next_command h past.known) (omega (arith, next_is h past.known)) opened.given;
           one_command = λ same. omega (arith, number-after (shape_of h (command_id h)) (next_command h past.known));
         };
@@ -302,7 +302,7 @@ module _ (h : Header) where
       unfolding at_command
       reports u stop_learns =
           let agree = agrees (brought h at_first (command ∷ place ∷ [])) u stop_learns in
-          let commands : StandsAt h u (command_id h) at_command = subst (λ t. StandsAt h u (command_id h) t) command_brought (stop_learns.command started) in
+          let commands : StandsAt h u (command_id h) at_command = subst (λ t. StandsAt h u (command_id h) t) command_brought (stop_learns.command named) in
           let ring : StandsAt h u e.ring e.spot = subst (λ t. StandsAt h u e.ring t) ring_brought (stop_learns.rings (slot b) (endpoint b) e.ring e.bound) in
           let x : Reports h u b e.ring =
           stop_reports h is past.known u b block past.keeps agree clean transfer e next at_command commands (search (rules, at_command, cases_lt, further_then, further_not, at_first, rank_least, rank_most, number-after)) coded stops.work.runs
@@ -321,7 +321,7 @@ module _ (h : Header) where
 
 -- an event that tells of the service of its endpoint is reported without any look
 module _ (h : Header) (is : IsHeader h) (past : Past h) (later : List Row) (b : Block) (block : IsBlock b) (clean : lenient h past.known (Read b) ≡ []) (transfer : is_transfer_event (kind b) ≡ true) (w : World)
-    (f : Follows h past.known past.pointers w) (s : ServiceFacts h past.known b) where
+    (f : Follows h past.known past.pointers w) (running : is_done past.known.halt ≡ false) (s : ServiceFacts h past.known b) where
   agree : Agrees h past.known [] w
   agree = agrees_now h past.known w f.runs f.all_read
 
@@ -348,19 +348,20 @@ module _ (h : Header) (is : IsHeader h) (past : Past h) (later : List Row) (b : 
   service_carries =
       let runs = report_runs h is past.known w (posts_posted h w b) b block (running_now h is past later b block w f.runs f.all_read) f.runs
       (run_keeps h is past.known w past.keeps f.runs) reported_so in
-      silent_step h is past later b w block clean f (Report b) silent runs (reported h w b) (λ e. cc) refl reported_so
+      silent_step h is past later b w block clean f running (Report b) silent runs (reported h w b) (λ e. cc) refl reported_so
 
 pub transfer_law : (h : Header) → EventLawOf h is_transfer_event
 transfer_law h past later b w transfer is block clean timely run f =
+    let running = timely_running h past.known b timely.0.1 in
     elim (transfer_facts h past.known b clean transfer) [
       | inl e ↦ elim (cases_Bool (is_success (code_told h past.known b))) [
-        | inl success ↦ success_carries h is past later b block clean transfer w f e run success timely.0.1
+        | inl success ↦ success_carries h is past later b block clean transfer w f running e run success timely.0.1
         | inr fails ↦ elim (cases_Bool (is_halting (code_told h past.known b) || is_trb_error (code_told h past.known b))) [
-          | inl breaks ↦ error_carries h is past later b block clean transfer w f e run fails breaks
-          | inr quiet ↦ stop_carries h is past later b block clean transfer w f e fails quiet timely run
+          | inl breaks ↦ error_carries h is past later b block clean transfer w f running e run fails breaks
+          | inr quiet ↦ stop_carries h is past later b block clean transfer w f running e fails quiet timely run
         ]
       ]
-      | inr s ↦ service_carries h is past later b block clean transfer w f s run
+      | inr s ↦ service_carries h is past later b block clean transfer w f running s run
     ]
 
 events : (h : Header) → EventLaw h

@@ -1,5 +1,6 @@
--- Lazy schedules of two traces, and how they end, by evaluation; tests/schedules has more for the program
-use Rattle.safety.proofs.Words.{[], ◌≡◌, ◌∷◌, ◌++◌, ℕ, suc, zero, List, refl, Cmd, Evt, Xfer, Block, Bytes32, Header, Row, Sub, Write, Reg, Bell, Read, Usbcmd, Crcr, Dcbaap, Config, Erstsz, Erstba, Erdp, Step, NextRow, Look, Report, Finish, lazy_steps, One, scene_ending, NoHarm, world_on_literals, lazy_on_literals}
+-- Lazy schedules of three traces, and how they end, by evaluation; tests/schedules has more for the program
+use Rattle.safety.proofs.Words.{[], ◌≡◌, ◌∷◌, ◌++◌, ℕ, suc, zero, List, refl, Cmd, Evt, Xfer, Block, Bytes32, Header, Row, Sub, Write, Reg, Bell, Read, Usbcmd, Crcr, Dcbaap, Config, Erstsz, Erstba, Erdp, Step, NextRow, Look, Report, Finish, lazy_steps, One, scene_ending, NoHarm, world_on_literals, lazy_on_literals, RegRead, Usbsts, FreeRow, RingRow, Halt, resting}
+use Rattle.traces.specs.declared.version.Version.TheVariants.{Four}
 
 abbrev block : ℕ → ℕ → ℕ → Block
 block at status control = record { w = at ∷ 0 ∷ status ∷ control ∷ [] }
@@ -64,3 +65,29 @@ schedule_with_an_event_steps = refl
 pub schedule_with_an_event_ending : scene_ending schedule_header schedule_with_an_event_rows (lazy_steps schedule_header schedule_with_an_event_rows) ≡ NoHarm
 unfolding lazy_on_literals world_on_literals
 schedule_with_an_event_ending = refl
+
+-- a second run of the controller, with another command ring and another event ring
+abbrev pub schedule_of_two_runs_header : Header
+schedule_of_two_runs_header = record schedule_header { version = Four }
+
+abbrev slot_enabled_again : Block
+slot_enabled_again = block 4194304 16777216 16811009
+
+abbrev halts_and_resets : List Row
+halts_and_resets = Reg Usbcmd 0 ∷ RegRead Usbsts 1 ∷ Reg Usbcmd 2 ∷ FreeRow 0 ∷ FreeRow 1 ∷ []
+
+abbrev begins_again : List Row
+begins_again =
+    RingRow (record { id = 3; shape = record { kind = Cmd; segments = record { base = 4194304; count = 16 } ∷ [] } }) ∷ RingRow (record { id = 4; shape = record { kind = Evt; segments = record { base = 4259840; count = 16 } ∷ [] } })
+    ∷ Write 262144 4259840 ∷ Reg Erstsz 1 ∷ Reg Erstba 262144 ∷ Reg Erdp 4259840 ∷ Reg Crcr 4194305 ∷ Reg Dcbaap 327680 ∷ Reg Config 8 ∷ Reg Usbcmd 1 ∷ Sub 3 (block 0 0 9216 ∷ []) ∷ Write 4194316 9217 ∷ Bell 0 0 ∷ Read slot_enabled_again ∷ []
+
+abbrev pub schedule_of_two_runs_rows : List Row
+schedule_of_two_runs_rows = registers ++ enables_slot ++ halts_and_resets ++ begins_again
+
+pub schedule_of_two_runs_steps : lazy_steps schedule_of_two_runs_header schedule_of_two_runs_rows ≡ rows 12 (Look 0 ∷ Finish slot_enabled ∷ rows 2 (Halt ∷ rows 17 (Look 3 ∷ Finish slot_enabled_again ∷ NextRow ∷ [])))
+unfolding lazy_on_literals
+schedule_of_two_runs_steps = refl
+
+pub schedule_of_two_runs_ending : scene_ending schedule_of_two_runs_header schedule_of_two_runs_rows (lazy_steps schedule_of_two_runs_header schedule_of_two_runs_rows) ≡ NoHarm
+unfolding lazy_on_literals world_on_literals resting
+schedule_of_two_runs_ending = refl

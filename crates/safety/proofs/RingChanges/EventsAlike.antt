@@ -1,26 +1,31 @@
 -- An event says the same where other rings are there, so long as those that endpoints have and commands bind are as they were
-use Rattle.safety.proofs.Words.{◌&&◌, code, code_told, has_isoch, counted_code, is_of_service, typed, [], ◌≡◌, if◌then◌else◌, ◌∷◌, ◌∙◌, ℕ, Bool, true, false, List, Option, Some, None, refl, ap, rules, put, put_pair, cond_both, none-some, same_Some, option_map, Block, slot, endpoint, pointer, is_success, is_halting, is_trb_error, is_stopping, Spot, number, after, RingView, RingChange, Reaches, Holds, changed, ceiling, named, target, Command, Stopped, is_off, Change, Places, Stops, Header, Ring, shape_of, command_id, event_shape, event_size, ring_having, Known, RingSpot, on_ring, spot_on, event_at, passed, broken_off, stopped_at, transferred, transferred_at, transfer_read, set_to, bound_to, moved_to, moved, pointed, disabled, in_state, held_at_ceiling, changed_by, changed_by_all, arith}
+use Rattle.safety.proofs.Words.{◌&&◌, code, code_told, has_isoch, counted_code, is_of_service, typed, [], ◌≡◌, if◌then◌else◌, ◌∷◌, ◌∙◌, ℕ, Bool, true, false, List, Option, Some, None, refl, ap, rules, put, put_pair, cond_both, none-some, same_Some, option_map, Block, slot, endpoint, pointer, is_success, is_halting, is_trb_error, is_stopping, Spot, number, after, RingView, RingChange, Reaches, Holds, changed, ceiling, named, target, Command, Stopped, is_off, Change, Places, Stops, Config, Register, Header, Ring, shape_of, command_id, event_shape, event_size, ring_having, Known, RingSpot, on_ring, spot_on, event_at, passed, broken_off, stopped_at, transferred, transferred_at, transfer_read, set_to, bound_to, moved_to, moved, may_be_taken, pointed, disabled, in_state, held_at_ceiling, changed_by, changed_by_all, arith}
 use Rattle.safety.proofs.Endpoints.{moved_rings, held_rings}
 
-module _ (h : Header) (rings : List Ring) (over : (ℕ → RingView) → ℕ → RingView) (Kept : ℕ → Type 0) where
+module _ (h : Header) (rings : List Ring) (over : (ℕ → RingView) → ℕ → RingView) (registers : (Register → Option ℕ) → Register → Option ℕ) (Kept : ℕ → Type 0) where
   abbrev g : Header
   g = record h { rings = rings }
 
-  -- what is known with the other rings
+  -- what is known with the other rings, and other registers
   abbrev pub other : Known → Known
-  other k = record k { ring = over k.ring }
+  other k = record k { ring = over k.ring; register = registers k.register }
 
   -- a ring that is kept has its shape, and what happens on it happens on it alone
   pub record KeepsRings : Type 0 where
     pub shape : (r : ℕ) → Kept r → shape_of g r ≡ shape_of h r
     pub view : (m : ℕ → RingView) (r : ℕ) → Kept r → over m r ≡ m r
     pub changes : (m : ℕ → RingView) (r : ℕ) (v : RingView) → Kept r → over (put m r v) ≡ put (over m) r v
-    -- the command ring is kept, and the event ring is as it was
-    pub command : command_id g ≡ command_id h
-    pub command_kept : Kept (command_id h)
+    -- the event ring is as it was
     pub events : event_shape g ≡ event_shape h
     pub version : g.version ≡ h.version
     pub size : event_size g ≡ event_size h
+    -- of the registers an event asks for CONFIG alone
+    pub config : (values : Register → Option ℕ) → registers values Config ≡ values Config
+
+  -- where a command may have been taken the command ring is the same, and kept; elsewhere none may have been, with these rings either
+  pub record NextAlike (k : Known) : Type 0 where
+    pub taken : may_be_taken g (other k) ≡ may_be_taken h k
+    pub ring : may_be_taken h k ≡ true → (command_id g ≡ command_id h) × Kept (command_id h)
 
   -- endpoints have kept rings
   abbrev pub HasKept : Known → Type 0

@@ -1,6 +1,7 @@
 -- Of an ID that no ring has all may be forgotten
 use Rattle.safety.proofs.UpperLaws.{[], ◌≡◌, ◌≢◌, ◌<◌, ◌∙◌, ℕ, List, Some, None, get_or, refl, sym, ap, subst, inl, inr, rules, emptied, forgotten, cases_eq, cases_option, none-some, Block, RingKeeps, Header, Ring, Read, IsHeader, ring_with, ring_having, shape_of, command_id, World, Known, learned, lenient, Binding, binds, ring_bound, IsTransferRing, DriverKeeps, Agrees, forgetting_agrees, context_lies, transfer_ring, command_named, having_transfer, BindsAsBefore, IsAsBefore, OtherRings, other_rings_keep, command_with, BindsAlike, read_possible, KeepsRings}
-use Rattle.safety.proofs.RingChanges.ReadAlike.{read_alike}
+use Rattle.safety.proofs.RingChanges.ReadAlike.{next_kept, read_alike}
+use Rattle.safety.proofs.RingChanges.EventsAlike.{NextAlike}
 use Rattle.safety.proofs.RingChanges.Squares.{Other, cleared, cleared_apart, cleared_here, cleared_put}
 
 module _ (h : Header) (is : IsHeader h) (k : Known) (d : DriverKeeps h k) (id : ℕ) (low : id < 256) (absent : ring_with h id ≡ None) where
@@ -54,16 +55,19 @@ module _ (h : Header) (is : IsHeader h) (k : Known) (d : DriverKeeps h k) (id : 
 
   -- ---- an event
 
-  rings_same : KeepsRings h h.rings (cleared id) (Other id)
-  rings_same = search (rules, cleared_apart, cleared_put, no_command)
+  rings_same : KeepsRings h h.rings (cleared id) (λ values. values) (Other id)
+  rings_same = search (rules, cleared_apart, cleared_put)
 
-  binds_same : BindsAlike h h.rings (cleared id) (Other id) rings_same k
+  next_same : NextAlike h h.rings (cleared id) (λ values. values) (Other id) k
+  next_same = next_kept h h.rings (cleared id) (λ values. values) (Other id) rings_same refl no_command k
+
+  binds_same : BindsAlike h h.rings (cleared id) (λ values. values) (Other id) rings_same k
   binds_same p c u i b l = (refl, not_bound (get_or (binds h k c) i b).pointer)
 
   pub forgotten_read : (e : Block) → lenient h (forgotten k id) (Read e) ≡ lenient h k (Read e)
   unfolding forgotten
-  forgotten_read e = read_possible h h.rings (cleared id) (Other id) rings_same k e not_had
+  forgotten_read e = read_possible h h.rings (cleared id) (λ values. values) (Other id) rings_same k next_same e not_had
 
   pub forgotten_learned : (e : Block) → lenient h k (Read e) ≡ [] → learned h (forgotten k id) (Read e) ≡ forgotten (learned h k (Read e)) id
   unfolding forgotten
-  forgotten_learned e may = (read_alike h h.rings (cleared id) (Other id) rings_same is k d not_had binds_same e may).0
+  forgotten_learned e may = (read_alike h h.rings (cleared id) (λ values. values) (Other id) rings_same is k d next_same not_had binds_same e may).0

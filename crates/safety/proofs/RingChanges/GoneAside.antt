@@ -1,5 +1,6 @@
 -- A step leaves aside what is left of the rings that went: it does beside them what it does without them
-use Rattle.safety.proofs.Words.{has_isoch, arith, ◌≡◌, ◌≢◌, ◌+◌, ◌-◌, ◌%◌, ◌^◌, ◌==◌, ◌&&◌, ◌∙◌, ◌∷◌, ◌++◌, if◌then◌else◌, ℕ, Bool, true, false, not, List, [], Option, Some, None, is_some, length, drop, ap, refl, sym, inl, inr, eq-eqb, ne_eqb, nat_lt, cases_Bool, cases_eq, cond-true, cond-false, fun_ext, option_and_then, position, list_any, range_with_len, put, put_pair, Block, is_set, block_at, code, cycle, endpoint, kind, same_words, slot, word, counted_code, is_halting, is_stopping, is_success, is_trb_error, is_command_completion, is_link, is_other_event, is_transfer_event, Shape, address_of, cycle_of, is_in, place_count, declared_at, device_context, device_context_bytes, ContextSize, Command, EndpointState, Error, Halted, Stopped, command_of, is_running, Change, Places, Stops, changes, has_room, is_event_place, position_from, Header, Row, Sub, Write, Reg, Bell, Read, Crcr, Dcbaap, Step, NextRow, Look, Report, Finish, Other, Scribble, command_id, event_shape, event_size, ring_having, shape_of, base_address, register_or_zero, ring_cycle_state, RingEvent, Placed, Took, UnderWay, World, next_take}
+use Rattle.traces.specs.Versions.{has_runs}
+use Rattle.safety.proofs.Words.{has_isoch, arith, ◌≡◌, ◌≢◌, ◌+◌, ◌-◌, ◌%◌, ◌^◌, ◌==◌, ◌&&◌, ◌∙◌, ◌∷◌, ◌++◌, if◌then◌else◌, ℕ, Bool, true, false, not, List, [], Option, Some, None, is_some, length, drop, ap, refl, sym, inl, inr, eq-eqb, ne_eqb, nat_lt, cases_Bool, cases_eq, cond-true, cond-false, fun_ext, option_and_then, position, list_any, range_with_len, put, put_pair, Block, is_set, block_at, code, cycle, endpoint, kind, same_words, slot, word, counted_code, is_halting, is_stopping, is_success, is_trb_error, is_command_completion, is_link, is_other_event, is_transfer_event, Shape, address_of, cycle_of, is_in, place_count, declared_at, device_context, device_context_bytes, ContextSize, Command, EndpointState, Error, Halted, Stopped, command_of, is_running, Change, Places, Stops, changes, has_room, is_event_place, position_from, Header, Row, Sub, Write, Reg, Bell, Read, Crcr, Dcbaap, Step, NextRow, Look, Report, Finish, Other, Scribble, command_id, event_shape, event_size, ring_having, shape_of, base_address, register_or_zero, ring_cycle_state, RingEvent, Placed, Took, UnderWay, World, next_take, Halt}
 use Rattle.std.specs.Prelude.{option_map}
 use Rattle.world_state.specs.World as world
 use Rattle.world_state.specs.Takes as takes
@@ -287,7 +288,23 @@ module _ (l : Left) where
       unfolding steps.while_running
       running_so w o u e = chosen w.stopped w.stopped None o None u refl refl e
 
-      scribbled_so : d.context_size ≡ h.context_size → (w : World) (a n : ℕ) → option_map (aside l) (steps.scribbled h w a n) ≡ steps.scribbled d (aside l w) a n
+      halting_so : (w : World) (o u : Option World) → option_map (aside l) o ≡ u → option_map (aside l) (steps.until_halted h w o) ≡ steps.until_halted d (aside l w) u
+      unfolding steps.until_halted
+      halting_so w o u e = chosen w.halted w.halted None (steps.while_running h w o) None (steps.while_running d (aside l w) u) refl refl (running_so w o u e)
+
+      noting_so : (w : World) → aside l (steps.noting_post h w) ≡ steps.noting_post h (aside l w)
+      unfolding steps.noting_post
+      noting_so w = refl
+
+      posting_so : (w : World) (o u : Option World) → option_map (aside l) o ≡ u →
+          option_map (aside l) (steps.until_halted h w (option_map (steps.noting_post h) o)) ≡ steps.until_halted d (aside l w) (option_map (steps.noting_post h) u)
+      posting_so w o u e = halting_so w (option_map (steps.noting_post h) o) (option_map (steps.noting_post h) u) (through (steps.noting_post h) (steps.noting_post h) o u noting_so e)
+
+      halts_so : (w : World) → option_map (aside l) (steps.halts h w) ≡ steps.halts d (aside l w)
+      unfolding steps.halts
+      halts_so w = chosen _ _ _ None _ None refl refl refl
+
+      pub scribbled_so : d.context_size ≡ h.context_size → (w : World) (a n : ℕ) → option_map (aside l) (steps.scribbled h w a n) ≡ steps.scribbled d (aside l w) a n
       unfolding steps.scribbled steps.is_scribbled world.stored
       scribbled_so size w a n =
           chosen _ _ _ None _ None
@@ -307,15 +324,17 @@ module _ (l : Left) where
       pub made_so : d.context_size ≡ h.context_size → (w : World) (s : Step) → s ≢ NextRow → HasNone w → Looks w → option_map (aside l) (steps.made h h w s) ≡ steps.made d h (aside l w) s
       unfolding steps.made
       made_so size w NextRow other had active = absurd (other refl)
-      made_so size w (Look r) other had active = running_so w _ _ (look_so w r active)
-      made_so size w (Report b) other had active = running_so w _ _ (reported_so w b had)
-      made_so size w (Finish b) other had active = running_so w _ _ (finished_so w b)
-      made_so size w (Other b) other had active = running_so w _ _ (other_so w b)
+      made_so size w (Look r) other had active = halting_so w _ _ (look_so w r active)
+      made_so size w (Report b) other had active = posting_so w _ _ (reported_so w b had)
+      made_so size w (Finish b) other had active = posting_so w _ _ (finished_so w b)
+      made_so size w (Other b) other had active = posting_so w _ _ (other_so w b)
       made_so size w (Scribble a x) other had active = running_so w _ _ (scribbled_so size w a x)
+      made_so size w Halt other had active = running_so w _ _ (halts_so w)
 
-    -- ---- rows
+  -- ---- rows
 
-    declared_so : (w : World) (r : ℕ) (blocks : List Block) → l.gone r ≡ false → aside l (driver.declared h w r blocks) ≡ driver.declared d (aside l w) r blocks
+  module _ (h d : Header) where
+    pub declared_so : (w : World) (r : ℕ) (blocks : List Block) → l.gone r ≡ false → aside l (driver.declared h w r blocks) ≡ driver.declared d (aside l w) r blocks
     unfolding driver.declared
     declared_so w r blocks off =
         let q = laid_here l.gone l.queue w.queue r off in
@@ -327,30 +346,21 @@ module _ (l : Left) where
           reported = laid l.gone l.reported w.reported;
         }
 
-    started_so : (w : World) → aside l (driver.started_with h w) ≡ driver.started_with d (aside l w)
-    unfolding driver.started_with
-    started_so w = ap (λ n. aside l (record w { started = true; pointer_of = put w.pointer_of n (base_address (register_or_zero w.register Crcr)); cycle_state = put w.cycle_state n (ring_cycle_state (register_or_zero w.register Crcr)) })) (sym command)
-
-    dequeue_so : (w : World) (a : ℕ) → aside l (driver.with_dequeue h w a) ≡ driver.with_dequeue d (aside l w) a
+    pub dequeue_so : event_shape d ≡ event_shape h → (w : World) (a : ℕ) → aside l (driver.with_dequeue h w a) ≡ driver.with_dequeue d (aside l w) a
     unfolding driver.with_dequeue
-    dequeue_so w a =
+    dequeue_so events w a =
         either (is_event_place (event_shape h) a) (is_event_place (event_shape d) a) (record w { dequeue = position_from (event_shape h) w.dequeue a }) w
         (record (aside l w) { dequeue = position_from (event_shape d) w.dequeue a }) (aside l w) (ap (λ shape. is_event_place shape a) (sym events))
         (ap (λ shape. aside l (record w { dequeue = position_from shape w.dequeue a })) (sym events)) refl
 
-    bell_so : (w : World) (s t : ℕ) → aside l (driver.bell_row h w s t) ≡ driver.bell_row d (aside l w) s t
+    pub bell_so : command_id d ≡ command_id h → (w : World) (s t : ℕ) → aside l (driver.bell_row h w s t) ≡ driver.bell_row d (aside l w) s t
     unfolding driver.bell_row driver.activated driver.endpoint_bell
-    bell_so w s t = grind (arith, either, command)
+    bell_so command w s t = grind (arith, either, command)
 
-    read_so : (w : World) (e : Block) → option_map (aside l) (driver.event_read h w e) ≡ driver.event_read d (aside l w) e
+    pub read_so : event_shape d ≡ event_shape h → (w : World) (e : Block) → option_map (aside l) (driver.event_read h w e) ≡ driver.event_read d (aside l w) e
     unfolding driver.event_read world.event_at
-    read_so w e = chosen _ _ _ None _ None (ap (λ (shape : Shape). nat_lt w.reads w.posted && same_words (block_at w.memory (address_of shape w.reads)) e) (sym events)) refl refl
+    read_so events w e = chosen _ _ _ None _ None (ap (λ (shape : Shape). nat_lt w.reads w.posted && same_words (block_at w.memory (address_of shape w.reads)) e) (sym events)) refl refl
 
-    pub row_so : (w : World) (row : Row) → ((r : ℕ) (blocks : List Block) → row ≡ Sub r blocks → l.gone r ≡ false) → option_map (aside l) (driver.row_done h w row) ≡ driver.row_done d (aside l w) row
-    unfolding driver.row_done driver.register_row driver.valued world.stored driver.run_or_stop
-    row_so w (Sub r blocks) lives = some _ _ (declared_so w r blocks (lives r blocks refl))
-    row_so w (Write a x) lives = refl
-    row_so w (Reg r v) lives = grind (arith, either, started_so, dequeue_so)
-    row_so w (Bell s t) lives = some _ _ (bell_so w s t)
-    row_so w (Read e) lives = read_so w e
-    row_so w _ lives = refl
+    pub phase_so : d.version ≡ h.version → (w : World) (v : ℕ) → aside l (driver.run_or_stop h w v) ≡ driver.run_or_stop d (aside l w) v
+    unfolding driver.run_or_stop driver.runs_once driver.runs_again
+    phase_so version w v = either (has_runs h.version) (has_runs d.version) _ _ _ _ (ap (λ n. has_runs n) (sym version)) (grind arith) (grind arith)

@@ -1,20 +1,13 @@
 -- A ring that goes: what a driver keeps it keeps still
-use Rattle.safety.proofs.LowerLaws.{[], ◌≡◌, ◌≢◌, ◌<◌, ◌==◌, ◌∷◌, ◌∙◌, ℕ, not, Bool, true, false, List, Some, find, filter, get_or, length, nat_lt, arith, refl, sym, ap, subst, inl, inr, eqb-true, eq-eqb, ne_eqb, rules, put, new_ring, emptied, forgotten, is_bad_free, is_had, without_ring, list_all, and_from, is_shape, may_stand_together, Block, World, Agrees, Evt, Xfer, RingKind, same_Some, cases_Bool, cases_eq, list_any, list_any_at, range_with_len, cond-true, cond-false, false≢true, false_from_ne_true, none-some, not-false, not_from_false, not-true, or_parts, is_inside, place_count, RingView, RingKeeps, Command, device_context_bytes, input_context_bytes, Header, Ring, IsHeader, is_command_kind, is_event_kind, is_transfer_kind, is_ring, ring_with, shape_of, shape_or, command_ring, command_id, event_ring, event_shape, event_size, ring_having, id_of, id_or_none, touches_ring, Known, entry_of, Binding, binds, ring_bound, binds_ring, is_being_bound, any_of, from_filter, IsIn, is_transfer_ring, IsDriverRing, IsTransferRing, IsUnfinished, DriverKeeps, touches, context_lies, transfer_ring, found_in, header_parts, together, transfer_not_command, having_transfer, other_ids, in_range, unfinished_fails}
+use Rattle.safety.proofs.LowerLaws.{[], ◌≡◌, ◌≢◌, ◌<◌, ◌==◌, ◌∷◌, ◌∙◌, ℕ, not, Bool, true, false, List, Some, find, filter, get_or, length, nat_lt, arith, refl, sym, ap, subst, inl, inr, eqb-true, eq-eqb, ne_eqb, rules, put, new_ring, emptied, forgotten, is_bad_free, is_had, without_ring, list_all, and_from, is_shape, may_stand_together, Block, World, Agrees, Evt, Xfer, RingKind, same_Some, cases_Bool, cases_eq, list_any, list_any_at, range_with_len, cond-true, cond-false, false≢true, false_from_ne_true, none-some, not-false, not_from_false, not-true, or_parts, is_inside, place_count, RingView, RingKeeps, Command, device_context_bytes, input_context_bytes, Header, Ring, IsHeader, is_command_kind, is_event_kind, is_transfer_kind, is_ring, ring_with, shape_of, shape_or, command_ring, command_id, event_ring, event_shape, event_size, ring_having, id_of, id_or_none, touches_ring, Known, entry_of, Binding, binds, ring_bound, binds_ring, is_being_bound, any_of, from_filter, IsIn, is_transfer_ring, IsDriverRing, IsTransferRing, IsUnfinished, DriverKeeps, touches, context_lies, transfer_ring, found_in, header_parts, together, transfer_not_command, having_transfer, other_ids, in_range, unfinished_fails, ◌||◌, ◌&&◌, None, fun_ext, and_right, Crcr, is_in_use, goes_badly}
+use Rattle.ring_knowledge.specs.Histories.{gone as known_gone}
+use Rattle.traces.specs.Header.{event_id}
+use Rattle.traces.specs.Register.{same_register}
+use Rattle.safety.proofs.RingIds.{event_no_transfer}
 use Rattle.safety.proofs.RingChanges.OtherRings.{forgetting_agrees, OtherRings, IsAsBefore, BindsAsBefore, other_rings_keep}
 use Rattle.safety.proofs.RingChanges.ListedRings.{none_kept, all_kept, together_kept}
-
--- ---- some rings of a list
-
-module _ (p keep : Ring → Bool) where
-  -- what passes is among them, so the same one is found
-  pub find_kept : (rs : List Ring) → ((q : Ring) → IsIn q rs → p q ≡ true → keep q ≡ true) → find p (filter keep rs) ≡ find p rs
-  find_kept [] kept = refl
-  find_kept (y ∷ ys) kept = grind (arith, cases_Bool (p y), cases_Bool (keep y), kept y (inl refl), find_kept ys (λ q at. kept q (inr at)))
-
-  -- the one that is found is among them
-  pub found_kept : (rs : List Ring) (q : Ring) → find p rs ≡ Some q → keep q ≡ true → find p (filter keep rs) ≡ Some q
-  found_kept [] q found kept = absurd (none-some q found)
-  found_kept (y ∷ ys) q found kept = grind (arith, cases_Bool (p y), cases_Bool (keep y), found_kept ys q, same_Some)
+pub use Rattle.safety.proofs.RingChanges.ListedRings.{find_kept, found_kept}
+use Rattle.safety.proofs.RingChanges.LeftOut as left
 
 transfer_no_command : (kind : RingKind) → is_transfer_kind kind ≡ true → is_command_kind kind ≡ false
 transfer_no_command o t = grind (arith, false≢true)
@@ -22,7 +15,12 @@ transfer_no_command o t = grind (arith, false≢true)
 transfer_no_event : (kind : RingKind) → is_transfer_kind kind ≡ true → is_event_kind kind ≡ false
 transfer_no_event o t = grind (arith, false≢true)
 
-module _ (h : Header) (is : IsHeader h) (k : Known) (d : DriverKeeps h k) (id : ℕ) (good : is_bad_free h k id ≡ false) where
+-- what is asked of a transfer ring
+pub use_is : (h : Header) (k : Known) (id : ℕ) (kind : RingKind) → is_transfer_kind kind ≡ true → is_in_use h k id kind ≡ (is_had k id || is_being_bound h k id)
+unfolding is_in_use
+use_is h k id o transfer = grind (arith, false≢true)
+
+module _ (h : Header) (is : IsHeader h) (k : Known) (d : DriverKeeps h k) (id : ℕ) (gone : IsTransferRing h id) (good : is_bad_free h k id ≡ false) where
   abbrev keep : Ring → Bool
   keep q = not (q.id == id)
 
@@ -32,37 +30,18 @@ module _ (h : Header) (is : IsHeader h) (k : Known) (d : DriverKeeps h k) (id : 
   abbrev views : ℕ → RingView
   views = put k.ring id new_ring
 
-  pub parts : (is_transfer_ring (ring_with h id) ≡ true) × (is_had k id ≡ false) × (is_being_bound h k id ≡ false)
-  unfolding is_bad_free
-  parts = search (rules, or_parts, not, is_transfer_ring, ring_with, is_had, is_being_bound, not-false)
-
-  pub gone : IsTransferRing h id
-  gone = transfer_ring h id parts.0
+  pub parts : (is_had k id ≡ false) × (is_being_bound h k id ≡ false)
+  unfolding is_bad_free goes_badly
+  parts = or_parts (is_had k id) (is_being_bound h k id) (sym (use_is h k id gone.ring.shape.kind gone.kind) ∙ sym (ap (goes_badly h k id) gone.found) ∙ good)
 
   -- ---- other rings are found as before
 
   stays : (q : Ring) → q.id ≢ id → keep q ≡ true
-  stays q other = not_from_false (q.id == id) (ne_eqb q.id id other)
-
-  -- no two rings have its ID
-  only_one : (q : Ring) → IsIn q h.rings → q.id ≡ id → q ≡ gone.ring
-  only_one q at same =
-      let there = found_in (λ x. x.id == id) h.rings gone.ring gone.found in
-      let both : q.id ≡ gone.ring.id = same ∙ sym (eqb-true gone.ring.id id there.1) in
-      elim (together h.rings q gone.ring (header_parts h is).1 at there.0) [
-        | inl one ↦ one
-        | inr apart ↦ elim apart [
-          | inl first ↦ absurd (false≢true (sym (other_ids q gone.ring first) ∙ eq-eqb q.id gone.ring.id both))
-          | inr second ↦ absurd (false≢true (sym (other_ids gone.ring q second) ∙ eq-eqb gone.ring.id q.id (sym both)))
-        ]
-      ]
-
-  -- a ring of another kind has another ID
-  of_other_kind : (test : Ring → Bool) → test gone.ring ≡ false → (q : Ring) → IsIn q h.rings → test q ≡ true → keep q ≡ true
-  of_other_kind test fails q at passes = stays q (λ same. false≢true (sym fails ∙ ap test (sym (only_one q at same)) ∙ passes))
+  stays q other = left.stays h is id gone.ring gone.found q other
 
   pub ring_same : (s : ℕ) → s ≢ id → ring_with g s ≡ ring_with h s
-  ring_same s other = find_kept (λ q. q.id == s) keep h.rings (λ q at passes. stays q (λ same. other (sym (eqb-true q.id s passes) ∙ same)))
+  unfolding without_ring
+  ring_same s other = left.ring_same h is id gone.ring gone.found s other
 
   pub shape_same : (s : ℕ) → s ≢ id → shape_of g s ≡ shape_of h s
   unfolding shape_of
@@ -70,9 +49,8 @@ module _ (h : Header) (is : IsHeader h) (k : Known) (d : DriverKeeps h k) (id : 
 
   -- it isn't there any more
   pub not_there : (s : ℕ) (q : Ring) → ring_with g s ≡ Some q → s ≢ id
-  not_there s q found same =
-      let there = found_in (λ x. x.id == s) (filter keep h.rings) q found in
-      false≢true (sym (not-true (q.id == id) ((from_filter keep h.rings q there.0).1)) ∙ eq-eqb q.id id (eqb-true q.id s there.1 ∙ same))
+  unfolding without_ring
+  not_there s q found = left.not_there h is id gone.ring gone.found s q found
 
   driver_before : (s : ℕ) → IsDriverRing g s → IsDriverRing h s
   driver_before s ring = record { ring = ring.ring; found = sym (ring_same s (not_there s ring.ring ring.found)) ∙ ring.found; kind = ring.kind }
@@ -84,12 +62,12 @@ module _ (h : Header) (is : IsHeader h) (k : Known) (d : DriverKeeps h k) (id : 
   transfer_still s other ring = search (rules, views, ring_same, shape_same, view_same)
 
   command_ring_same : command_ring g ≡ command_ring h
-  unfolding command_ring
-  command_ring_same = find_kept (λ q. is_command_kind q.shape.kind) keep h.rings (of_other_kind (λ q. is_command_kind q.shape.kind) (transfer_no_command gone.ring.shape.kind gone.kind))
+  unfolding without_ring
+  command_ring_same = left.command_still h is id gone.ring gone.found (transfer_no_command gone.ring.shape.kind gone.kind)
 
   pub event_ring_same : event_ring g ≡ event_ring h
-  unfolding event_ring
-  event_ring_same = find_kept (λ q. is_event_kind q.shape.kind) keep h.rings (of_other_kind (λ q. is_event_kind q.shape.kind) (transfer_no_event gone.ring.shape.kind gone.kind))
+  unfolding without_ring
+  event_ring_same = left.event_still h is id gone.ring gone.found (transfer_no_event gone.ring.shape.kind gone.kind)
 
   pub command_same : command_id g ≡ command_id h
   unfolding command_id
@@ -116,7 +94,7 @@ module _ (h : Header) (is : IsHeader h) (k : Known) (d : DriverKeeps h k) (id : 
       let some_index : 0 < i = grind (arith, d.states.no_endpoint s i, none-some r) in
       let row : ℕ → Bool = λ t. list_any (λ j. is_ring id (k.ring_of t j)) (range_with_len 1 31) in
       let inner : row s ≡ true = any_of (λ j. is_ring id (k.ring_of s j)) (range_with_len 1 31) i (in_range 1 31 i (omega arith) (omega (arith, low.1))) (ap (is_ring id) has ∙ eq-eqb r id same) in
-      false≢true (sym parts.1 ∙ any_of row (range_with_len 1 255) s (in_range 1 255 s (omega arith) (omega (arith, low.0))) inner)
+      false≢true (sym parts.0 ∙ any_of row (range_with_len 1 255) s (in_range 1 255 s (omega arith) (omega (arith, low.0))) inner)
 
   pub having_same : (p s : ℕ) → s ≢ id → ring_having h p ≡ Some s → ring_having g p ≡ Some s
   unfolding ring_having
@@ -132,7 +110,7 @@ module _ (h : Header) (is : IsHeader h) (k : Known) (d : DriverKeeps h k) (id : 
   unfolding is_being_bound binds_ring
   none_binds p c u i b low =
       false_from_ne_true (is_ring id (ring_bound h (get_or (binds h k c) i b))) (λ t.
-      false≢true (sym (unfinished_fails h k (binds_ring h k id) p c parts.2 u) ∙ list_any_at (λ x. is_ring id (ring_bound h x)) (binds h k c) i b low t))
+      false≢true (sym (unfinished_fails h k (binds_ring h k id) p c parts.1 u) ∙ list_any_at (λ x. is_ring id (ring_bound h x)) (binds h k c) i b low t))
 
   area_apart : (from len : ℕ) → touches_ring h from len ≡ false → touches_ring g from len ≡ false
   unfolding touches_ring
@@ -157,6 +135,22 @@ module _ (h : Header) (is : IsHeader h) (k : Known) (d : DriverKeeps h k) (id : 
     contexts = λ p n c u at. area_apart n (input_context_bytes h.context_size) (context_lies h k d p n c u at).rings;
     binds = λ p c u i b low. bound_same (get_or (binds h k c) i b) (none_binds p c u i b low);
   }
+
+  -- it isn't the event ring
+  no_event : event_id h ≢ id
+  no_event same = event_no_transfer h is (ap (λ n. is_transfer_ring (ring_with h n)) same ∙ ap is_transfer_ring gone.found ∙ gone.kind)
+
+  -- nothing else is forgotten of it than of any ID
+  pub gone_is : known_gone h k id ≡ forgotten k id
+  unfolding known_gone forgotten
+  gone_is = λ j. record k {
+    ring = put k.ring id new_ring;
+    register = fun_ext (λ q. cond-false (same_register q Crcr && id == command_id h) None (k.register q) (and_right (same_register q Crcr) (id == command_id h) (ne_eqb id (command_id h) (λ same. no_command (sym same))))) j;
+    soiled = fun_ext (λ a. ap (λ b. k.soiled a || (b && touches (event_shape h) a 4)) (ne_eqb id (event_id h) (λ same. no_event (sym same))) ∙ or_false (k.soiled a)) j;
+  }
+    where
+      or_false : (b : Bool) → (b || false) ≡ b
+      or_false o = grind arith
 
   -- what a driver keeps, without the ring that goes
   pub gone_ring_kept : DriverKeeps (without_ring h id) (forgotten k id)

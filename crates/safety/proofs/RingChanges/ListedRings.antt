@@ -1,5 +1,5 @@
 -- Lists of rings that may stand together, with one more and with some left out
-use Rattle.safety.proofs.Words.{rules, [], ◌≡◌, ◌*◌, ◌<◌, ◌||◌, ◌++◌, ◌∷◌, ◌∙◌, not, Bool, true, false, List, Some, None, find, filter, nat_lt, arith, refl, sym, ap, inl, inr, lt-ltb, Segment, rings_overlap, segments_overlap, cases_Bool, list_all, list_any, list_any-append, and_from, and_parts, or_from, cond-true, cond-false, false≢true, false_from_ne_true, none-some, not_from_false, not-true, any_of, some_of, from_filter, IsIn, Shape, Ring, clash, may_stand_together, overlap, touches}
+use Rattle.safety.proofs.Words.{rules, [], ◌≡◌, ◌*◌, ◌<◌, ◌||◌, ◌++◌, ◌∷◌, ◌∙◌, not, Bool, true, false, List, Some, None, find, filter, nat_lt, arith, refl, sym, ap, inl, inr, lt-ltb, Segment, rings_overlap, segments_overlap, cases_Bool, list_all, list_any, list_any-append, and_from, and_parts, or_from, cond-true, cond-false, false≢true, false_from_ne_true, none-some, not_from_false, not-true, any_of, some_of, from_filter, IsIn, Shape, Ring, clash, may_stand_together, overlap, touches, same_Some}
 use Rattle.safety.proofs.AreaFacts.{overlap_turned}
 
 pub all_more : (p : Ring → Bool) (rs : List Ring) (r : Ring) → list_all p rs ≡ true → p r ≡ true → list_all p (rs ++ r ∷ []) ≡ true
@@ -54,3 +54,16 @@ overlaps_none a b some apart =
     let turned = overlap_turned t.0.base (16 * t.0.count) s.0.base (16 * s.0.count)
     (false_from_ne_true _ (λ over. false≢true (sym (apart t.0 t.1) ∙ and_from _ _ low (any_of (λ x. overlap t.0.base (16 * t.0.count) x.base (16 * x.count)) a.segments s.0 s.1 over)))) in
     false≢true (sym turned ∙ t.2))
+
+-- ---- some rings of a list
+
+module _ (p keep : Ring → Bool) where
+  -- what passes is among them, so the same one is found
+  pub find_kept : (rs : List Ring) → ((q : Ring) → IsIn q rs → p q ≡ true → keep q ≡ true) → find p (filter keep rs) ≡ find p rs
+  find_kept [] kept = refl
+  find_kept (y ∷ ys) kept = grind (arith, cases_Bool (p y), cases_Bool (keep y), kept y (inl refl), find_kept ys (λ q at. kept q (inr at)))
+
+  -- the one that is found is among them
+  pub found_kept : (rs : List Ring) (q : Ring) → find p rs ≡ Some q → keep q ≡ true → find p (filter keep rs) ≡ Some q
+  found_kept [] q found kept = absurd (none-some q found)
+  found_kept (y ∷ ys) q found kept = grind (arith, cases_Bool (p y), cases_Bool (keep y), found_kept ys q, same_Some)

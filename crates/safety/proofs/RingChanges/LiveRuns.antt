@@ -1,6 +1,6 @@
 -- A run as the rings that live see it: of a ring that goes nothing is left. Where rows break no rule nothing comes of such a ring any more, so
 -- it is the run of the model, but for what was declared and happened on rings that went (`Alike` in `Alike.antt`)
-use Rattle.safety.proofs.Words.{List, [], ◌∷◌, Option, Some, None, option_and_then, Header, Step, NextRow, Row, RingRow, FreeRow, NopRow, World, opening, row_done, emptied, without_descriptor, header_after, counted, made}
+use Rattle.safety.proofs.Words.{List, [], ◌∷◌, Option, Some, None, option_and_then, Header, Step, NextRow, Row, RingRow, FreeRow, NopRow, World, opening, row_done, resting, without_descriptor, header_after, counted, made}
 use Rattle.std.specs.Prelude.{option_map}
 
 -- the rings that live, the rows still to come, and the world
@@ -12,9 +12,10 @@ pub record LiveScene : Type 0 where
 abbrev pub live_with : Header → List Row → World → LiveScene
 live_with h rows w = record { header = h; rows = rows; world = w }
 
+-- nothing is left of a ring that goes, and it isn't looked at any more
 abbrev pub live_row : Header → World → Row → Option World
-live_row h w (RingRow ring) = Some (emptied w ring.id)
-live_row h w (FreeRow id) = Some (emptied w id)
+live_row h w (RingRow ring) = Some (resting w ring.id)
+live_row h w (FreeRow id) = Some (resting w id)
 live_row h w (NopRow r p) = Some (without_descriptor w r p)
 live_row h w row = row_done h w row
 

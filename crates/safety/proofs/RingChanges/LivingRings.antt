@@ -1,27 +1,39 @@
 -- The rings that were declared, and those of them that live: what a ring that comes or goes makes of both
-use Rattle.safety.proofs.MiddleLaws.{arith, [], ◌≡◌, ◌≢◌, ◌⊎◌, ◌∷◌, ◌++◌, ◌||◌, ◌==◌, ◌∙◌, ℕ, not, Bool, true, false, List, Some, None, find, filter, refl, sym, ap, subst, inl, inr, eq-eqb, eqb-true, ne_eqb, cases_Bool, cases_eq, cond-true, cond-false, false≢true, none-some, same_Some, put, IsIn, Header, Ring, World, IsHeader, ring_with, shape_of, command_id, event_shape, emptied, with_ring, without_ring, is_bad_free, Known, DriverKeeps, ◌&&◌, if◌then◌else◌, fun_ext, and_parts, clash, from_filter, is_command_kind, is_event_kind, is_transfer_kind, list_any, list_any-append, may_stand_together, not-true, not_from_false, or_from, or_parts, shape_or, Evt, Xfer, put_at, put_off, header_parts, other_ids, Left, aside, laid, none_found, command_ring, event_ring, id_or_none, is_in_way, listed, may_come, RingEvent, has_other_words, is_out_of_order}
+use Rattle.safety.proofs.Words.{any_of}
+use Rattle.trb.specs.declared.ring_kind.RingKind.TheVariants.{Evt, Xfer}
+use Rattle.safety.proofs.MiddleLaws.{arith, [], ◌≡◌, ◌≢◌, ◌⊎◌, ◌∷◌, ◌++◌, ◌||◌, ◌==◌, ◌∙◌, ℕ, not, Bool, true, false, List, Some, None, find, filter, refl, sym, ap, subst, inl, inr, eq-eqb, eqb-true, ne_eqb, cases_Bool, cases_eq, cond-true, cond-false, false≢true, none-some, same_Some, put, IsIn, Header, Ring, World, IsHeader, ring_with, shape_of, command_id, event_shape, emptied, with_ring, without_ring, ◌&&◌, if◌then◌else◌, fun_ext, and_parts, clash, from_filter, is_command_kind, is_event_kind, is_transfer_kind, list_any, list_any-append, may_stand_together, not-true, not_from_false, or_from, or_parts, shape_or, put_at, put_off, header_parts, other_ids, Left, aside, laid, none_found, command_ring, event_ring, id_or_none, is_in_way, listed, may_come, RingEvent, has_other_words, is_out_of_order, cases_option, found_in, RingKind, or_left, or_right, in_filter}
 use Rattle.safety.proofs.LeasesBehind.{from_both}
 use Rattle.safety.proofs.RingChanges.NewRings.{found_before, found_new}
-use Rattle.safety.proofs.RingChanges.GoneRings as going
+use Rattle.safety.proofs.RingChanges.ListedRings.{find_kept, found_kept}
+use Rattle.safety.proofs.RingChanges.LeftOut.{is_command, is_event}
+use Rattle.safety.proofs.RingChanges.LeftOut as left
+use Rattle.traces.specs.Header.{no_id}
 
 -- the takes of a ring show no harm
 abbrev pub TakesAreRight : Header → ℕ → List RingEvent → Type 0
 TakesAreRight h r events = (is_out_of_order (shape_of h r) events ≡ false) × (has_other_words (shape_of h r) events ≡ false)
 
--- a ring that was declared lives, or is a transfer ring that went, whose takes show no harm
+-- a ring that was declared lives, or it went, and its takes show no harm
 pub record Lists (l : Left) (live declared : Header) : Type 0 where
   pub size : declared.context_size ≡ live.context_size
-  pub command : command_id declared ≡ command_id live
-  pub events : event_shape declared ≡ event_shape live
+  -- the command ring and the event ring that live are those that the controller uses
+  pub command : (q : Ring) → command_ring live ≡ Some q → command_ring declared ≡ Some q
+  pub events : (q : Ring) → event_ring live ≡ Some q → event_ring declared ≡ Some q
   pub version : declared.version ≡ live.version
   pub found : (r : ℕ) (q : Ring) → ring_with live r ≡ Some q → (ring_with declared r ≡ Some q) × (l.gone r ≡ false)
-  pub each : (q : Ring) → IsIn q declared.rings → (ring_with live q.id ≡ Some q) ⊎ ((l.gone q.id ≡ true) × (q.shape.kind ≡ Xfer))
+  pub each : (q : Ring) → IsIn q declared.rings → (ring_with live q.id ≡ Some q) ⊎ (l.gone q.id ≡ true)
   pub rests : (r : ℕ) → l.gone r ≡ true → TakesAreRight declared r (l.events r)
 
 -- ---- before the first row all of them live
 
 abbrev pub none_gone : Left
 none_gone = record { gone = λ r. false; queue = λ r. []; lengths = λ r. []; events = λ r. []; reported = λ r. 0 }
+
+command_no_transfer : (kind : RingKind) → is_command_kind kind ≡ true → is_transfer_kind kind ≡ false
+command_no_transfer o c = grind (arith, false≢true)
+
+event_no_transfer : (kind : RingKind) → is_event_kind kind ≡ true → is_transfer_kind kind ≡ false
+event_no_transfer o e = grind (arith, false≢true)
 
 pub fails_there : (p : Ring → Bool) (rs : List Ring) (q : Ring) → list_any p rs ≡ false → IsIn q rs → p q ≡ false
 fails_there p [] q none at = absurd at
@@ -44,8 +56,8 @@ found_by_id (y ∷ ys) q together at =
 pub all_live : (h : Header) → IsHeader h → Lists none_gone h h
 all_live h is = record {
   size = refl;
-  command = refl;
-  events = refl;
+  command = λ q at. at;
+  events = λ q at. at;
   version = refl;
   found = λ r q at. (at, refl);
   each = λ q at. inl (found_by_id h.rings q (header_parts h is).1 at);
@@ -110,42 +122,82 @@ module _ (l : Left) (live declared : Header) (lists : Lists l live declared) whe
   unfolding shape_of
   shape_same r q at = ap (λ o. shape_or Xfer o) ((lists.found r q at).0 ∙ sym at)
 
+  -- of the command ring and the event ring the same is so where they live
+  pub command_is : (q : Ring) → command_ring live ≡ Some q → command_id declared ≡ command_id live
+  unfolding command_id
+  command_is q at = ap id_or_none (lists.command q at ∙ sym at)
+
+  pub events_are : (q : Ring) → event_ring live ≡ Some q → event_shape declared ≡ event_shape live
+  unfolding event_shape
+  events_are q at = ap (λ o. shape_or Evt o) (lists.events q at ∙ sym at)
+
+  -- else the command ring went, or there never was one
+  pub command_went : command_ring live ≡ None → (command_id declared ≡ no_id) ⊎ (l.gone (command_id declared) ≡ true)
+  unfolding command_id command_ring
+  command_went none =
+      elim (cases_option (find (λ q. is_command_kind q.shape.kind) declared.rings)) [
+        | inl never ↦ inl (ap id_or_none never)
+        | inr some ↦
+            let there = found_in (λ q. is_command_kind q.shape.kind) declared.rings some.0 some.1 in
+            elim (lists.each some.0 there.0) [
+              | inl lives ↦ absurd (false≢true (sym (none_found (λ q. is_command_kind q.shape.kind) live.rings none some.0 (found_in (λ p. p.id == some.0.id) live.rings some.0 lives).0) ∙ there.1))
+              | inr went ↦ inr (ap (λ o. l.gone (id_or_none o)) some.1 ∙ went)
+            ]
+      ]
+
   -- ---- a ring goes
 
-  module _ (is : IsHeader live) (k : Known) (d : DriverKeeps live k) (id : ℕ) (good : is_bad_free live k id ≡ false) (w : World) (right : TakesAreRight live id (w.events id)) where
-    was : (q : Ring) × (ring_with live id ≡ Some q) × (is_transfer_kind q.shape.kind ≡ true)
-    was = let t = going.gone live is k d id good in (t.ring, t.found, t.kind)
-
+  module _ (is : IsHeader live) (id : ℕ) (ring : Ring) (there : ring_with live id ≡ Some ring) (w : World) (right : TakesAreRight live id (w.events id)) where
     pub was_live : l.gone id ≡ false
-    was_live = (lists.found id was.0 was.1).1
+    was_live = (lists.found id ring there).1
 
     still_gone : (r : ℕ) → l.gone r ≡ true → put l.gone id true r ≡ true
     still_gone r went = elim (cases_eq r id) [ inl here ↦ ap (put l.gone id true) here ∙ put_at l.gone id true | inr other ↦ put_off l.gone id true r other ∙ went ]
 
-    pub goes_lists : Lists (left_behind l id w) (without_ring live id) declared
+    -- one that is found still was there before
+    command_before : (q : Ring) → command_ring (without_ring live id) ≡ Some q → command_ring live ≡ Some q
+    command_before q at =
+        elim (cases_Bool (is_command ring)) [
+          | inl it ↦ absurd (none-some q (sym (left.no_command_still live is id ring there it) ∙ at))
+          | inr other ↦ sym (left.command_still live is id ring there other) ∙ at
+        ]
+
+    event_before : (q : Ring) → event_ring (without_ring live id) ≡ Some q → event_ring live ≡ Some q
+    event_before q at =
+        elim (cases_Bool (is_event ring)) [
+          | inl it ↦ absurd (none-some q (sym (left.no_event_still live is id ring there it) ∙ at))
+          | inr other ↦ sym (left.event_still live is id ring there other) ∙ at
+        ]
+
+    without_size : declared.context_size ≡ (without_ring live id).context_size
     unfolding without_ring
+    without_size = lists.size
+
+    without_version : declared.version ≡ (without_ring live id).version
+    unfolding without_ring
+    without_version = lists.version
+
+    pub goes_lists : Lists (left_behind l id w) (without_ring live id) declared
     goes_lists = record {
-      size = lists.size;
-      command = lists.command ∙ sym (going.command_same live is k d id good);
-      events = lists.events ∙ sym (going.events_same live is k d id good);
-      version = lists.version;
+      size = without_size;
+      command = λ q at. lists.command q (command_before q at);
+      events = λ q at. lists.events q (event_before q at);
+      version = without_version;
       found = λ r q at.
-          let other = going.not_there live is k d id good r q at in
-          let before = lists.found r q (sym (going.ring_same live is k d id good r other) ∙ at) in
+          let other = left.not_there live is id ring there r q at in
+          let before = lists.found r q (sym (left.ring_same live is id ring there r other) ∙ at) in
           (before.0, put_off l.gone id true r other ∙ before.1);
       each = λ q at. elim (lists.each q at) [
         | inl lives ↦ elim (cases_eq q.id id) [
-          | inl here ↦
-              let same : was.0 ≡ q = same_Some was.0 q (sym was.1 ∙ ap (ring_with live) (sym here) ∙ lives) in
-              inr (ap (put l.gone id true) here ∙ put_at l.gone id true, (grind (arith, false≢true)))
-          | inr other ↦ inl (going.ring_same live is k d id good q.id other ∙ lives)
+          | inl here ↦ inr (ap (put l.gone id true) here ∙ put_at l.gone id true)
+          | inr other ↦ inl (left.ring_same live is id ring there q.id other ∙ lives)
         ]
-        | inr went ↦ inr (still_gone q.id went.0, went.1)
+        | inr went ↦ inr (still_gone q.id went)
       ];
       rests = λ r went. elim (cases_eq r id) [
         | inl here ↦
             let events = ap (put l.events id (w.events id)) here ∙ put_at l.events id (w.events id) in
-            let shape = ap (shape_of declared) here ∙ shape_same id was.0 was.1 in
+            let shape = ap (shape_of declared) here ∙ shape_same id ring there in
             ((λ j. is_out_of_order (shape j) (events j)) ∙ right.0, (λ j. has_other_words (shape j) (events j)) ∙ right.1)
         | inr other ↦
             let before = lists.rests r (sym (put_off l.gone id true r other) ∙ went) in
@@ -154,64 +206,93 @@ module _ (l : Left) (live declared : Header) (lists : Lists l live declared) whe
       ];
     }
 
-  -- ---- a ring comes: none that lives has its ID
+  -- ---- a ring comes: none that lives has its ID, and it is the one of its kind
 
-  module _ (ring : Ring) (kind : ring.shape.kind ≡ Xfer) (absent : ring_with live ring.id ≡ None) where
+  module _ (ring : Ring) (absent : ring_with live ring.id ≡ None) (no_command : is_command ring ≡ true → command_ring live ≡ None) (no_event : is_event ring ≡ true → event_ring live ≡ None) where
     abbrev keep : Ring → Bool
     keep q = not (q.id == ring.id)
+
+    abbrev kept : List Ring
+    kept = filter keep declared.rings
+
+    -- it stands behind the others, or before them
+    abbrev rings_now : List Ring
+    rings_now = (listed declared ring).rings
+
+    stands : (rings_now ≡ kept ++ ring ∷ []) ⊎ (rings_now ≡ ring ∷ kept)
+    unfolding listed with_ring without_ring
+    stands = elim (cases_Bool (is_transfer_kind ring.shape.kind)) [ inl transfer ↦ inl (grind arith) | inr other ↦ inr (grind arith) ]
 
     keeps : (q : Ring) → q.id ≢ ring.id → keep q ≡ true
     keeps q other = not_from_false (q.id == ring.id) (ne_eqb q.id ring.id other)
 
-    -- those of its ID are transfer rings that went
-    of_other_kind : (test : Ring → Bool) → ((q : Ring) → q.shape.kind ≡ Xfer → test q ≡ false) → (q : Ring) → IsIn q declared.rings → test q ≡ true → keep q ≡ true
-    of_other_kind test fails q at passes =
-        elim (cases_eq q.id ring.id) [
-          | inl same ↦ elim (lists.each q at) [
-            | inl lives ↦ absurd (none-some q (sym absent ∙ ap (ring_with live) (sym same) ∙ lives))
-            | inr went ↦ absurd (false≢true (sym (fails q went.1) ∙ passes))
-          ]
-          | inr other ↦ keeps q other
-        ]
-
-    -- what neither it is nor a ring of its ID is found as before
-    found_as_before : (test : Ring → Bool) → test ring ≡ false → ((q : Ring) → IsIn q declared.rings → test q ≡ true → keep q ≡ true) →
-        find test (filter keep declared.rings ++ ring ∷ []) ≡ find test declared.rings
-    found_as_before test fails kept = found_before test (filter keep declared.rings) ring fails ∙ going.find_kept test keep declared.rings kept
-
-    command_so : command_id (listed declared ring) ≡ command_id declared
-    unfolding command_id command_ring listed with_ring without_ring
-    command_so =
-        ap id_or_none (found_as_before (λ q. is_command_kind q.shape.kind) (ap (λ n. is_command_kind n) kind) (of_other_kind (λ q. is_command_kind q.shape.kind) (λ q is. ap (λ n. is_command_kind n) is)))
-
-    events_so : event_shape (listed declared ring) ≡ event_shape declared
-    unfolding event_shape event_ring listed with_ring without_ring
-    events_so =
-        ap (λ o. shape_or Evt o) (found_as_before (λ q. is_event_kind q.shape.kind) (ap (λ n. is_event_kind n) kind) (of_other_kind (λ q. is_event_kind q.shape.kind) (λ q is. ap (λ n. is_event_kind n) is)))
-
-    command_live : command_id (with_ring live ring) ≡ command_id live
-    unfolding command_id command_ring with_ring
-    command_live = ap id_or_none (found_before (λ q. is_command_kind q.shape.kind) live.rings ring (ap (λ n. is_command_kind n) kind))
-
-    events_live : event_shape (with_ring live ring) ≡ event_shape live
-    unfolding event_shape event_ring with_ring
-    events_live = ap (λ o. shape_or Evt o) (found_before (λ q. is_event_kind q.shape.kind) live.rings ring (ap (λ n. is_event_kind n) kind))
-
     none_left : (rs : List Ring) → find (λ q. q.id == ring.id) (filter keep rs) ≡ None
     none_left [] = refl
     none_left (y ∷ ys) = grind (arith, cases_Bool (y.id == ring.id), none_left ys)
+
+    -- what it isn't is found among the others
+    found_beside : (test : Ring → Bool) → test ring ≡ false → find test rings_now ≡ find test kept
+    found_beside test fails =
+        elim stands [
+          | inl behind ↦ ap (find test) behind ∙ found_before test kept ring fails
+          | inr before ↦ ap (find test) before ∙ cond-false (test ring) (Some ring) (find test kept) fails
+        ]
+
+    -- what none of the others is it is
+    found_here : (test : Ring → Bool) → test ring ≡ true → (find test kept ≡ None) ⊎ (rings_now ≡ ring ∷ kept) → find test rings_now ≡ Some ring
+    found_here test passes alone =
+        let first : rings_now ≡ ring ∷ kept → find test rings_now ≡ Some ring = λ e. ap (find test) e ∙ cond-true (test ring) (Some ring) (find test kept) passes in
+        elim stands [
+          | inr before ↦ first before
+          | inl behind ↦ elim alone [ inl none ↦ ap (find test) behind ∙ found_new test kept ring none passes | inr before ↦ first before ]
+        ]
+
+    -- a ring that lives has another ID
+    lives_apart : (test : Ring → Bool) (q : Ring) → find test live.rings ≡ Some q → keep q ≡ true
+    lives_apart test q at =
+        keeps q (λ same. false≢true (sym (none_found (λ p. p.id == ring.id) live.rings absent q (found_in test live.rings q at).0) ∙ eq-eqb q.id ring.id same))
+
+    kept_of_kind : (test : Ring → Bool) (q : Ring) → test ring ≡ false → find test (with_ring live ring).rings ≡ Some q → (find test live.rings ≡ Some q → find test declared.rings ≡ Some q) → find test rings_now ≡ Some q
+    unfolding with_ring
+    kept_of_kind test q fails at before =
+        let lived = sym (found_before test live.rings ring fails) ∙ at in
+        found_beside test fails ∙ found_kept test keep declared.rings q (before lived) (lives_apart test q lived)
+
+    -- the first of its kind
+    new_of_kind : (test : Ring → Bool) (q : Ring) → test ring ≡ true → find test live.rings ≡ None → is_transfer_kind ring.shape.kind ≡ false → find test (with_ring live ring).rings ≡ Some q → find test rings_now ≡ Some q
+    unfolding listed with_ring without_ring
+    new_of_kind test q passes none kind at =
+        let here : ring ≡ q = same_Some ring q (sym (found_new test live.rings ring none passes) ∙ at) in
+        let before : rings_now ≡ ring ∷ kept = ap (λ (h : Header). h.rings) (cond-false (is_transfer_kind ring.shape.kind) (with_ring (without_ring declared ring.id) ring) (record declared { rings = ring ∷ (without_ring declared ring.id).rings }) kind) in
+        found_here test passes (inr before) ∙ ap (λ (x : Ring). Some x) here
+
+    commands_stay : (q : Ring) → command_ring (with_ring live ring) ≡ Some q → command_ring (listed declared ring) ≡ Some q
+    unfolding command_ring
+    commands_stay q at =
+        elim (cases_Bool (is_command ring)) [
+          | inl it ↦ new_of_kind is_command q it (no_command it) (command_no_transfer ring.shape.kind it) at
+          | inr other ↦ kept_of_kind is_command q other at (lists.command q)
+        ]
+
+    events_stay : (q : Ring) → event_ring (with_ring live ring) ≡ Some q → event_ring (listed declared ring) ≡ Some q
+    unfolding event_ring
+    events_stay q at =
+        elim (cases_Bool (is_event ring)) [
+          | inl it ↦ new_of_kind is_event q it (no_event it) (event_no_transfer ring.shape.kind it) at
+          | inr other ↦ kept_of_kind is_event q other at (lists.events q)
+        ]
 
     here_live : ring_with (with_ring live ring) ring.id ≡ Some ring
     unfolding with_ring
     here_live = found_new (λ q. q.id == ring.id) live.rings ring absent (eq-eqb ring.id ring.id refl)
 
     here_declared : ring_with (listed declared ring) ring.id ≡ Some ring
-    unfolding listed with_ring without_ring
-    here_declared = found_new (λ q. q.id == ring.id) (filter keep declared.rings) ring (none_left declared.rings) (eq-eqb ring.id ring.id refl)
+    here_declared = found_here (λ q. q.id == ring.id) (eq-eqb ring.id ring.id refl) (inl (none_left declared.rings))
 
     elsewhere : (r : ℕ) → r ≢ ring.id → ring_with (listed declared ring) r ≡ ring_with declared r
-    unfolding listed with_ring without_ring
-    elsewhere r other = found_as_before (λ q. q.id == r) (ne_eqb ring.id r (λ same. other (sym same))) (λ q at passes. keeps q (λ same. other (sym (eqb-true q.id r passes) ∙ same)))
+    elsewhere r other =
+        found_beside (λ q. q.id == r) (ne_eqb ring.id r (λ same. other (sym same)))
+        ∙ find_kept (λ q. q.id == r) keep declared.rings (λ q at passes. keeps q (λ same. other (sym (eqb-true q.id r passes) ∙ same)))
 
     elsewhere_live : (r : ℕ) → r ≢ ring.id → ring_with (with_ring live ring) r ≡ ring_with live r
     unfolding with_ring
@@ -221,35 +302,59 @@ module _ (l : Left) (live declared : Header) (lists : Lists l live declared) whe
     unfolding shape_of
     shape_elsewhere r other = ap (λ o. shape_or Xfer o) (elsewhere r other)
 
+    old_one : (q : Ring) → IsIn q kept → IsIn q declared.rings × (q.id ≢ ring.id)
+    old_one q at = let was = from_filter keep declared.rings q at in (was.0, λ same. false≢true (sym (not-true (q.id == ring.id) was.1) ∙ eq-eqb q.id ring.id same))
+
     -- a ring of the list is the new one, or has another ID
-    one_of : (q : Ring) → IsIn q (listed declared ring).rings → (q ≡ ring) ⊎ (IsIn q declared.rings × (q.id ≢ ring.id))
-    unfolding listed with_ring without_ring
+    one_of : (q : Ring) → IsIn q rings_now → (q ≡ ring) ⊎ (IsIn q declared.rings × (q.id ≢ ring.id))
     one_of q at =
-        elim (from_both q (filter keep declared.rings) (ring ∷ []) at) [
-          | inl early ↦ let was = from_filter keep declared.rings q early in inr (was.0, λ same. false≢true (sym (not-true (q.id == ring.id) was.1) ∙ eq-eqb q.id ring.id same))
-          | inr last ↦ elim last [ inl new ↦ inl new | inr later ↦ absurd later ]
+        elim stands [
+          | inl behind ↦ elim (from_both q kept (ring ∷ []) (subst (IsIn q) behind at)) [
+            | inl early ↦ inr (old_one q early)
+            | inr last ↦ elim last [ inl new ↦ inl new | inr later ↦ absurd later ]
+          ]
+          | inr before ↦ by_first (subst (IsIn q) before at)
+        ]
+      where
+        by_first : IsIn q (ring ∷ kept) → (q ≡ ring) ⊎ (IsIn q declared.rings × (q.id ≢ ring.id))
+        by_first first = elim first [ inl new ↦ inl new | inr later ↦ inr (old_one q later) ]
+
+    -- what another one passes one of the list passes
+    pub still_listed : (test : Ring → Bool) (q : Ring) → IsIn q declared.rings → q.id ≢ ring.id → test q ≡ true → list_any test rings_now ≡ true
+    still_listed test q at other passes =
+        let old : list_any test kept ≡ true = any_of test kept q (in_filter keep declared.rings q at (keeps q other)) passes in
+        elim stands [
+          | inl behind ↦ ap (list_any test) behind ∙ list_any-append test kept (ring ∷ []) ∙ or_left (list_any test kept) (list_any test (ring ∷ [])) old
+          | inr before ↦ ap (list_any test) before ∙ or_right (test ring) (list_any test kept) old
         ]
 
     version_so : (listed declared ring).version ≡ (with_ring live ring).version
     unfolding listed with_ring without_ring
-    version_so = lists.version
+    version_so = elim (cases_Bool (is_transfer_kind ring.shape.kind)) [ inl transfer ↦ (grind (arith, lists.version)) | inr other ↦ (grind (arith, lists.version)) ]
 
     size_so : (listed declared ring).context_size ≡ (with_ring live ring).context_size
     unfolding listed with_ring without_ring
-    size_so = lists.size
+    size_so = elim (cases_Bool (is_transfer_kind ring.shape.kind)) [ inl transfer ↦ (grind (arith, lists.size)) | inr other ↦ (grind (arith, lists.size)) ]
 
     pub comes_lists : Lists (come_again l ring.id) (with_ring live ring) (listed declared ring)
     comes_lists = record {
       size = size_so;
-      command = command_so ∙ lists.command ∙ sym command_live;
-      events = events_so ∙ lists.events ∙ sym events_live;
+      command = commands_stay;
+      events = events_stay;
       version = version_so;
-      found = λ r q at. (grind (arith, cases_eq, same_Some, here_live, ring_with, with_ring, listed, here_declared, put_at, elsewhere_live, elsewhere, put_off));
+      found = λ r q at. elim (cases_eq r ring.id) [
+        | inl here ↦
+            let same : ring ≡ q = same_Some ring q (sym here_live ∙ ap (ring_with (with_ring live ring)) (sym here) ∙ at) in
+            (ap (ring_with (listed declared ring)) here ∙ here_declared ∙ ap (λ (x : Ring). Some x) same, ap (put l.gone ring.id false) here ∙ put_at l.gone ring.id false)
+        | inr other ↦
+            let before = lists.found r q (sym (elsewhere_live r other) ∙ at) in
+            (elsewhere r other ∙ before.0, put_off l.gone ring.id false r other ∙ before.1)
+      ];
       each = λ q at. elim (one_of q at) [
         | inl new ↦ inl (subst (λ (p : Ring). ring_with (with_ring live ring) p.id ≡ Some p) (sym new) here_live)
         | inr old ↦ elim (lists.each q old.0) [
           | inl lives ↦ inl (elsewhere_live q.id old.1 ∙ lives)
-          | inr went ↦ inr (put_off l.gone ring.id false q.id old.1 ∙ went.0, went.1)
+          | inr went ↦ inr (put_off l.gone ring.id false q.id old.1 ∙ went)
         ]
       ];
       rests = λ r went.
@@ -272,14 +377,3 @@ apart_from (y ∷ ys) r together =
 pub may_come_there : (live : Header) (ring : Ring) → IsHeader (with_ring live ring) → may_come live ring ≡ true
 unfolding may_come with_ring
 may_come_there live ring is = not_from_false (list_any (is_in_way ring) live.rings) (apart_from live.rings ring (header_parts (with_ring live ring) is).1)
-
-kept_all : (keep : Ring → Bool) (rs : List Ring) → ((q : Ring) → IsIn q rs → keep q ≡ true) → filter keep rs ≡ rs
-kept_all keep [] all = refl
-kept_all keep (y ∷ ys) all = cond-true (keep y) (y ∷ filter keep ys) (filter keep ys) (all y (inl refl)) ∙ ap (λ (rest : List Ring). y ∷ rest) (kept_all keep ys (λ q at. all q (inr at)))
-
--- no ring that lives has its ID, so it is one more
-pub listed_there : (live : Header) (ring : Ring) → ring_with live ring.id ≡ None → listed live ring ≡ with_ring live ring
-unfolding listed with_ring without_ring
-listed_there live ring absent =
-    ap (λ (rs : List Ring). let h : Header = record live { rings = rs ++ ring ∷ [] } in h)
-    (kept_all (λ q. not (q.id == ring.id)) live.rings (λ q at. not_from_false (q.id == ring.id) (none_found (λ p. p.id == ring.id) live.rings absent q at)))

@@ -1,6 +1,6 @@
 -- A ring that comes: what a driver keeps it keeps still
-use Rattle.safety.proofs.MiddleLaws.{[], ◌≡◌, ◌≢◌, ◌+◌, ◌-◌, ◌*◌, ◌%◌, ◌<◌, ◌==◌, ◌&&◌, ◌++◌, ◌∷◌, ◌∙◌, ℕ, Bool, true, false, List, Some, None, find, get_or, is_some, arith, refl, sym, ap, subst, inl, inr, eq-eqb, ne_eqb, add-zero, lt-ltb, nat_lt, rules, option_or, find-append, Segment, new_ring, link_address_is, crossed_link, crosses, link_aligned, crossing_due_is, new_ring_keeps, rings_overlap, IsComing, with_ring, is_bad_ring, is_bad_segment, list_all, and_from, and_right, clash, is_shape, may_stand_together, Block, World, FreeRing, state_of, Agrees, Data, Evt, Shape, list_any, list_any-append, cases_eq, cases_option, cond-true, cond-false, false≢true, none-some, or_parts, or_from, is_inside, place_count, address_of, cycle_of, link_address, RingKeeps, address_inside, link_address_inside, address_aligned, cycle_of-first, due_is, Xfer, device_context_bytes, input_context_bytes, Header, Ring, IsHeader, is_command_kind, is_event_kind, ring_with, shape_of, shape_or, command_ring, command_id, event_ring, event_shape, event_size, ring_having, id_of, id_or_none, touches_ring, Known, entry_of, Binding, binds, ring_bound, covers, open_ranges, overlap, IsIn, IsDriverRing, IsTransferRing, DriverKeeps, touches, context_lies, ring_untouched, context_free, device_free, entry_free, transfer_ring, command_named, header_parts, shape_is, having_transfer, free_new, other_worlds_agree, OtherRings, IsAsBefore, BindsAsBefore, other_rings_keep, block_shows, each_good, segment_some, touches_none, words_clean, all_more, none_found, overlaps_none, together_more}
-use Rattle.safety.proofs.KeptCommandRing.{command_with}
+use Rattle.safety.proofs.MiddleLaws.{[], ◌≡◌, ◌≢◌, ◌+◌, ◌-◌, ◌*◌, ◌%◌, ◌<◌, ◌==◌, ◌&&◌, ◌++◌, ◌∷◌, ◌∙◌, ℕ, Bool, true, false, List, Some, None, find, get_or, is_some, arith, refl, sym, ap, subst, inl, inr, eq-eqb, ne_eqb, add-zero, lt-ltb, nat_lt, rules, option_or, find-append, Segment, new_ring, link_address_is, crossed_link, crosses, link_aligned, crossing_due_is, new_ring_keeps, rings_overlap, IsComing, with_ring, is_bad_ring, is_bad_segment, list_all, and_from, and_right, clash, is_shape, may_stand_together, Block, World, FreeRing, state_of, Agrees, Data, Evt, Shape, list_any, list_any-append, cases_eq, cases_option, cond-true, cond-false, false≢true, none-some, or_parts, or_from, is_inside, place_count, address_of, cycle_of, link_address, RingKeeps, address_inside, link_address_inside, address_aligned, cycle_of-first, due_is, Xfer, device_context_bytes, input_context_bytes, Header, Ring, IsHeader, is_command_kind, is_event_kind, ring_with, shape_of, shape_or, command_ring, command_id, event_ring, event_shape, event_size, ring_having, id_of, id_or_none, touches_ring, Known, entry_of, Binding, binds, ring_bound, covers, open_ranges, overlap, IsIn, IsDriverRing, IsTransferRing, DriverKeeps, touches, context_lies, ring_untouched, context_free, device_free, entry_free, transfer_ring, command_named, header_parts, shape_is, having_transfer, free_new, other_worlds_agree, OtherRings, IsAsBefore, BindsAsBefore, other_rings_keep, block_shows, each_good, segment_some, touches_none, words_clean, all_more, none_found, overlaps_none, together_more, ◌||◌, is_bad_kind}
+use Rattle.safety.proofs.NamesRing.{command_with}
 
 -- ---- one ring more in a list
 
@@ -19,7 +19,7 @@ module _ (p : Ring → Bool) (rs : List Ring) (r : Ring) where
 other_than_one : (x c : ℕ) → (x % 2 == 1) ≡ false → c ≡ 1 → x % 2 ≢ c
 other_than_one x c none one same = false≢true (sym none ∙ eq-eqb (x % 2) 1 (same ∙ one))
 
-view_keeps : (k : Known) (r : Ring) → IsComing r → ((a : ℕ) → a % 16 ≡ 0 → is_inside r.shape a ≡ true → (k.memory (a + 12) % 2 == 1) ≡ false) → RingKeeps r.shape k.memory new_ring
+pub view_keeps : (k : Known) (r : Ring) → IsComing r → ((a : ℕ) → a % 16 ≡ 0 → is_inside r.shape a ≡ true → (k.memory (a + 12) % 2 == 1) ≡ false) → RingKeeps r.shape k.memory new_ring
 view_keeps k r coming shows =
     let shape = r.shape in
     let is = coming.shape in
@@ -60,13 +60,15 @@ view_keeps k r coming shows =
     inside_at : (shape : Shape) (a : ℕ) → ((b : ℕ) → b < 16 → is_inside shape (a + b) ≡ true) → is_inside shape a ≡ true
     inside_at shape a all = ap (λ x. is_inside shape x) (sym (add-zero a)) ∙ all 0 (omega arith)
 
-module _ (h : Header) (is : IsHeader h) (k : Known) (d : DriverKeeps h k) (r : Ring) (coming : IsComing r) (new : k.ring r.id ≡ new_ring) (good : is_bad_ring h k r ≡ false) where
+module _ (h : Header) (is : IsHeader h) (k : Known) (d : DriverKeeps h k) (r : Ring) (coming : IsComing r) (kind : r.shape.kind ≡ Xfer) (new : k.ring r.id ≡ new_ring) (good : is_bad_ring h k r ≡ false) where
   abbrev g : Header
   g = record h { rings = h.rings ++ r ∷ [] }
 
   pub parts : (is_some (ring_with h r.id) ≡ false) × (list_any (is_bad_segment h k) r.shape.segments ≡ false)
   unfolding is_bad_ring
-  parts = or_parts (is_some (ring_with h r.id)) (list_any (is_bad_segment h k) r.shape.segments) good
+  parts =
+      let two = or_parts (is_some (ring_with h r.id) || is_bad_kind h k r.shape.kind) (list_any (is_bad_segment h k) r.shape.segments) good in
+      ((or_parts (is_some (ring_with h r.id)) (is_bad_kind h k r.shape.kind) two.0).0, two.1)
 
   pub no_ring : ring_with h r.id ≡ None
   no_ring = elim (cases_option (ring_with h r.id)) [ inl none ↦ none | inr some ↦ absurd (false≢true (sym parts.0 ∙ ap (λ o. is_some o) some.1)) ]
@@ -97,11 +99,11 @@ module _ (h : Header) (is : IsHeader h) (k : Known) (d : DriverKeeps h k) (r : R
 
   pub event_ring_same : event_ring g ≡ event_ring h
   unfolding event_ring
-  event_ring_same = found_before (λ q. is_event_kind q.shape.kind) h.rings r (ap (λ n. is_event_kind n) coming.kind)
+  event_ring_same = found_before (λ q. is_event_kind q.shape.kind) h.rings r (ap (λ n. is_event_kind n) kind)
 
   pub command_same : command_id g ≡ command_id h
   unfolding command_id command_ring
-  command_same = ap id_or_none (found_before (λ q. is_command_kind q.shape.kind) h.rings r (ap (λ n. is_command_kind n) coming.kind))
+  command_same = ap id_or_none (found_before (λ q. is_command_kind q.shape.kind) h.rings r (ap (λ n. is_command_kind n) kind))
 
   pub events_same : event_shape g ≡ event_shape h
   unfolding event_shape
@@ -141,24 +143,24 @@ module _ (h : Header) (is : IsHeader h) (k : Known) (d : DriverKeeps h k) (r : R
     size = size_same;
     keeps = λ s ring. elim (cases_eq s r.id) [
       | inl here ↦ subst (λ n. RingKeeps (shape_of g n) k.memory (k.ring n)) (sym here)
-          (subst (λ v. RingKeeps (shape_of g r.id) k.memory v) (sym new) (subst (λ x. RingKeeps x k.memory new_ring) (sym shape_here) (view_keeps k r coming (block_shows h k r.shape coming.shape coming.kind parts.1))))
+          (subst (λ v. RingKeeps (shape_of g r.id) k.memory v) (sym new) (subst (λ x. RingKeeps x k.memory new_ring) (sym shape_here) (view_keeps k r coming (block_shows h k r.shape coming.shape parts.1))))
       | inr other ↦ subst (λ x. RingKeeps x k.memory (k.ring s)) (sym (shape_same s other)) (d.rings s (driver_before s other ring))
     ];
     clean = λ s a ring word inside. elim (cases_eq s r.id) [
-      | inl here ↦ words_clean h k r.shape coming.shape coming.kind parts.1 a word (ap (λ x. is_inside x a) (sym (ap (λ n. shape_of g n) here ∙ shape_here)) ∙ inside)
+      | inl here ↦ words_clean h k r.shape coming.shape parts.1 a word (ap (λ x. is_inside x a) (sym (ap (λ n. shape_of g n) here ∙ shape_here)) ∙ inside)
       | inr other ↦ d.clean s a (driver_before s other ring) word (ap (λ x. is_inside x a) (sym (shape_same s other)) ∙ inside)
     ];
     had = λ s i x at. transfer_still x (d.states.transfer s i x at);
     each = λ s. inl refl;
     devices = λ s e at.
         let device = d.devices s e at in
-        let leases : (t : Segment) → IsIn t r.shape.segments → list_any (covers h t.base (16 * t.count)) (open_ranges h k) ≡ false = λ t in_it. (each_good h k r.shape coming.shape coming.kind parts.1 t in_it).leases in (
+        let leases : (t : Segment) → IsIn t r.shape.segments → list_any (covers h t.base (16 * t.count)) (open_ranges h k) ≡ false = λ t in_it. (each_good h k r.shape coming.shape parts.1 t in_it).leases in (
           shape_apart e (device_context_bytes h.context_size) (λ t in_it. device_free h k t.base (16 * t.count) (leases t in_it) s e device.slot.0 device.slot.1 at) device.rings,
           shape_apart (entry_of k s) 8 (λ t in_it. entry_free h k t.base (16 * t.count) (leases t in_it) s e device.slot.0 device.slot.1 at) device.entry_rings,
         );
     contexts = λ p n c u at.
         shape_apart n (input_context_bytes h.context_size)
-        (λ t in_it. context_free h k t.base (16 * t.count) (each_good h k r.shape coming.shape coming.kind parts.1 t in_it).leases p n c u at)
+        (λ t in_it. context_free h k t.base (16 * t.count) (each_good h k r.shape coming.shape parts.1 t in_it).leases p n c u at)
         (context_lies h k d p n c u at).rings;
     binds = λ p c u i b low. bound_same (get_or (binds h k c) i b);
   }
@@ -179,9 +181,9 @@ module _ (h : Header) (is : IsHeader h) (k : Known) (d : DriverKeeps h k) (r : R
       or_from _ (is_event_kind q.shape.kind && is_event_kind r.shape.kind)
       (or_from _ (is_command_kind q.shape.kind && is_command_kind r.shape.kind)
       (or_from (q.id == r.id) (rings_overlap q.shape r.shape) (none_found (λ x. x.id == r.id) h.rings no_ring q at)
-      (overlaps_none q.shape r.shape (segment_some r.shape coming.shape coming.kind) (λ t in_it. ring_untouched h t.base (16 * t.count) (each_good h k r.shape coming.shape coming.kind parts.1 t in_it).rings q at)))
-      (and_right (is_command_kind q.shape.kind) (is_command_kind r.shape.kind) (ap (λ n. is_command_kind n) coming.kind)))
-      (and_right (is_event_kind q.shape.kind) (is_event_kind r.shape.kind) (ap (λ n. is_event_kind n) coming.kind)) in
+      (overlaps_none q.shape r.shape (segment_some r.shape coming.shape) (λ t in_it. ring_untouched h t.base (16 * t.count) (each_good h k r.shape coming.shape parts.1 t in_it).rings q at)))
+      (and_right (is_command_kind q.shape.kind) (is_command_kind r.shape.kind) (ap (λ n. is_command_kind n) kind)))
+      (and_right (is_event_kind q.shape.kind) (is_event_kind r.shape.kind) (ap (λ n. is_event_kind n) kind)) in
       and_from (list_all (λ q. nat_lt q.id 256 && is_shape q.shape) (h.rings ++ r ∷ [])) (may_stand_together (h.rings ++ r ∷ []))
       (all_more (λ q. nat_lt q.id 256 && is_shape q.shape) h.rings r was.0 own) (together_more h.rings r was.1 apart)
 

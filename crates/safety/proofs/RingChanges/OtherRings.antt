@@ -1,6 +1,11 @@
 -- What a driver keeps is kept where other rings are there, so long as those that endpoints and commands speak of are as they were
-use Rattle.safety.proofs.LowerLaws.{Erstba, arith, put, cases_eq, [], ◌≡◌, ◌≢◌, ◌≤◌, ◌+◌, ◌%◌, ◌^◌, ◌<◌, ◌||◌, ◌⊎◌, ◌∷◌, ◌∙◌, ℕ, Bool, true, false, List, map, All, Option, Some, None, nat_lt, option_and_then, slice_get, refl, sym, ap, subst, inl, inr, rules, IsRestored, new_ring, device_named, is_soiled, overlap, list_any-append, drops, context_pointer, context_cycle, base_address, table_bytes, list_any, flat_map, false≢true, or_parts, or_from, cases_option, All-head, All-tail, All-cons, All-nil, RingView, is_inside, ceiling, floor_number, is_move, RingKeeps, Command, AddressDevice, ConfigureEndpoint, SetTrDequeue, command_of, is_stop_of, named_slot, named_endpoint, named_context, device_context_bytes, input_context_bytes, Header, Ring, shape_of, command_id, event_shape, event_size, touches_ring, is_ring, Known, entry_of, command_at, next_command, may_be_taken, is_stopping_now, device_ranges, range_of_device, slots, covers, lease_start, lease_bytes, is_bad_area, Binding, binds, binding_in, ring_bound, binds_ring, has_repeats, is_placed, is_bad_dequeue, is_bad_move, IsDriverRing, IsTransferRing, IsUnfinished, was_stop_seen, CommandRingNamed, DeviceKeeps, Stays, StaysIf, MovesIf, CommandKeeps, DriverKeeps, adds_streams, has_bad_content, has_bad_context, is_bad_added, is_bad_command, names_disabled_endpoint, names_disabled_slot, streams_in, takes_bad_device, type_in, next_take, Block, block_at, address_of, Spot, Shape, World, RingEvent, UnderWay, RingState, state_of, RingMatches, BoundRing, FreeRing, EndpointRing, UnderWayMatches, IsUnchanged, Matches, Agrees, has_other_words, is_out_of_order, put_at, put_off}
+use Rattle.traces.specs.Versions.{has_runs}
+use Rattle.safety.proofs.LowerLaws.{Erstba, arith, put, cases_eq, [], ◌≡◌, ◌≢◌, ◌≤◌, ◌+◌, ◌%◌, ◌^◌, ◌<◌, ◌||◌, ◌⊎◌, ◌∷◌, ◌∙◌, ℕ, Bool, true, false, List, map, All, Option, Some, None, nat_lt, option_and_then, slice_get, refl, sym, ap, subst, inl, inr, rules, IsRestored, new_ring, device_named, is_soiled, overlap, list_any-append, drops, context_pointer, context_cycle, base_address, table_bytes, list_any, flat_map, false≢true, or_parts, or_from, cases_option, All-head, All-tail, All-cons, All-nil, RingView, is_inside, ceiling, floor_number, is_move, RingKeeps, Command, AddressDevice, ConfigureEndpoint, SetTrDequeue, command_of, is_stop_of, named_slot, named_endpoint, named_context, device_context_bytes, input_context_bytes, Header, Ring, shape_of, command_id, event_shape, event_size, touches_ring, is_ring, Known, entry_of, command_at, next_command, may_be_taken, is_stopping_now, device_ranges, range_of_device, slots, covers, lease_start, lease_bytes, is_bad_area, Binding, binds, binding_in, ring_bound, binds_ring, has_repeats, is_placed, is_bad_dequeue, is_bad_move, IsDriverRing, IsTransferRing, IsUnfinished, was_stop_seen, DeviceKeeps, Stays, StaysIf, MovesIf, CommandKeeps, DriverKeeps, adds_streams, has_bad_content, has_bad_context, is_bad_added, is_bad_command, names_disabled_endpoint, names_disabled_slot, streams_in, takes_bad_device, type_in, next_take, Block, block_at, address_of, Spot, Shape, World, RingEvent, UnderWay, RingState, state_of, RingMatches, BoundRing, FreeRing, EndpointRing, UnderWayMatches, IsUnchanged, Matches, Agrees, has_other_words, is_out_of_order, put_at, put_off, is_used, is_value, Rests, not}
 use Rattle.world_state.specs.World.{event_at}
+use Rattle.safety.specs.Keeps.{IsNobodys}
+
+pub new_is_nobodys : IsNobodys new_ring
+new_is_nobodys = record { queue = refl; lengths = refl; held = refl; floor = refl; given = λ p. refl; free = λ p. refl }
 
 -- where a list is mapped alike, what passes of it is the same
 any_map : {X Y : Type 0} (f : X → Y) (t : Y → Bool) (xs : List X) → list_any (λ x. t (f x)) xs ≡ list_any t (map f xs)
@@ -57,11 +62,6 @@ module _ (h : Header) (rings : List Ring) (k : Known) (views : ℕ → RingView)
     pub binds : (p : ℕ) (c : Command) → IsUnfinished h k p c → All BindsAsBefore (binds h k c)
 
   module _ (d : DriverKeeps h k) (o : OtherRings) where
-    -- ---- the command ring and endpoints
-
-    named : (v : ℕ) → CommandRingNamed h v → CommandRingNamed g v
-    named v old = search (rules, g)
-
     -- ---- device contexts
 
     device_keeps : (s e : ℕ) → DeviceKeeps h k s e → k.device s ≡ Some e → DeviceKeeps g l s e
@@ -198,6 +198,9 @@ module _ (h : Header) (rings : List Ring) (k : Known) (views : ℕ → RingView)
           restored = λ s i p cycle at r has. subst IsRestored (sym (o.had s i r has).view) (old.restored s i p cycle at r has);
         }
 
+    used_same : is_used g l ≡ true → is_used h k ≡ true
+    used_same used = ap (λ (v : RingView). not (is_value 0 v.held)) (sym o.command_view) ∙ used
+
     pub other_rings_keep : DriverKeeps g l
     unfolding is_stopping_now may_be_taken next_command command_at
     other_rings_keep = record {
@@ -208,14 +211,22 @@ module _ (h : Header) (rings : List Ring) (k : Known) (views : ℕ → RingView)
       states = (search (rules, d.states, o.had, nat_lt, floor_number, ceiling, is_stop_of, option_and_then, command_of, slice_get));
       numbered = d.numbered;
       unstarted = λ before. search (rules, g, l);
-      crcr = λ v at. named v (d.crcr v at);
-      crcr_written = d.crcr_written;
+      run = record {
+        again = λ asked. ap (λ v. has_runs v) o.version ∙ d.run.again asked;
+        started = d.run.started;
+        running = d.run.running;
+        used = λ started used. d.run.used started (used_same used);
+        named = λ named. subst (IsDriverRing g) (sym o.command) (o.command_ring (d.run.named named));
+        absent = λ used. subst (IsDriverRing g) (sym o.command) (o.command_ring (d.run.absent (used_same used)));
+        unused = λ off named. ap (λ (v : RingView). not (is_value 0 v.held)) o.command_view ∙ d.run.unused off named;
+      };
       sized = λ written. subst (λ n. 0 < n) (sym o.size) (d.sized written);
       erstsz_written = d.erstsz_written;
       dequeued = d.dequeued;
       read_room = λ some. subst (λ n. k.reads + 1 ≤ k.dequeue + n) (sym o.size) (d.read_room some);
       devices = λ s e at. device_keeps s e (d.devices s e at) at;
       unfinished = λ p c u. command_keeps p c (unfinished_before p c u);
+      nobody = λ r none. elim (o.each r) [ inl same ↦ subst IsNobodys (sym same) (d.nobody r none) | inr new ↦ subst IsNobodys (sym new) new_is_nobodys ];
     }
 
   -- ---- a world agrees with what is known still, so long as the rings that endpoints have are as they were
@@ -260,6 +271,9 @@ module _ (h : Header) (rings : List Ring) (k : Known) (views : ℕ → RingView)
       unchanged_still : (at : ℕ) (c : Option ℕ) → IsUnchanged h w at c → IsUnchanged g v at c
       unchanged_still at o same = grind arith
 
+      taken_command : events (command_id g) ≡ w.events (command_id h)
+      taken_command = ap events o.command ∙ x.command.0
+
       matches_still : Matches h k w → Matches g l v
       matches_still m = record {
         slots = m.slots;
@@ -268,10 +282,10 @@ module _ (h : Header) (rings : List Ring) (k : Known) (views : ℕ → RingView)
         isochronous = m.isochronous;
         rings = λ r other. let apart : r ≢ command_id h = λ same. other (same ∙ sym o.command) in ring_still r apart (m.rings r apart);
         before = λ off. let b = m.before off in record {
-          inactive = ap w.is_active o.command ∙ b.inactive;
-          no_events = ap events o.command ∙ x.command.0 ∙ b.no_events;
+          rests = subst (λ shape. Rests shape (state_of v (command_id g))) (sym o.command_shape) (subst (Rests (shape_of h (command_id h))) (sym command_state) b.rests);
           none = b.none;
         };
+        new = λ unused. (λ j. next_take (o.command_shape j) (taken_command j)) ∙ m.new (ap (λ (y : RingView). not (is_value 0 y.held)) (sym o.command_view) ∙ unused);
         command = λ on. let c = m.command on in record {
           spot = c.spot;
           ring = subst (λ s. RingMatches (shape_of g (command_id g)) (views (command_id g)) s c.spot) (sym command_state)
@@ -284,6 +298,7 @@ module _ (h : Header) (rings : List Ring) (k : Known) (views : ℕ → RingView)
             unchanged_still (address_of (shape_of g (command_id g)) p) (named_context c)
             (subst (λ shape. IsUnchanged h w (address_of shape p) (named_context c)) (sym o.command_shape) (m.contexts p c (unfinished_before d o p c u)));
         inside = m.inside;
+        there = m.there;
       }
 
       pub other_worlds_agree : (unread : List Block) → Agrees h k unread w → Agrees g l unread v

@@ -1,10 +1,15 @@
 -- A descriptor that is withdrawn, or a ring that is restored: what a driver keeps stays, events stay possible, and the world still agrees
-use Rattle.safety.proofs.MiddleLaws.{◌≡◌, ◌≤◌, ℕ, true, arith, refl, sym, ap, rules, Withdraws, Restores, length-no_ops, split_border, number, Shape, RingView, RingChange, changed, declared, floor_number, ceiling, is_border, is_placement, move_more, GivesMore, [], ◌≢◌, ◌<◌, ◌∙◌, option_and_then, slice_get, subst, ltb-true, Block, command_of, Header, Read, IsHeader, shape_of, command_id, Known, on_ring, command_at, next_command, learned, may_be_taken, lenient, DriverKeeps, IsHeldMore, HeldMore, nat_lt, RingKeeps, IsRestored, is_stop_of, Command, device_named, entry_of, is_stopping_now, is_soiled, MovesRestored, IsDriverRing, IsUnfinished, DeviceKeeps, List, Option, length_from, no_ops, split_at, without_descriptor, put, address_of, named_context, World, IsUnchanged, Matches, Agrees, RingAlike, ceiling_more, held_same, Standing, PlacesStay, MovesAhead, RingGoesOn, SameGiven, transfer_driver, event_facts, ring_elsewhere, SameDriver, both_drivers, view_after, Alike, named_still, SameStates, RingsStay, same_stay, put_at, put_off, SameController, matches_go_on, same_controller, unfinished_view}
+use Rattle.safety.proofs.MiddleLaws.{◌≡◌, ◌≤◌, ℕ, true, arith, refl, sym, ap, rules, Withdraws, Restores, length-no_ops, split_border, number, Shape, RingView, RingChange, changed, declared, floor_number, ceiling, is_border, is_placement, move_more, GivesMore, [], ◌≢◌, ◌<◌, ◌∙◌, option_and_then, slice_get, subst, ltb-true, Block, command_of, Header, Read, IsHeader, shape_of, command_id, Known, on_ring, command_at, next_command, learned, may_be_taken, lenient, DriverKeeps, IsHeldMore, HeldMore, nat_lt, RingKeeps, IsRestored, is_stop_of, Command, device_named, entry_of, is_stopping_now, is_soiled, MovesRestored, IsDriverRing, IsUnfinished, DeviceKeeps, List, Option, length_from, no_ops, split_at, without_descriptor, put, address_of, named_context, World, IsUnchanged, Matches, Agrees, RingAlike, ceiling_more, held_same, Standing, PlacesStay, MovesAhead, RingGoesOn, SameGiven, transfer_driver, event_facts, ring_elsewhere, SameDriver, both_drivers, view_after, Alike, named_still, SameStates, RingsStay, same_stay, put_at, put_off, SameController, matches_go_on, same_controller, unfinished_view, is_used, is_value, not}
 use Rattle.safety.proofs.KeptRings.{next_unfinished, command_holds}
 use Rattle.safety.proofs.AlikeEvents.{EventAlike, ReadAlike, read_alike}
 use Rattle.safety.proofs.PlacedTargets.{placed_targets}
-use Rattle.safety.proofs.HeldFurther.{EverySlot, held_more, counted, read_same, flip_driver}
+use Rattle.safety.proofs.HeldFurther.{states_from, EverySlot, held_more, counted, read_same, flip_driver}
 use Rattle.world_state.specs.World as of_world
+use Rattle.safety.specs.Keeps.{IsNobodys}
+use Rattle.segments.specs.Places.{is_in}
+use Rattle.segments.specs.Descriptors as descriptors
+use Rattle.std.specs.Prelude.{◌&&◌, ◌||◌, false}
+use Rattle.std.proofs.lemmas.Bool.{and_right}
 
 -- A descriptor that is withdrawn, and a ring that is restored, change neither what is given of the ring nor where its pointer is
 
@@ -24,6 +29,20 @@ quiet_same v = record { rest = refl; many = refl; borders = λ q border. border 
 
 pub quiet_view : (shape : Shape) (v : RingView) (change : RingChange) → IsQuiet change → Quiet v (changed shape v change)
 quiet_view shape v o quiet = grind (arith, length-no_ops, split_border)
+
+-- where nothing was declared nothing is withdrawn
+quiet_nobody : (shape : Shape) (v : RingView) (change : RingChange) → IsQuiet change → IsNobodys v → IsNobodys (changed shape v change)
+unfolding descriptors.no_ops descriptors.split_at
+quiet_nobody shape v (Withdraws p) quiet n = record {
+  queue = ap (λ blocks. no_ops blocks p (length_from v.lengths 0 p)) n.queue;
+  lengths = ap (λ many. split_at many 0 p) n.lengths;
+  held = n.held;
+  floor = n.floor;
+  given = n.given;
+  free = λ q. (λ j. n.free q j || (is_in q p (length_from v.lengths 0 p) && n.given q j)) ∙ and_right (is_in q p (length_from v.lengths 0 p)) false refl;
+}
+quiet_nobody shape v Restores quiet n = record { queue = n.queue; lengths = n.lengths; held = n.held; floor = n.floor; given = n.given; free = λ q. refl }
+quiet_nobody shape v _ quiet n = absurd quiet
 
 module _ (v w : RingView) (q : Quiet v w) where
   pub quiet_floor : w.floor ≡ v.floor
@@ -141,7 +160,17 @@ module _ (h : Header) (r : ℕ) (change : RingChange) (quiet : IsQuiet change) w
         let held_same : (q : ℕ) → ((quieted k_read).ring q).held ≡ (k_read.ring q).held = λ q. quiet_held (k_read.ring q) ((quieted k_read).ring q) (quiet_rings k_read q) in
         record {
           event = read.possible;
-          after = held_more (quieted k_read) l_read driver (search (rules, quieted))
+          after = held_more (quieted k_read) l_read driver
+              (let t = states_from k_read l_read read.after in record {
+                was_bound = t.was_bound;
+                slot_state = t.slot_state;
+                endpoint_state = t.endpoint_state;
+                ring_of = t.ring_of;
+                isochronous = t.isochronous;
+                must_move = t.must_move;
+                stop_seen = t.stop_seen;
+                device = t.device;
+              })
               (λ q. (read.after.rings q).floor ∙ sym (floor_same q)) (λ q. subst (λ o. IsHeldMore o (l_read.ring q).held) (sym (held_same q)) (read.after.rings q).held);
         }
 
@@ -178,6 +207,9 @@ module _ (h : Header) (r : ℕ) (change : RingChange) (quiet : IsQuiet change) (
     unfolding on_ring
     ring_keeps here q ring = search (rules, view_after, d.rings)
 
+    used_before : is_used h l ≡ true → is_used h k ≡ true
+    used_before used = ap (λ (v : RingView). not (is_value 0 v.held)) (sym same) ∙ used
+
     pub quiet_keeps : (IsDriverRing h r → RingKeeps (shape_of h r) k.memory (changed (shape_of h r) (k.ring r) change)) →
         ((p : ℕ) (f : Command) → IsUnfinished h k p f → MovesRestored k f → MovesRestored (on_ring h k r change) f) → DriverKeeps h (on_ring h k r change)
     unfolding on_ring is_stopping_now may_be_taken next_command command_at
@@ -188,15 +220,15 @@ module _ (h : Header) (r : ℕ) (change : RingChange) (quiet : IsQuiet change) (
       command_ring = search (rules, l, slice_get, same);
       states = search (rules, l, held_is, nat_lt, floor_number, ceiling, shape_of, command_id, is_stop_of, option_and_then, command_of, slice_get, same);
       numbered = d.numbered;
-      unstarted = λ off. (search (rules, l, floor_is, held_is));
-      crcr = d.crcr;
-      crcr_written = d.crcr_written;
+      unstarted = λ off. (search (rules, l));
+      run = record { again = d.run.again; started = d.run.started; running = d.run.running; used = λ started used. d.run.used started (used_before used); named = d.run.named; absent = λ used. d.run.absent (used_before used); unused = λ off named. ap (λ (v : RingView). not (is_value 0 v.held)) same ∙ d.run.unused off named };
       sized = d.sized;
       erstsz_written = d.erstsz_written;
       dequeued = d.dequeued;
       read_room = d.read_room;
       devices = λ s e at. device_keeps s e (d.devices s e at);
       unfinished = same_stay h k l states d.unfinished before (λ p f u. stays f (moved p f (before p f u)));
+      nobody = λ q none. view_after h IsNobodys k r change q (λ here. quiet_nobody (shape_of h r) (k.ring r) change quiet (d.nobody r (sym here ∙ none))) (λ away. d.nobody q none);
     }
 
   -- where all events are read, what is known agrees with the world

@@ -1,13 +1,36 @@
 -- What is said of each segment of a ring holds of each of its blocks and words
 use Rattle.safety.proofs.LowerLaws.{◌≡◌, ◌+◌, ◌-◌, ◌*◌, ◌/◌, ◌%◌, length, ◌<◌, ◌≤◌, ◌==◌, ◌∙◌, ℕ, true, false, nat_le, nat_lt, arith, sym, ap, leb-true, ltb-true, eqb-true, rules, Segment, is_bad_segment, shows_first_lap, list_any, range_with_len, and_parts, or_parts, false_from_ne_true, false≢true, some_of, IsIn, is_inside, overlap, segment_has, Shape, IsShape, Xfer, Header, touches_ring, Known, is_in_range_lease, is_soiled, open_ranges, covers, touches, clean_word, each_passes, fails_in, in_range}
 use Rattle.safety.proofs.AreaFacts.{overlap_turned}
+use Rattle.std.specs.Prelude.{◌^◌}
+use Rattle.trb.specs.declared.ring_kind.RingKind.{RingKind}
+use Rattle.trb.specs.declared.ring_kind.RingKind.TheVariants.{Cmd, Evt}
+use Rattle.segments.specs.Places.{place_count}
+use Rattle.segments.specs.Shape.{alignment, are_apart, is_in_one_page, is_segment, least_count, most_blocks}
+use Rattle.std.specs.List.{list_all}
 
--- a segment of a transfer ring lies on a boundary of 16 bytes, and isn't empty
-segment_lies : (shape : Shape) → IsShape shape → shape.kind ≡ Xfer → (s : Segment) → IsIn s shape.segments → (s.base % 16 ≡ 0) × (0 < s.count)
-segment_lies shape is kind s at = search (rules, and_parts, nat_le, length, each_passes, nat_lt, leb-true, eqb-true)
+-- what is aligned for a ring of any kind lies on a boundary of 16 bytes, and no ring's segments are empty
+aligned_to : (kind : RingKind) (base : ℕ) → base % alignment kind ≡ 0 → base % 16 ≡ 0
+aligned_to Xfer base at = at
+aligned_to Cmd base at = omega (arith, at)
+aligned_to Evt base at = omega (arith, at)
 
-pub segment_some : (shape : Shape) → IsShape shape → shape.kind ≡ Xfer → (s : Segment) → IsIn s shape.segments → 0 < s.count
-segment_some shape is kind s at = (segment_lies shape is kind s at).1
+some_blocks : (kind : RingKind) (count : ℕ) → least_count kind ≤ count → 0 < count
+some_blocks Xfer count least = omega (arith, least)
+some_blocks Cmd count least = omega (arith, least)
+some_blocks Evt count least = omega (arith, least)
+
+-- a segment lies on a boundary of 16 bytes, and isn't empty
+segment_lies : (shape : Shape) → IsShape shape → (s : Segment) → IsIn s shape.segments → (s.base % 16 ≡ 0) × (0 < s.count)
+segment_lies shape is s at =
+    let all = (and_parts _ (list_all (is_segment shape.kind) shape.segments) (and_parts _ (nat_le 2 (place_count shape)) (and_parts _ (are_apart shape.segments) is).0).0).1 in
+    let five = and_parts _ (is_in_one_page s) (each_passes (is_segment shape.kind) shape.segments s all at) in
+    let four = and_parts _ (nat_le s.count most_blocks) five.0 in
+    let three = and_parts _ (nat_le (least_count shape.kind) s.count) four.0 in
+    let two = and_parts (nat_lt s.base (2 ^ 64)) (s.base % alignment shape.kind == 0) three.0 in
+    (aligned_to shape.kind s.base (eqb-true (s.base % alignment shape.kind) 0 two.1), some_blocks shape.kind s.count (leb-true (least_count shape.kind) s.count three.1))
+
+pub segment_some : (shape : Shape) → IsShape shape → (s : Segment) → IsIn s shape.segments → 0 < s.count
+segment_some shape is s at = (segment_lies shape is s at).1
 
 -- the segment that has a byte
 pub record HasByte (shape : Shape) (a : ℕ) : Type 0 where
@@ -31,7 +54,7 @@ module _ (h : Header) (k : Known) where
   unfolding is_bad_segment is_in_range_lease
   good_parts s good = search (rules, or_parts)
 
-  module _ (shape : Shape) (is : IsShape shape) (kind : shape.kind ≡ Xfer) (good : list_any (is_bad_segment h k) shape.segments ≡ false) where
+  module _ (shape : Shape) (is : IsShape shape) (good : list_any (is_bad_segment h k) shape.segments ≡ false) where
     pub each_good : (s : Segment) → IsIn s shape.segments → IsGood h k s
     each_good s at = good_parts s (fails_in (is_bad_segment h k) shape.segments s good at)
 
@@ -39,7 +62,7 @@ module _ (h : Header) (k : Known) where
     pub words_clean : (a : ℕ) → a % 4 ≡ 0 → is_inside shape a ≡ true → k.soiled a ≡ false
     words_clean a word inside =
         let b = has_byte shape a inside in
-        let aligned = (segment_lies shape is kind b.segment b.at).0 in
+        let aligned = (segment_lies shape is b.segment b.at).0 in
         let i : ℕ = (a - b.segment.base) / 4 in
         let from = b.from in
         let same : b.segment.base + 4 * i ≡ a = omega (arith, word, aligned, from) in
@@ -50,7 +73,7 @@ module _ (h : Header) (k : Known) where
     unfolding shows_first_lap
     block_shows a block inside =
         let b = has_byte shape a inside in
-        let aligned = (segment_lies shape is kind b.segment b.at).0 in
+        let aligned = (segment_lies shape is b.segment b.at).0 in
         let i : ℕ = (a - b.segment.base) / 16 in
         let from = b.from in
         let low : i < b.segment.count = omega (arith, b.to, from, aligned, block) in

@@ -1,11 +1,12 @@
--- Late events: a success that is read while its ring is held
-use Rattle.std.specs.Prelude.{◌≡◌, ℕ, ◌&&◌, Bool, false, not, List, [], ◌∷◌, Option, Some, None}
+-- Late events: one that is read when the controller was seen to have halted, or a success while its ring is held
+use Rattle.std.specs.Prelude.{◌≡◌, ℕ, ◌&&◌, ◌||◌, Bool, false, not, List, [], ◌∷◌, Option, Some, None}
 use Rattle.trb.specs.Block.{kind, slot, endpoint}
 use Rattle.trb.specs.Kind.{is_transfer_event}
 use Rattle.trb.specs.CompletionCode.{is_success}
 use Rattle.trb.specs.declared.block.Block.{Block}
 use Rattle.segments.specs.Ceiling.{is_open}
 use Rattle.traces.specs.declared.header.Header.{Header}
+use Rattle.traces.specs.Halts.{is_done}
 use Rattle.traces.specs.declared.row.Row.{Row}
 use Rattle.traces.specs.declared.row.Row.TheVariants.{Read}
 use Rattle.ring_knowledge.specs.Known.{Known}
@@ -22,7 +23,7 @@ module _ (h : Header) where
   is_report_of_success k b = is_transfer_event (kind b) && is_success (code_told h k b)
 
   unfoldable pub is_late : Known → Row → Bool
-  is_late k (Read b) = is_report_of_success k b && is_held_ring k (k.ring_of (slot b) (endpoint b))
+  is_late k (Read b) = is_done k.halt || (is_report_of_success k b && is_held_ring k (k.ring_of (slot b) (endpoint b)))
   is_late k _ = false
 
 module _ (h : Header) where

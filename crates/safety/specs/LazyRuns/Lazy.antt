@@ -1,5 +1,5 @@
 -- The lazy schedule: directly before an event the looks that it needs, and its post: xHCI 4.6.9, 4.9.2, 4.9.4
-use Rattle.std.specs.Prelude.{ℕ, suc, zero, ◌+◌, ◌-◌, ◌*◌, ◌==◌, if◌then◌else◌, List, [], ◌∷◌, ◌++◌, nat_lt, filter, map, reverse, Option, Some, None}
+use Rattle.std.specs.Prelude.{ℕ, ◌+◌, ◌-◌, ◌*◌, ◌==◌, ◌&&◌, if◌then◌else◌, Bool, false, not, List, [], ◌∷◌, ◌++◌, nat_lt, filter, map, reverse, Option, Some, None}
 use Rattle.std.specs.List.{flat_map}
 use Rattle.guest_memory.specs.Memory.{put}
 use Rattle.trb.specs.declared.block.Block.{Block}
@@ -16,12 +16,17 @@ use Rattle.commands.specs.declared.command.Command.{Command}
 use Rattle.commands.specs.declared.command.Command.TheVariants.{StopEndpoint}
 use Rattle.traces.specs.declared.header.Header.{Header}
 use Rattle.traces.specs.declared.row.Row.{Row}
-use Rattle.traces.specs.declared.row.Row.TheVariants.{Read, Ring as RingRow, Free as FreeRow}
+use Rattle.traces.specs.declared.row.Row.TheVariants.{Read, RegRead, Ring as RingRow, Free as FreeRow}
 use Rattle.traces.specs.declared.step.Step.{Step}
-use Rattle.traces.specs.declared.step.Step.TheVariants.{NextRow, Look, Report, Finish, Other}
+use Rattle.traces.specs.declared.register.Register.{Register}
+use Rattle.traces.specs.declared.register.Register.TheVariants.{Usbsts}
+use Rattle.traces.specs.Halts.{is_asked, is_done}
+use Rattle.traces.specs.Register.{halted_bit}
+use Rattle.traces.specs.declared.step.Step.TheVariants.{NextRow, Look, Report, Finish, Other, Halt}
 use Rattle.traces.specs.Header.{shape_of, command_id}
 use Rattle.ring_knowledge.specs.Known.{Known}
 use Rattle.ring_knowledge.specs.Learned.{learned}
+use Rattle.ring_knowledge.specs.Resets.{behind_blocks}
 use Rattle.ring_knowledge.specs.Rings.{RingSpot, code_told, event_at, command_at, next_command}
 use Rattle.ring_knowledge.specs.Histories.{header_now, known_now, restored}
 use Rattle.safety.specs.LazyRuns.Needs.{need, is_placed}
@@ -30,18 +35,13 @@ use Rattle.safety.specs.LazyRuns.Needs.{need, is_placed}
 unfoldable pub spots_before : Shape → Spot → Spot → List Spot
 spots_before shape s t = filter (λ u. nat_lt (rank u) (rank t)) (spots_from shape s (2 * (number t - number s) + 2))
 
--- the spot at which the pointer stands when the first n blocks are taken
-unfoldable pub behind_taken : Shape → ℕ → Spot
-behind_taken shape zero = Data 0
-behind_taken shape (suc p) = after shape p
-
 unfoldable pub further : Spot → Spot → Spot
 further s t = if nat_lt (rank s) (rank t) then t else s
 
 module _ (h : Header) where
   -- ring r is looked at until its first n blocks are taken
   unfoldable pub taken_up_to : ℕ → ℕ → RingSpot
-  taken_up_to r n = record { ring = r; spot = behind_taken (shape_of h r) n }
+  taken_up_to r n = record { ring = r; spot = behind_blocks (shape_of h r) n }
 
   -- the next command is taken
   unfoldable pub command_taken : Known → RingSpot
@@ -83,9 +83,15 @@ module _ (h : Header) where
   unfoldable pub looks_to : (ℕ → Spot) → RingSpot → List Step
   looks_to pointers goal = map (λ t. Look goal.ring) (spots_before (shape_of h goal.ring) (pointers goal.ring) goal.spot)
 
+  -- the controller is seen to have halted, and wasn't before
+  unfoldable pub is_first_halt : Known → Register → ℕ → Bool
+  is_first_halt k Usbsts v = halted_bit v && is_asked k.halt && not (is_done k.halt)
+  is_first_halt k r v = false
+
   -- the controller's steps directly before a row, with these rows to come after it
   unfoldable pub steps_before : Known → (ℕ → Spot) → Row → List Row → List Step
   steps_before k pointers (Read b) later = flat_map (looks_to pointers) (goals k later (kind b) b) ++ post_of (kind b) b ∷ []
+  steps_before k pointers (RegRead r v) later = if is_first_halt k r v then Halt ∷ [] else []
   steps_before k pointers _ later = []
 
   unfoldable pub brought : (ℕ → Spot) → List RingSpot → ℕ → Spot

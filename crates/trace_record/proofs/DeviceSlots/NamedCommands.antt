@@ -1,5 +1,5 @@
 -- Which of the unfinished commands are about a slot or an endpoint
-use Rattle.trace_record.proofs.UpperLaws.{rules, ◌≡◌, ◌<◌, ◌+◌, ◌*◌, ◌++◌, ◌||◌, ◌≢◌, if◌then◌else◌, ◌∙◌, ◌∷◌, ℕ, not, Bool, true, false, List, [], Option, Some, None, All, All-head, All-nil, All-tail, ap, sym, subst, refl, replicate, filter, nat_lt, slice_index_or, is_some, eqb-true, eq-eqb, ne_eqb, lt-ltb, le-ltb, cases_lt, list_any, filter-append, and_parts, or_parts, cases_eq, false≢true, Command, exclude, name_one_slot, named_endpoint, named_slot, other_endpoint, same_slot, UnfinishedCommands, FollowsUnfinished, IsOnlyAbout, NamesEndpoint, as_list, endpoint_index, index_of, is_about, is_slot, endpoint_count, kept_at, kept_of, names, no_command, alike, all_back, all_with, all_without, alone, any_either, any_filtered, any_more, any_one, any_same, any_same_of, none_passes, not_empty, only_left, cases_Bool}
+use Rattle.trace_record.proofs.UpperLaws.{rules, ◌≡◌, ◌<◌, ◌+◌, ◌*◌, ◌++◌, ◌||◌, if◌then◌else◌, ◌∙◌, ◌∷◌, ℕ, not, Bool, true, false, List, [], Option, Some, None, All, All-head, All-nil, All-tail, ap, sym, subst, refl, replicate, filter, nat_lt, slice_index_or, is_some, eqb-true, eq-eqb, ne_eqb, lt-ltb, le-ltb, cases_lt, list_any, filter-append, and_parts, or_parts, cases_eq, false≢true, Command, exclude, name_one_slot, named_endpoint, named_slot, other_endpoint, same_slot, UnfinishedCommands, FollowsUnfinished, IsOnlyAbout, NamesEndpoint, as_list, endpoint_index, index_of, is_about, is_slot, endpoint_count, kept_at, kept_of, names, no_command, alike, all_back, all_with, all_without, alone, any_either, any_filtered, any_more, any_one, any_same, any_same_of, none_passes, not_empty, only_left, cases_Bool}
 use Rattle.trace_record.proofs.DeviceSlots.EndpointCounts.{count_none, count_where}
 use Rattle.trace_record.proofs.DeviceSlots.AtMostOne.{any_none}
 

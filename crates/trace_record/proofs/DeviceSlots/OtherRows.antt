@@ -1,9 +1,17 @@
 -- Rows by which nothing changes that the record speaks of
-use Rattle.trace_record.proofs.MiddleLaws.{rules, ◌≡◌, ℕ, List, None, sym, subst, option_and_then, Block, Header, Register, Sub, Write, Reg, Known, on_ring, taken_device, command_given, with_device, with_word, written, run_or_stop, valued, register_written, learned, DeviceRecord, FollowsDevices, follows_beside}
+use Rattle.trace_record.proofs.MiddleLaws.{rules, ◌≡◌, ℕ, List, None, sym, subst, option_and_then, Block, Header, Register, Sub, Write, Reg, Known, on_ring, taken_device, command_given, with_device, with_word, written, run_or_stop, runs_again, runs_once, valued, register_written, learned, DeviceRecord, FollowsDevices, follows_beside}
 
-pub after_run : (k : Known) (v : ℕ) (d : DeviceRecord) → FollowsDevices k d → FollowsDevices (run_or_stop k v) d
+after_once : (k : Known) (v : ℕ) (d : DeviceRecord) → FollowsDevices k d → FollowsDevices (runs_once k v) d
+unfolding runs_once
+after_once k v d f = search (rules, follows_beside)
+
+after_again : (k : Known) (v : ℕ) (d : DeviceRecord) → FollowsDevices k d → FollowsDevices (runs_again k v) d
+unfolding runs_again
+after_again k v d f = search (rules, follows_beside)
+
+pub after_run : (h : Header) (k : Known) (v : ℕ) (d : DeviceRecord) → FollowsDevices k d → FollowsDevices (run_or_stop h k v) d
 unfolding run_or_stop
-after_run k v d f = search (rules, follows_beside)
+after_run h k v d f = search (rules, after_once, after_again)
 
 module _ (h : Header) (k : Known) (d : DeviceRecord) (f : FollowsDevices k d) where
   pub after_declaration : (r : ℕ) (blocks : List Block) → FollowsDevices (learned h k (Sub r blocks)) d

@@ -6,6 +6,7 @@ abbrev pub beside : Known → Known → Known
 beside k k' = record k {
   started = k'.started;
   stopped = k'.stopped;
+  halt = k'.halt;
   register = k'.register;
   memory = k'.memory;
   ring = k'.ring;

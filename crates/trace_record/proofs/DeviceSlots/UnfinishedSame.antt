@@ -1,5 +1,5 @@
 -- Where the command ring is as it was but for what holds it, the same commands are unfinished
-use Rattle.trace_record.proofs.LowerLaws.{rules, ◌≡◌, ◌==◌, ◌<◌, ◌≢◌, ℕ, not, true, List, ap, refl, filter, option_and_then, slice_get, eq-eqb, ne_eqb, filter_map, cond-true, cond-false, Block, RingView, RingChange, Opens, changed, declared, due_positions, slice_get-append, command_of, Header, Register, Usbcmd, Sub, Reg, Bell, shape_of, command_id, run_bit, reset_bit, Known, on_ring, command_at, unfinished_positions, unfinished, run_or_stop, valued, register_written, endpoint_rung, rung, learned, mapped_same}
+use Rattle.trace_record.proofs.LowerLaws.{rules, ◌≡◌, ◌==◌, ◌<◌, ◌≢◌, ℕ, not, true, List, ap, refl, filter, option_and_then, slice_get, eq-eqb, ne_eqb, filter_map, cond-true, cond-false, Block, RingView, RingChange, Opens, changed, declared, due_positions, slice_get-append, command_of, Header, Register, Usbcmd, Sub, Reg, Bell, shape_of, command_id, run_bit, reset_bit, Known, on_ring, command_at, unfinished_positions, unfinished, run_or_stop, runs_again, runs_once, valued, register_written, endpoint_rung, rung, learned, mapped_same}
 
 -- what is declared, given and passed of a ring
 pub record SameBlocks (v w : RingView) : Type 0 where
@@ -34,9 +34,17 @@ module _ (h : Header) where
 
     -- ---- a register write
 
-    run_rings : (v : ℕ) → (run_or_stop k v).ring ≡ k.ring
+    once_rings : (v : ℕ) → (runs_once k v).ring ≡ k.ring
+    unfolding runs_once
+    once_rings v = search (rules, not, run_bit, reset_bit)
+
+    again_rings : (v : ℕ) → (runs_again k v).ring ≡ k.ring
+    unfolding runs_again
+    again_rings v = search (rules, not, run_bit, reset_bit)
+
+    run_rings : (v : ℕ) → (run_or_stop h k v).ring ≡ k.ring
     unfolding run_or_stop
-    run_rings v = search (rules, not, run_bit, reset_bit)
+    run_rings v = search (rules, once_rings, again_rings)
 
   register_rings : (k : Known) (r : Register) (v : ℕ) → (learned h k (Reg r v)).ring ≡ k.ring
   unfolding learned register_written valued

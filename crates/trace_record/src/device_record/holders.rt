@@ -28,6 +28,15 @@ impl Holders {
         })
     }
 
+    /// No ring has an endpoint any more.
+    pub(crate) fn clear(&mut self)
+        ensures counts { self.new.counts.items ≡ replicate 256 0 }
+        ensures sums { self.new.sums.items ≡ replicate 256 0 }
+    {
+        self.counts.fill(0);
+        self.sums.fill(0);
+    }
+
     /// Whether an endpoint has the ring.
     pub(crate) fn has(&self, ring: u8) -> bool
         ensures { result ≡ nat_lt 0 (count_of self.now ring) }

@@ -1,7 +1,9 @@
 ghost use Rattle.std.specs.Prelude.{◌≡◌, ℕ, ◌*◌, ◌<◌, IfOk, None, false, length, replicate};
 ghost use Rattle.commands.specs.declared.state.SlotState.TheVariants.{Disabled};
 ghost use Rattle.commands.specs.declared.state.EndpointState.TheVariants.{Disabled as Off};
-ghost use Rattle.ring_knowledge.specs.Known.{nothing};
+ghost use Rattle.traces.specs.declared.header.Header.{Header};
+ghost use Rattle.ring_knowledge.specs.Known.{Known, nothing};
+ghost use Rattle.ring_knowledge.specs.Resets.{reset};
 ghost use Rattle.trace_record.specs.DeviceSlots.Holders.{AreCounted, AreSummed};
 
 use crate::device_record::holders::Holders;
@@ -55,11 +57,20 @@ impl DeviceRecord {
         ensures { IfOk result (FollowsDevices nothing) }
     {
         Ok(DeviceRecord {
-            slots: slots(alloc)?,
+            slots: slots(alloc, unused())?,
             endpoints: endpoints(alloc, untouched())?,
             bound: vec![in alloc; false; 256]?,
             holders: Holders::new(alloc)?,
         })
+    }
+
+    /// Notes that the controller was reset (xHCI 4.2): of slots and endpoints nothing is known. Which rings were bound stays.
+    pub fn clear(&mut self)
+        ensures { (h : Header) (k : Known) → FollowsDevices k self.old → FollowsDevices (reset h k) self.new }
+    {
+        self.slots.fill(unused());
+        self.endpoints.fill(untouched());
+        self.holders.clear();
     }
 
     /// What is kept of a slot.
@@ -109,6 +120,16 @@ impl DeviceRecord {
     }
 }
 
+/// A slot before the first row.
+fn unused() -> Slot
+    ensures { result ≡ record { state = Disabled; device = None } }
+{
+    Slot {
+        state: SlotState::Disabled,
+        device: None,
+    }
+}
+
 /// An endpoint before the first row.
 pub(crate) fn untouched() -> Endpoint
     ensures { result ≡ record { state = Off; ring = None; must_move = false; stop_seen = false; isochronous = false } }
@@ -122,14 +143,10 @@ pub(crate) fn untouched() -> Endpoint
     }
 }
 
-/// The slots before the first row.
-fn slots(alloc: Global) -> Result<Vec<Slot>, AllocError>
-    ensures { IfOk result (λ slots. slots.items ≡ replicate 256 (record { state = Disabled; device = None })) }
+/// The slots before the first row, all alike.
+fn slots(alloc: Global, slot: Slot) -> Result<Vec<Slot>, AllocError>
+    ensures { IfOk result (λ slots. slots.items ≡ replicate 256 slot) }
 {
-    let slot = Slot {
-        state: SlotState::Disabled,
-        device: None,
-    };
     vec![in alloc; slot; 256]
 }
 

@@ -50,6 +50,17 @@ impl UnfinishedCommands {
         })
     }
 
+    /// No command is unfinished any more.
+    pub fn clear(&mut self)
+        ensures { FollowsUnfinished [] self.new }
+    {
+        let none = KeptCommand { command: None };
+        self.by_slot.fill(none);
+        self.by_endpoint.fill(none);
+        self.counts.fill(0);
+        self.addressing = 0;
+    }
+
     /// The unfinished command that names a slot, and no endpoint of it. What holds of such commands alone holds of some unfinished
     /// command exactly if it holds of this one.
     pub fn of_slot(&self, slot: u8) -> Option<Command>

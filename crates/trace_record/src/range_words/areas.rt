@@ -27,6 +27,13 @@ impl Areas {
         }
     }
 
+    /// There are none any more.
+    pub fn clear(&mut self)
+        ensures { (n : ℕ) (starts : List ℕ) → HoldsAreas n starts self.old → HoldsAreas n [] self.new }
+    {
+        self.starts.clear();
+    }
+
     /// There are none.
     pub fn is_empty(&self) -> bool
         ensures { result ≡ true → (n : ℕ) (starts : List ℕ) → HoldsAreas n starts self.now → starts ≡ [] }

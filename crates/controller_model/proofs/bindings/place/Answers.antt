@@ -1,4 +1,5 @@
-use Rattle.controller_model.proofs.Laws.{◌≡◌, ◌∙◌, is_some, ap, sym, refl, false≢true, Xfer, ring_having, shape_of, shape_or, bound, freed, placed_is, freed_has, freed_had, having_known, placed_none, placed_some}
+use Rattle.controller_model.proofs.Laws.{◌≡◌, ◌∙◌, is_some, ap, sym, refl, false≢true, Xfer, ring_having, shape_of, shape_or, bound, freed, freed_has, freed_had, having_known, placed_none, placed_some}
+use Rattle.controller_model.proofs.BindingSteps.{placed_is}
 use Rattle.controller_model.proofs.bindings.place.Goals as goal
 
 pub returns-in-None-clause-change : goal.returns-in-None-clause-change

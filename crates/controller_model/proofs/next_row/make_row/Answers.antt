@@ -32,6 +32,16 @@ returns-in-Read-clause-step g c = λ rows x f.
     (step_mapped c.read_event.result (event_read rings.declared x.world c.in-Read.event) (with_world x) RowSeen (Follows rings.declared words k) (FollowsScene rings rows words k)
     (λ w follows. record { header = f.header; live = f.live; lists = f.lists; left = f.left; follows = follows }) (c.read_event.ensures.step x.world f.follows))
 
+pub returns-in-RegRead-clause-step : goal.returns-in-RegRead-clause-step
+unfolding row_done
+returns-in-RegRead-clause-step g c = λ rows x f.
+    let words = g.M.WordMemory.words c.args.memory.now in
+    let k = c.args.kept.now in
+    let rings = c.args.rings.now in
+    simp c.in-RegRead.is
+    (step_mapped c.read_register.result _ (with_world x) RowSeen (Follows rings.declared words k) (FollowsScene rings rows words k)
+    (λ w follows. record { header = f.header; live = f.live; lists = f.lists; left = f.left; follows = follows }) (c.read_register.ensures rings.declared words x.world f.follows))
+
 pub returns-in_ok-add_ring-in-Ring-clause-step : goal.returns-in_ok-add_ring-in-Ring-clause-step
 returns-in_ok-add_ring-in-Ring-clause-step g c = λ rows x f.
     simp (c.in-Ring.is, sym c.as_ring.ensures) (refl, c.in_ok-add_ring-in-Ring.ensures rows (g.M.WordMemory.words c.args.memory.now) x f)

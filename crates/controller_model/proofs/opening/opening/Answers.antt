@@ -4,8 +4,8 @@ use Rattle.controller_model.proofs.opening.opening.Goals as goal
 pub returns : goal.returns
 unfolding opening
 returns c = λ h words nothing. record {
-  progress = record { steps = refl; started = refl; stopped = refl };
-  registers = record { crcr = refl; dcbaap = refl; config = refl };
+  progress = record { steps = refl; started = refl; stopped = refl; halting = refl; halted = refl };
+  registers = record { dcbaap = refl; config = refl };
   held = (λ i. record {
     memory = λ a. sym (nothing a) i;
     changed = λ a. sym (c.new.ensures.changed a) i;
@@ -32,4 +32,5 @@ returns c = λ h words nothing. record {
   events = record { posted = refl; reads = refl; dequeue = refl };
   under_way = refl;
   looked = refl;
+  nowhere = refl;
 }

@@ -1,12 +1,10 @@
-use Rattle.controller_model.proofs.RegisterLemmas.{other_register}
+use Rattle.controller_model.proofs.Words.{◌∙◌, sym}
 use Rattle.controller_model.proofs.registers.write_register.Goals as goal
 
-pub returns-in-Usbcmd : goal.returns-in-Usbcmd
-returns-in-Usbcmd c = λ words w f. rw c.in-Usbcmd.is (c.write_command.ensures words w f)
-
-pub returns-in-Erdp : goal.returns-in-Erdp
-returns-in-Erdp c = λ words w f. rw c.in-Erdp.is (c.in_ok-write_dequeue-in-Erdp.ensures words w f)
+pub returns-then-resets : goal.returns-then-resets
+returns-then-resets c = λ words w f.
+    simp (sym (c.resets.ensures c.args.header.now words w f) ∙ c.if-resets.true) (c.reset.ensures c.args.header.now words w f)
 
 pub returns : goal.returns
 returns c = λ words w f.
-    rw (other_register c.args.header.now w c.args.register c.args.value c.in_default.not-Usbcmd c.in_default.not-Erdp) (c.note.ensures c.args.header.now words w f)
+    simp (sym (c.resets.ensures c.args.header.now words w f) ∙ c.if-resets.false) (c.in_ok-write_value.ensures words w f)

@@ -1,4 +1,4 @@
-use Rattle.rule_pages.proofs.Words.{◌≡◌, ◌<◌, ◌∙◌, ◌∷◌, [], ℕ, Bool, List, arith, below_more, false, get_or, length, slice_get, subst, sym, true, slice_get-get_or, IfSome, IsTrue, CertMagic, CertLength, CertField, CertMemory, WriteToOwned, NotAsSubmitted, NotDeclared, NotWhole, LinkFault, RingFull, BadDescriptor, BadRegister, BadDoorbell, BadCommand, Busy, ImpossibleEvent, BadErdp, NotInProfile, AfterStop, BadMove, BadWithdraw, NotRestored, BadFree, BadRing, PlanNotDeclared, PlanRingFull, PlanBadDescriptor, PlanNotInProfile, PlanNotGiven, LineHeader, LineRow, LineNumber, LineLimit, LineShape, TakenOutOfOrder, TakenOtherWords, WaitsInsideDescriptor, LooksOutside, PostsOverUnread, InputContextChanged, IsCalled, Subject, OfRule, OfLine, OfCertificate, OfPlan, OfDevice, OfHarm}
+use Rattle.rule_pages.proofs.Words.{◌≡◌, ◌<◌, ◌∙◌, ◌∷◌, [], ℕ, Bool, List, arith, below_more, false, get_or, length, slice_get, subst, sym, true, slice_get-get_or, IfSome, IsTrue, CertMagic, CertLength, CertField, CertMemory, WriteToOwned, NotAsSubmitted, NotDeclared, NotWhole, LinkFault, RingFull, BadDescriptor, BadRegister, BadDoorbell, BadCommand, Busy, ImpossibleEvent, BadErdp, NotInProfile, AfterStop, BadMove, BadWithdraw, NotRestored, BadFree, BadRing, ImpossibleRead, PlanNotDeclared, PlanRingFull, PlanBadDescriptor, PlanNotInProfile, PlanNotGiven, LineHeader, LineRow, LineNumber, LineLimit, LineShape, TakenOutOfOrder, TakenOtherWords, WaitsInsideDescriptor, LooksOutside, PostsOverUnread, InputContextChanged, IsCalled, Subject, OfRule, OfLine, OfCertificate, OfPlan, OfDevice, OfHarm}
 use Rattle.rule_pages.proofs.naming.subject_called.Goals as goal
 
 -- what holds of the item that is read
@@ -19,6 +19,7 @@ subjects =
     ∷ (OfRule BadDoorbell) ∷ (OfRule BadCommand) ∷ (OfRule Busy) ∷ (OfRule ImpossibleEvent)
     ∷ (OfRule BadErdp) ∷ (OfRule NotInProfile) ∷ (OfRule AfterStop) ∷ (OfRule BadMove)
     ∷ (OfRule BadWithdraw) ∷ (OfRule NotRestored) ∷ (OfRule BadFree) ∷ (OfRule BadRing)
+    ∷ (OfRule ImpossibleRead)
     ∷ (OfLine LineHeader) ∷ (OfLine LineRow) ∷ (OfLine LineNumber) ∷ (OfLine LineLimit)
     ∷ (OfLine LineShape) ∷ (OfCertificate CertMagic) ∷ (OfCertificate CertLength) ∷ (OfCertificate CertField)
     ∷ (OfCertificate CertMemory) ∷ (OfPlan PlanNotDeclared) ∷ (OfPlan PlanRingFull) ∷ (OfPlan PlanBadDescriptor)
@@ -35,7 +36,7 @@ loop-subject-preserved c =
 pub returns-clause-unknown : goal.returns-clause-unknown
 returns-clause-unknown c = each
   where
-    all : 40 < c.loop-subject.subject-index
+    all : 41 < c.loop-subject.subject-index
     all = omega (arith, c.loop-subject-test.false)
 
     each : (subject : Subject) → IsCalled subject c.args.word.now → ⊥
@@ -59,24 +60,25 @@ returns-clause-unknown c = each
     each (OfRule NotRestored) = c.loop-subject.invariant 17 (omega (arith, all))
     each (OfRule BadFree) = c.loop-subject.invariant 18 (omega (arith, all))
     each (OfRule BadRing) = c.loop-subject.invariant 19 (omega (arith, all))
-    each (OfLine LineHeader) = c.loop-subject.invariant 20 (omega (arith, all))
-    each (OfLine LineRow) = c.loop-subject.invariant 21 (omega (arith, all))
-    each (OfLine LineNumber) = c.loop-subject.invariant 22 (omega (arith, all))
-    each (OfLine LineLimit) = c.loop-subject.invariant 23 (omega (arith, all))
-    each (OfLine LineShape) = c.loop-subject.invariant 24 (omega (arith, all))
-    each (OfCertificate CertMagic) = c.loop-subject.invariant 25 (omega (arith, all))
-    each (OfCertificate CertLength) = c.loop-subject.invariant 26 (omega (arith, all))
-    each (OfCertificate CertField) = c.loop-subject.invariant 27 (omega (arith, all))
-    each (OfCertificate CertMemory) = c.loop-subject.invariant 28 (omega (arith, all))
-    each (OfPlan PlanNotDeclared) = c.loop-subject.invariant 29 (omega (arith, all))
-    each (OfPlan PlanRingFull) = c.loop-subject.invariant 30 (omega (arith, all))
-    each (OfPlan PlanBadDescriptor) = c.loop-subject.invariant 31 (omega (arith, all))
-    each (OfPlan PlanNotInProfile) = c.loop-subject.invariant 32 (omega (arith, all))
-    each (OfPlan PlanNotGiven) = c.loop-subject.invariant 33 (omega (arith, all))
-    each OfDevice = c.loop-subject.invariant 34 (omega (arith, all))
-    each (OfHarm TakenOutOfOrder) = c.loop-subject.invariant 35 (omega (arith, all))
-    each (OfHarm TakenOtherWords) = c.loop-subject.invariant 36 (omega (arith, all))
-    each (OfHarm WaitsInsideDescriptor) = c.loop-subject.invariant 37 (omega (arith, all))
-    each (OfHarm LooksOutside) = c.loop-subject.invariant 38 (omega (arith, all))
-    each (OfHarm PostsOverUnread) = c.loop-subject.invariant 39 (omega (arith, all))
-    each (OfHarm InputContextChanged) = c.loop-subject.invariant 40 (omega (arith, all))
+    each (OfRule ImpossibleRead) = c.loop-subject.invariant 20 (omega (arith, all))
+    each (OfLine LineHeader) = c.loop-subject.invariant 21 (omega (arith, all))
+    each (OfLine LineRow) = c.loop-subject.invariant 22 (omega (arith, all))
+    each (OfLine LineNumber) = c.loop-subject.invariant 23 (omega (arith, all))
+    each (OfLine LineLimit) = c.loop-subject.invariant 24 (omega (arith, all))
+    each (OfLine LineShape) = c.loop-subject.invariant 25 (omega (arith, all))
+    each (OfCertificate CertMagic) = c.loop-subject.invariant 26 (omega (arith, all))
+    each (OfCertificate CertLength) = c.loop-subject.invariant 27 (omega (arith, all))
+    each (OfCertificate CertField) = c.loop-subject.invariant 28 (omega (arith, all))
+    each (OfCertificate CertMemory) = c.loop-subject.invariant 29 (omega (arith, all))
+    each (OfPlan PlanNotDeclared) = c.loop-subject.invariant 30 (omega (arith, all))
+    each (OfPlan PlanRingFull) = c.loop-subject.invariant 31 (omega (arith, all))
+    each (OfPlan PlanBadDescriptor) = c.loop-subject.invariant 32 (omega (arith, all))
+    each (OfPlan PlanNotInProfile) = c.loop-subject.invariant 33 (omega (arith, all))
+    each (OfPlan PlanNotGiven) = c.loop-subject.invariant 34 (omega (arith, all))
+    each OfDevice = c.loop-subject.invariant 35 (omega (arith, all))
+    each (OfHarm TakenOutOfOrder) = c.loop-subject.invariant 36 (omega (arith, all))
+    each (OfHarm TakenOtherWords) = c.loop-subject.invariant 37 (omega (arith, all))
+    each (OfHarm WaitsInsideDescriptor) = c.loop-subject.invariant 38 (omega (arith, all))
+    each (OfHarm LooksOutside) = c.loop-subject.invariant 39 (omega (arith, all))
+    each (OfHarm PostsOverUnread) = c.loop-subject.invariant 40 (omega (arith, all))
+    each (OfHarm InputContextChanged) = c.loop-subject.invariant 41 (omega (arith, all))

@@ -25,6 +25,9 @@ returns-in-Some-Free c = rw (said_behind c.args.version c.args.begun _ _ _ _ c.i
 pub returns-in-Some-Nop : goal.returns-in-Some-Nop
 returns-in-Some-Nop c = rw (said_behind c.args.version c.args.begun _ _ _ _ c.in-Some.ensures.some (ap Some (sym c.in-Some-Nop.field-0-is) ∙ c.in-Some-Nop.ensures)) c.withdraws_entry.ensures
 
+pub returns-in-Some-Rd : goal.returns-in-Some-Rd
+returns-in-Some-Rd c = rw (said_behind c.args.version c.args.begun _ _ _ _ c.in-Some.ensures.some (ap Some (sym c.in-Some-Rd.field-0-is) ∙ c.in-Some-Rd.ensures)) c.reg_read_entry.ensures
+
 pub returns-in_default : goal.returns-in_default
 returns-in_default c = rw (no_word c.args.version c.args.begun c.args.fields (c.in_default.ensures.none).0, c.into.ensures) refl
 

@@ -1,8 +1,8 @@
 use Rattle.bench_runs.proofs.Courses.{course_of, whenever}
 use Rattle.bench_runs.proofs.course.Course.answer.Goals as goal
 
-pub returns-after-waits : goal.returns-after-waits
-returns-after-waits g c =
+pub returns-in-Ok : goal.returns-in-Ok
+returns-in-Ok g c =
     let (h, past, steps, told, x, of) = c.requires.so_far in
     let (more, words, y, is) = c.in-Ok.ensures.rows h past (steps, told, x, of.bench) in
     let course =

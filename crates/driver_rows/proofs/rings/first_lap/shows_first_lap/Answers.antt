@@ -1,4 +1,4 @@
-use Rattle.driver_rows.proofs.Laws.{◌-◌, arith, shows_first_lap, any_left, found, go_on, none_left}
+use Rattle.driver_rows.proofs.Laws.{arith, shows_first_lap, any_left, found, go_on, none_left}
 use Rattle.driver_rows.proofs.rings.first_lap.shows_first_lap.Goals as goal
 
 pub loop-block-init : goal.loop-block-init

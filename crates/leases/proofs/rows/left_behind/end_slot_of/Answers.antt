@@ -1,24 +1,13 @@
-use Rattle.leases.proofs.Laws.{sym, ◌∙◌, device_lent, disables_none, ends_all, leaves_empty, leaves_none, leaves_two, lent_of, none_ended, two_ended}
+use Rattle.leases.proofs.Laws.{List, map, ap, subst, sym, Leased, ended_where, is_among, HoldsAll, AreLent, slot_let_go, disables_none, leaves_none, none_ended}
 use Rattle.leases.proofs.rows.left_behind.end_slot_of.Goals as goal
 
 pub returns-in_default : goal.returns-in_default
 returns-in_default g c = λ list k memory ts follows fit lent all.
     none_ended c.args.header.now c.args.number ts c.args.book.now c.args.ranges.now _ (leaves_none c.args.header.now k c.args.command (disables_none c.args.command (λ s is. c.in_default.not-DisableSlot s is))) all
 
-pub returns-in_default-device : goal.returns-in_default-device
-returns-in_default-device g c = λ list k memory ts follows fit lent all.
-    none_ended c.args.header.now c.args.number ts c.args.book.now c.args.ranges.now _
-    (leaves_empty c.args.header.now k c.args.command c.in-DisableSlot.slot c.in-DisableSlot.is (sym (c.device.ensures k follows.devices) ∙ c.in_default-device.is)) all
-
 pub returns : goal.returns
 returns g c = λ list k memory ts follows fit lent all.
     let h = c.args.header.now in
-    let s = c.in-DisableSlot.slot in
-    let d = c.in-Some.device in
-    let some = sym (c.device.ensures k follows.devices) ∙ c.in-Some.is in
-    let at = c.slot_entry-entry.ensures k follows.registers (fit s d some) in
-    let two = leaves_two h k c.args.command s d c.slot_entry-entry.result c.device_bytes-bytes.result c.in-DisableSlot.is some at c.device_bytes-bytes.ensures in
-    let first = ends_all (g.B.LeaseLog.holds list) h c.args.number ts c.end_entry.new.book c.args.ranges.now _ (c.end_entry.ensures list h ts all.held all.found (lent_of ts _ _ _ two lent)) all.found in
-    two_ended h c.args.number ts c.end_device.new.book c.args.ranges.now _ _ _ two
-    (ends_all (g.B.LeaseLog.holds list) h c.args.number _ c.end_device.new.book c.args.ranges.now _
-    (c.end_device.ensures list h _ first.held first.found (device_lent c.args.number ts _ _ _ _ _ _ _ two lent)) first.found)
+    let is = ap (slot_let_go h k) c.in-DisableSlot.is in
+    subst (λ (ls : List Leased). HoldsAll (g.B.LeaseLog.holds list) h (map (ended_where (is_among ls) c.args.number) ts) c.end_slot.new.book c.args.ranges.now) (sym is)
+    (c.end_slot.ensures list k memory ts follows fit (subst (AreLent ts) is lent) all)

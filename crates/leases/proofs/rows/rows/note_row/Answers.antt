@@ -21,6 +21,6 @@ returns-in-Read g c = record {
 pub returns-in_default : goal.returns-in_default
 returns-in_default g c = record {
   step = on_more c.note_other_row.result
-      (λ said list k ts placed clean held. said list k ts c.args.t.now (g.M.WordMemory.words c.args.memory.now) c.args.ranges.now (other_row c.args.row.now c.in_default.not-Write c.in_default.not-Read) clean held)
+      (λ said list k ts placed clean held. said list k ts (g.M.WordMemory.words c.args.memory.now) (other_row c.args.row.now c.in_default.not-Write c.in_default.not-Read) clean held)
       c.note_other_row.ensures;
 }

@@ -1,4 +1,4 @@
-use Rattle.ownership_checker.proofs.Laws.{sym, ◌∙◌, ap, Sub, Write, Reg, Bell, Read, placed_bad, placed_ok, stopped_refused, word_ok, word_bad, row_ok, row_bad, declared_ok, declared_bad, register_ok, register_bad}
+use Rattle.ownership_checker.proofs.Laws.{RegRead, register_read_bad, register_read_ok, sym, ◌∙◌, ap, Sub, Write, Reg, Bell, Read, placed_bad, placed_ok, stopped_refused, word_ok, word_bad, row_ok, row_bad, declared_ok, declared_bad, register_ok, register_bad}
 use Rattle.ownership_checker.proofs.rows.row.check_row.Goals as goal
 
 pub returns-then-is_stopped-clause-refused : goal.returns-then-is_stopped-clause-refused
@@ -57,3 +57,17 @@ pub returns-in-Read-clause-refused : goal.returns-in-Read-clause-refused
 returns-in-Read-clause-refused g c =
     placed_bad c.args.header.now c.args.kept.now (g.M.WordMemory.words c.args.memory.now) (λ k f. sym (c.is_stopped.ensures k f.registers) ∙ c.if-is_stopped.false)
     c.args.row.now (Read c.in-Read.event) c.in-Read.is c.args.place.now c.check_event.result c.check_event.ensures.refused
+
+pub returns-in-RegRead-clause-ok : goal.returns-in-RegRead-clause-ok
+returns-in-RegRead-clause-ok g c =
+    let row = RegRead c.in-RegRead.register c.in-RegRead.value in
+    row_ok c.args.header.now c.args.kept.now (g.M.WordMemory.words c.args.memory.now) (λ k f. sym (c.is_stopped.ensures k f.registers) ∙ c.if-is_stopped.false)
+    c.args.row.now row c.in-RegRead.is c.args.place.now c.check_register_read.new.t (g.M.WordMemory.words c.args.memory.now) c.check_register_read.result
+    (register_read_ok c.args.header.now c.args.kept.now (g.M.WordMemory.words c.args.memory.now) row c.check_register_read.new.t c.check_register_read.result c.check_register_read.ensures.ok)
+
+pub returns-in-RegRead-clause-refused : goal.returns-in-RegRead-clause-refused
+returns-in-RegRead-clause-refused g c =
+    let row = RegRead c.in-RegRead.register c.in-RegRead.value in
+    row_bad c.args.header.now c.args.kept.now (g.M.WordMemory.words c.args.memory.now) (λ k f. sym (c.is_stopped.ensures k f.registers) ∙ c.if-is_stopped.false)
+    c.args.row.now row c.in-RegRead.is c.args.place.now c.check_register_read.result
+    (register_read_bad c.args.header.now c.args.kept.now (g.M.WordMemory.words c.args.memory.now) row c.check_register_read.result c.check_register_read.ensures.refused)

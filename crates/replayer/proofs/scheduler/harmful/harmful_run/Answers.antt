@@ -1,5 +1,14 @@
-use Rattle.replayer.proofs.MiddleLaws.{◌≡◌, false, is_some, slice_get, ◌+◌, ◌-◌, ◌<◌, ◌∙◌, ap, arith, length, rules, subst, take, refl, None, IfOk, IfSome, common_steps, eager_schedule, lines_of, DoesHarm, NoneDoesHarm, made_lines, none_tried, told_none, where_none}
+use Rattle.replayer.proofs.MiddleLaws.{◌≡◌, false, is_some, slice_get, ◌+◌, ◌-◌, ◌<◌, ◌∙◌, ap, arith, length, rules, subst, take, refl, None, IfOk, IfSome, common_steps, eager_schedule, lines_of, DoesHarm, NoneDoesHarm, made_lines, none_tried, told_none, where_none, read_told, IsNoRead}
 use Rattle.replayer.proofs.scheduler.harmful.harmful_run.Goals as goal
+
+pub returns-in-Read-clause-none : goal.returns-in-Read-clause-none
+returns-in-Read-clause-none c refused here =
+    let rows = c.args.trace.now.rows in
+    let n = c.args.row - c.args.trace.now.first in
+    let inside : n < length rows = omega (arith, c.if-row-trace-2.false, ap length c.as_slice.ensures) in
+    let is : n ≡ refused = omega (arith, here) in
+    subst (λ m. IfSome (slice_get rows m) (λ r. IsNoRead r → NoneDoesHarm c.args.trace.now.header rows m c.args.search)) is
+    (read_told rows n _ c.in-Read.event _ inside (rw c.as_slice-2.ensures at c.in-Read.is))
 
 pub returns-clause-harm : goal.returns-clause-harm
 returns-clause-harm c =

@@ -1,4 +1,4 @@
-use Rattle.replayer.proofs.MiddleLaws.{◌≡◌, ◌∙◌, ◌++◌, [], None, NextRow, ap, append-nil, none-some, sym, subst, reverse, AreSteps, lazy_steps, kept_now, lazy_steps_are, rows_fit, header_now, err_from_is_err_and, none_refused, reversed_twice, trace_verdict, HasMade, nothing_made, lazy_behind, made_step, made_steps, rings_at, made_is, unmade, last_failed, last_made}
+use Rattle.replayer.proofs.MiddleLaws.{◌≡◌, ◌∙◌, None, NextRow, ap, append-nil, none-some, sym, subst, reverse, AreSteps, lazy_steps, kept_now, lazy_steps_are, rows_fit, header_now, err_from_is_err_and, none_refused, reversed_twice, trace_verdict, HasMade, nothing_made, lazy_behind, made_step, made_steps, rings_at, made_is, unmade, last_failed, last_made}
 use Rattle.replayer.proofs.scheduler.harmful.lazy_schedule_behind.Goals as goal
 
 pub make_all-requires : goal.make_all-requires

@@ -1,4 +1,4 @@
-use Rattle.replayer.proofs.MiddleLaws.{◌≡◌, ℕ, List, ◌++◌, ap, refl, subst, All, map, Row, Known, learned, known_now, IsTransferRing, FollowsTrace, placed_note, followed, driven_noted}
+use Rattle.replayer.proofs.MiddleLaws.{◌≡◌, ℕ, List, ◌++◌, ap, refl, subst, All, map, Known, known_now, IsTransferRing, FollowsTrace, floor_note, followed, driven_noted}
 use Rattle.replayer.proofs.scheduler.notes.note_driver_row.Goals as goal
 
 pub returns-clause-noted : goal.returns-clause-noted
@@ -15,5 +15,5 @@ returns-clause-noted g c = λ h past p.
     c.header.ensures c.header-2.ensures c.record-2.ensures refl
     (λ keeps may. c.in_ok-placed.ensures (known_now h past)
     (followed words h past row c.args.pass.now after p q c.header.result.now c.record.result.now (words c.memory.result.now) c.header.ensures c.record.ensures (ap words c.memory.ensures)) keeps may)
-    (subst (λ (l : List ℕ). (j : Known) (d : Row) (m : ℕ → ℕ) → FollowsTrace behind (learned behind j d) kept m → All (IsTransferRing behind) l → new ≡ mid ++ map (placed_note behind j d) l)
+    (subst (λ (l : List ℕ). (j : Known) (m : ℕ → ℕ) → FollowsTrace behind j kept m → All (IsTransferRing behind) l → new ≡ mid ++ map (floor_note j) l)
     c.as_slice.ensures.value c.in_ok-note_placed.ensures)

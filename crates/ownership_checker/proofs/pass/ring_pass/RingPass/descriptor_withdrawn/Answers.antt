@@ -1,4 +1,4 @@
-use Rattle.ownership_checker.proofs.Laws.{◌≡◌, ◌∙◌, ◌∷◌, false, length, refl, sym, subst, err_from_is_err_and, IsWithin, Header, on_ring, header_now, known_now, is_bad_withdraw, lents, NopRow, WithdrawsAt, contexts_fit, withdrawn_now, withdrawn_transfer, behind_logged, held_before, opened_before, same_still, withdrawn_behind, withdrawn_refused, least_off, kept_withdrawing}
+use Rattle.ownership_checker.proofs.Laws.{◌≡◌, ◌∙◌, false, length, refl, sym, subst, err_from_is_err_and, IsWithin, Header, on_ring, header_now, known_now, is_bad_withdraw, lents, NopRow, WithdrawsAt, contexts_fit, withdrawn_now, withdrawn_transfer, behind_logged, held_before, opened_before, same_still, withdrawn_behind, withdrawn_refused, least_off, kept_withdrawing}
 use Rattle.ownership_checker.proofs.pass.ring_pass.RingPass.descriptor_withdrawn.Goals as goal
 
 pub returns-then-is_stopped-clause-refused : goal.returns-then-is_stopped-clause-refused
@@ -34,7 +34,6 @@ pub returns-clause-logged : goal.returns-clause-logged
 returns-clause-logged g c = λ list h first past p numbered room held.
     let words = g.M.WordMemory.words in
     let Holds = g.B.LeaseLog.holds list in
-    let other = g.met.B.LeaseLog.other_rings list in
     let k = known_now h past in
     let before = c.args.self.now in
     let later = c.end_withdrawn.new.self in
@@ -46,6 +45,6 @@ returns-clause-logged g c = λ list h first past p numbered room held.
     let step = c.in_ok-check_withdrawing.ensures.ok k q.tracked.follows keeps (contexts_fit later.header k keeps) on in
     let from = c.in_ok-check_withdrawing.ensures.from k q.tracked.follows keeps (contexts_fit later.header k keeps) in
     let good = subst (λ (x : Header). is_bad_withdraw x k id at ≡ false) c.end_withdrawn.ensures.header (kept_withdrawing later.header k id at step.kept).1 in
-    behind_logged words Holds other h first past before p room (NopRow id at) refl (λ y. on_ring y k id (WithdrawsAt at)) (withdrawn_now h first past id at) c.args.number numbered later.log later.ranges
+    behind_logged words Holds h first past before p room (NopRow id at) refl (λ y. on_ring y k id (WithdrawsAt at)) (withdrawn_now h first past id at) c.args.number numbered later.log later.ranges
     (c.end_withdrawn.ensures.ended list k (words before.memory) (lents h first past) p.tracked.follows from (withdrawn_transfer before.header k (p.tracked.keeps on) id at good)
-    (opened_before words Holds other h first past before p room) (held_before words Holds other h first past before p room before.log before.ranges held))
+    (opened_before words Holds h first past before p room) (held_before words Holds h first past before p room before.log before.ranges held))

@@ -23,10 +23,9 @@ returns-clause-logged g c =
     let row = c.args.row.now in
     on_both c.check_row.result (λ ok reads list h first past p placed numbered room held.
     let Holds = g.B.LeaseLog.holds list in
-    let other = g.met.B.LeaseLog.other_rings list in
     let k = known_now h past in
     let step = ok k p.tracked placed in
-    driven_logged words Holds other h first past before p room row c.requires.driven (known_driven h past (none_now words h past before p c.requires.unwithdrawn) row c.requires.driven) c.args.number numbered c.note_row.new.book c.note_row.new.ranges
-    (c.in_ok-note_row.ensures.step list k (lents h first past) placed (next_row words Holds other h first past before p room row (lenient_row before.header k row step.clean))
-    (held_before words Holds other h first past before p room before.log before.ranges held)))
+    driven_logged words Holds h first past before p room row c.requires.driven (known_driven h past (none_now words h past before p c.requires.unwithdrawn) row c.requires.driven) c.args.number numbered c.note_row.new.book c.note_row.new.ranges
+    (c.in_ok-note_row.ensures.step list k (lents h first past) placed (next_row words Holds h first past before p room row (lenient_row before.header k row step.clean))
+    (held_before words Holds h first past before p room before.log before.ranges held)))
     c.check_row.ensures.ok c.check_row.ensures.reads

@@ -1,6 +1,0 @@
-use Rattle.leases.proofs.BaseWords.{◌≡◌, ◌<◌, ℕ, false, get_or, Ring, is_event_kind}
-use Rattle.leases.proofs.rows.other_rows.event_segments.Given as goal
-
--- no ring so far is an event ring
-abbrev pub invariant-loop-ring : goal.invariant-loop-ring
-invariant-loop-ring l = (i : ℕ) (d : Ring) → i < l.ring-index → is_event_kind (get_or l.header.rings i d).shape.kind ≡ false
