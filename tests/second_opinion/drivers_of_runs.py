@@ -1,14 +1,14 @@
 """What random drivers do with the runs of a controller (version 4): they stop it and start it again, reset it and set it up anew, replace its command ring while it
 is halted."""
 from rings import Segment
-from runs import RESET, RUN
+from runs import RESET, RESTORE, RUN, SAVE, SET_UP
 from trace import Comes, Goes, Read, Register, Write
 
 TABLES = (0x40000, 0x41000)
-RUNNING, RESETTING = 1 << RUN, 1 << RESET
+RUNNING, RESETTING, SAVING, RESTORING = (1 << bit for bit in (RUN, RESET, SAVE, RESTORE))
 # values of USBCMD that a driver writes where nothing asks for it
-STRAY_COMMANDS = [0, RUNNING, RUNNING | 4, RESETTING, RESETTING | RUNNING]
-STRAY_STATUSES = [0, 1, 8]
+STRAY_COMMANDS = [0, RUNNING, RUNNING | 4, RESETTING, RESETTING | RUNNING, SAVING, RESTORING, SAVING | RUNNING]
+STRAY_STATUSES = [0, 1, 8, 0x201, 0x401]
 
 
 class DriverOfRuns:
@@ -47,7 +47,7 @@ class DriverOfRuns:
 
     def rest(self):
         """The controller is stopped, mostly with all commands done, and what is next is done."""
-        plan, before = self.pick.choice([(self.goes_on, []), (self.renews_commands, []), (self.renews_commands, [self.command]),
+        plan, before = self.pick.choice([(self.goes_on, []), (self.sleeps, []), (self.renews_commands, []), (self.renews_commands, [self.command]),
                                          (self.begins_anew, []), (self.begins_anew, [self.command])])
         if self.pick.random() < 0.9:
             self.finish_all()
@@ -86,6 +86,18 @@ class DriverOfRuns:
         self.make(Register('usbcmd', self.pick.choice([RUNNING, RUNNING, RUNNING | 4])))
         if self.pick.random() < 0.8:
             self.try_step(lambda driver: driver.doorbell())
+
+    def sleeps(self):
+        """The state is saved, the registers are written again, and the state is restored; seldom a part is left out."""
+        self.make(Register('usbcmd', self.pick.choice([SAVING, SAVING, SAVING | 4])))
+        for name in SET_UP:
+            if self.known.is_written(name) and self.pick.random() < 0.97:
+                self.make(Register(name, self.known.register(name)))
+        if self.pick.random() < 0.95:
+            self.make(Register('usbcmd', RESTORING))
+        self.make(Read('usbsts', self.pick.choice([1, 1, 1, 9, 0x201, 0x401])))
+        if self.pick.random() < 0.9:
+            self.goes_on()
 
     # ---- the command ring while the controller is halted
 

@@ -40,9 +40,11 @@ def of_write(known, write):
 
 
 def of_register(known, row):
+    yield ('rewritten', row.name), True
     if row.name == 'usbcmd':
-        return of_command(known, row.value)
-    return of_erdp(known, row.value) if row.name == 'erdp' and known.event_ring else []
+        yield from of_command(known, row.value)
+    elif row.name == 'erdp' and known.event_ring:
+        yield from of_erdp(known, row.value)
 
 
 def of_erdp(known, value):

@@ -2,9 +2,7 @@
 from areas import is_bad_area
 from blocks import aligned, bits, is_set
 from events import may_be_taken
-from runs import RESET, RUN
-
-SET_UP = ('crcr', 'dcbaap', 'config', 'erstsz', 'erstba', 'erdp')
+from runs import RESET, RESTORE, RUN, SAVE, SET_UP
 
 
 def is_right_size(known, value):
@@ -33,12 +31,35 @@ def has_gap(known):
 
 
 def may_go_on(known):
-    """A halting controller is known to have halted, CRCR names the command ring that is there, and nothing of it may be taken that isn't finished."""
-    return known.is_halted and known.is_written('crcr') and not may_be_taken(known)
+    """A halting controller is known to have halted, CRCR names the command ring that is there, nothing of it may be taken that isn't finished, and what was saved
+    is restored."""
+    return known.is_halted and known.is_written('crcr') and not may_be_taken(known) and known.state not in ('saved', 'restoring')
+
+
+def may_save(known):
+    """No command may be taken that isn't finished, and no endpoint has an open ring; or the state is saved already."""
+    return known.state is not None or not may_be_taken(known) and not any(known.is_open(ring) and known.endpoints_with(ring) for ring in known.driver_rings)
+
+
+def may_restore(known):
+    """A state was saved, and each register written since."""
+    return known.state is not None and all(known.last(('rewritten', name), False) for name in SET_UP)
+
+
+def is_bad_state(known, value):
+    """The state is saved or restored too early, or with R/S 1, with HCRST 1 or both at once."""
+    saves, restores = is_set(value, SAVE), is_set(value, RESTORE)
+    if not known.trace.has_runs or not (saves or restores):
+        return False
+    if saves and restores or is_set(value, RUN) or is_set(value, RESET) or not known.is_halted:
+        return True
+    return not may_save(known) if saves else not may_restore(known)
 
 
 def is_bad_usbcmd(known, value):
-    """A reset or a start comes too early or too late."""
+    """A reset or a start comes too early or too late, or a state is saved or restored too early."""
+    if is_bad_state(known, value):
+        return True
     if is_set(value, RESET):
         return is_late_reset(known) if not known.is_started else known.trace.has_runs and (not known.is_halted or has_gap(known))
     if not is_set(value, RUN):

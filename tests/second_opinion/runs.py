@@ -1,10 +1,13 @@
-"""What rows tell of the controller's runs: it starts, halts, goes on or is reset (xHCI 4.2, 4.23.2, 5.4.1, 5.4.2)."""
-from blocks import is_set
+"""What rows tell of the controller's runs: it starts, halts, saves and restores its state, goes on or is reset (xHCI 4.2, 4.23.2, 5.4.1, 5.4.2)."""
+from blocks import bits, is_set
 from rings import Data
 
 # bits of USBCMD, and of USBSTS
-RUN, RESET = 0, 1
-HALTED = 0
+RUN, RESET, SAVE, RESTORE = 0, 1, 8, 9
+HALTED, RESTORING = 0, 9
+
+# registers that are set up before a start, and again before a state is restored
+SET_UP = ('crcr', 'dcbaap', 'config', 'erstsz', 'erstba', 'erdp')
 
 # what is known of these stays over a reset
 OF_RINGS = {'floor', 'bound'}
@@ -17,6 +20,25 @@ def is_run(value):
 
 def of_command(known, value):
     """USBCMD is written."""
+    yield from of_phase(known, value)
+    if known.trace.has_runs:
+        yield from of_state(value)
+
+
+def of_state(value):
+    """The state is to be saved or restored, or the controller goes on with what it has. Each register is to be written again behind a save."""
+    if is_set(value, SAVE):
+        yield ('state',), 'saved'
+        for name in SET_UP:
+            yield ('rewritten', name), False
+    elif is_set(value, RESTORE):
+        yield ('state',), 'restoring'
+    elif is_set(value, RUN):
+        yield ('state',), None
+
+
+def of_phase(known, value):
+    """The controller starts, halts, goes on or is reset."""
     if not known.is_started:
         if is_run(value):
             yield ('started',), True
@@ -49,3 +71,5 @@ def of_read(known, row):
     """A register is read: USBSTS alone says something, while the controller halts."""
     if row.name == 'usbsts' and is_set(row.value, HALTED) and known.is_halting:
         yield ('halted',), True
+    if row.name == 'usbsts' and is_set(row.value, HALTED) and known.state == 'restoring' and bits(row.value, RESTORING, 2) == 0:
+        yield ('state',), 'restored'

@@ -4,6 +4,7 @@ pub mod Areas
 pub mod Declarations
 pub mod Commands
 pub mod Moves
+pub mod Saving
 pub mod Writes
 pub mod Registers
 pub mod Doorbells

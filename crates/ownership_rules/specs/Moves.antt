@@ -31,6 +31,10 @@ unfoldable pub drops : Known → Command → ℕ → ℕ → Bool
 drops k (ConfigureEndpoint t false c) s i = s == t && is_dropped k.memory c i
 drops k _ s i = false
 
+-- an endpoint has the ring
+unfoldable pub is_had : Known → ℕ → Bool
+is_had k id = list_any (λ s. list_any (λ i. is_ring id (k.ring_of s i)) (range_with_len 1 31)) (range_with_len 1 255)
+
 -- an endpoint was bound to the ring
 unfoldable pub was_ring_bound : Known → Option ℕ → Bool
 was_ring_bound k None = false

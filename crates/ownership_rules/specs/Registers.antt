@@ -11,6 +11,7 @@ use Rattle.traces.specs.declared.register.Register.{Register}
 use Rattle.traces.specs.declared.register.Register.TheVariants.{Usbcmd, Usbsts, Crcr, Dcbaap, Config, Erstsz, Erstba, Erdp}
 use Rattle.traces.specs.Header.{command_id, command_ring, event_ring, event_shape, shape_of}
 use Rattle.traces.specs.Halts.{is_asked, is_done}
+use Rattle.traces.specs.Savings.{is_unrestored}
 use Rattle.traces.specs.Versions.{has_runs}
 use Rattle.traces.specs.Register.{register_or_zero, run_bit, reset_bit, halted_bit, base_address, ring_cycle_state, command_stop, command_abort}
 use Rattle.ring_knowledge.specs.Known.{Known}
@@ -18,6 +19,7 @@ use Rattle.ownership_rules.specs.Refusal.{Test}
 use Rattle.ownership_rules.specs.declared.refusal.Refusal.TheVariants.{BadRegister, BadErdp, ImpossibleRead}
 use Rattle.ownership_rules.specs.Areas.{is_bad_area}
 use Rattle.ownership_rules.specs.Events.{may_be_taken}
+use Rattle.ownership_rules.specs.Saving.{saves_badly}
 
 unfoldable pub is_written : Known → Register → Bool
 is_written k r = is_some (k.register r)
@@ -90,9 +92,9 @@ module _ (h : Header) where
   names_no_place k v = not k.started && is_some (event_ring h) && not (is_event_place (event_shape h) (erdp_address v))
 
   -- a controller that halts goes on before it was seen to have halted, or with another command ring than CRCR names, or with commands that
-  -- aren't finished
+  -- aren't finished, or with a state that was saved and not restored
   unfoldable pub is_early_resume : Known → ℕ → Bool
-  is_early_resume k v = is_asked k.halt && is_run v && (not (is_done k.halt) || is_unwritten k Crcr || may_be_taken h k)
+  is_early_resume k v = is_asked k.halt && is_run v && (not (is_done k.halt) || is_unwritten k Crcr || may_be_taken h k || is_unrestored k.saving)
 
   -- behind a TRB of the command ring that wasn't handed over one was
   unfoldable pub has_gap : Known → Bool
@@ -105,7 +107,8 @@ module _ (h : Header) where
 
   unfoldable pub is_bad_command_register : Known → ℕ → Bool
   is_bad_command_register k v =
-      if k.started then is_early_reset k v || is_early_resume k v else is_late_reset k v || is_early_start k v || is_wrong_start k v
+      saves_badly h k v
+      || (if k.started then is_early_reset k v || is_early_resume k v else is_late_reset k v || is_early_start k v || is_wrong_start k v)
 
   unfoldable pub is_bad_register : Known → Register → ℕ → Bool
   is_bad_register k Usbcmd v = is_bad_command_register k v

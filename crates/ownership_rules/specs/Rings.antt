@@ -12,7 +12,7 @@ use Rattle.traces.specs.Header.{command_ring, event_ring, is_ring, is_transfer_k
 use Rattle.ring_knowledge.specs.Known.{Known}
 use Rattle.ownership_rules.specs.Areas.{is_in_range_lease, is_soiled}
 use Rattle.ownership_rules.specs.Events.{may_be_taken}
-use Rattle.ownership_rules.specs.Moves.{is_being_bound}
+use Rattle.ownership_rules.specs.Moves.{is_being_bound, is_had}
 use Rattle.ownership_rules.specs.Registers.{is_in_run, is_written}
 
 abbrev pub is_transfer_ring : Option Ring → Bool
@@ -22,10 +22,6 @@ is_transfer_ring (Some r) = is_transfer_kind r.shape.kind
 -- the control word of a block of the segment shows the Cycle bit of the first lap
 unfoldable pub shows_first_lap : Known → Segment → Bool
 shows_first_lap k s = list_any (λ i. k.memory (s.base + 16 * i + 12) % 2 == 1) (range_with_len 0 s.count)
-
--- an endpoint has the ring
-unfoldable pub is_had : Known → ℕ → Bool
-is_had k id = list_any (λ s. list_any (λ i. is_ring id (k.ring_of s i)) (range_with_len 1 31)) (range_with_len 1 255)
 
 module _ (h : Header) where
   unfoldable pub is_bad_segment : Known → Segment → Bool

@@ -8,6 +8,8 @@ use Rattle.commands.specs.declared.state.EndpointState.TheVariants.{Disabled as 
 use Rattle.traces.specs.declared.halt.Halt.{Halt}
 use Rattle.traces.specs.declared.halt.Halt.TheVariants.{Not}
 use Rattle.traces.specs.declared.register.Register.{Register}
+use Rattle.traces.specs.declared.saving.Saving.{Saving}
+use Rattle.traces.specs.declared.saving.Saving.TheVariants.{Unsaved}
 
 pub record Known : Type 0 where
   -- the controller was started (R/S); and, where it runs but once, after that stopped or reset
@@ -17,6 +19,9 @@ pub record Known : Type 0 where
   pub halt : Halt
   -- the last value written to each register; to CRCR while the command ring was there that is there now
   pub register : Register → Option ℕ
+  -- what became of the state that it saves in a halt; and the register was written since it last did (CSS)
+  pub saving : Saving
+  pub rewritten : Register → Bool
   -- memory as the driver wrote it
   pub memory : ℕ → ℕ
   -- by ring ID: what is declared and given, and how far the controller may be
@@ -48,6 +53,8 @@ nothing = record {
   stopped = false;
   halt = Not;
   register = λ r. None;
+  saving = Unsaved;
+  rewritten = λ r. false;
   memory = λ a. 0;
   ring = λ r. new_ring;
   was_bound = λ r. false;

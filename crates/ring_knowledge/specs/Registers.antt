@@ -1,5 +1,5 @@
 -- What a register that is written or read and a doorbell add to what is known: xHCI 4.7, 5.4.1, 5.4.2, 5.5.2.3.3, 5.6
-use Rattle.std.specs.Prelude.{ℕ, ◌==◌, ◌&&◌, ◌||◌, if◌then◌else◌, true, not, Option, Some, None}
+use Rattle.std.specs.Prelude.{ℕ, ◌==◌, ◌&&◌, ◌||◌, if◌then◌else◌, Bool, true, false, not, Option, Some, None}
 use Rattle.guest_memory.specs.Memory.{put_pair}
 use Rattle.segments.specs.RingView.{Opens}
 use Rattle.commands.specs.declared.state.EndpointState.TheVariants.{Running}
@@ -10,9 +10,12 @@ use Rattle.traces.specs.declared.halt.Halt.{Halt}
 use Rattle.traces.specs.declared.halt.Halt.TheVariants.{Not, Asked, Done}
 use Rattle.traces.specs.declared.register.Register.{Register}
 use Rattle.traces.specs.declared.register.Register.TheVariants.{Usbcmd, Usbsts, Erdp}
+use Rattle.traces.specs.declared.saving.Saving.{Saving}
+use Rattle.traces.specs.declared.saving.Saving.TheVariants.{Unsaved, Saved, Restoring, Restored}
 use Rattle.traces.specs.Header.{command_id, event_shape}
-use Rattle.traces.specs.Register.{with_register, run_bit, reset_bit, halted_bit}
+use Rattle.traces.specs.Register.{with_register, same_register, run_bit, reset_bit, save_bit, restore_bit, halted_bit, restore_ended}
 use Rattle.traces.specs.Halts.{is_asked}
+use Rattle.traces.specs.Savings.{is_restoring}
 use Rattle.traces.specs.Versions.{has_runs}
 use Rattle.ring_knowledge.specs.Known.{Known}
 use Rattle.ring_knowledge.specs.Rings.{on_ring}
@@ -39,12 +42,29 @@ runs_again k v =
 unfoldable pub status_read : Known → ℕ → Known
 status_read k v = if is_asked k.halt && halted_bit v then record k { halt = Done } else k
 
+-- and behind CRS, to have restored its state
+abbrev pub restore_seen : Known → ℕ → Known
+restore_seen k v = record k { saving = if is_restoring k.saving && halted_bit v && restore_ended v then Restored else k.saving }
+
 unfoldable pub register_read : Known → Register → ℕ → Known
-register_read k Usbsts v = status_read k v
+register_read k Usbsts v = restore_seen (status_read k v) v
 register_read k r v = k
 
+-- CSS has a controller that halted save its state, and CRS restore it; where it goes on, none is saved any more
+abbrev pub saving_behind : Saving → Register → ℕ → Saving
+saving_behind s Usbcmd v = if save_bit v then Saved else if restore_bit v then Restoring else if run_bit v then Unsaved else s
+saving_behind s r v = s
+
+abbrev pub saves : Register → ℕ → Bool
+saves Usbcmd v = save_bit v
+saves r v = false
+
 unfoldable pub valued : Known → Register → ℕ → Known
-valued k r v = record k { register = with_register k.register r v }
+valued k r v = record k {
+  register = with_register k.register r v;
+  saving = saving_behind k.saving r v;
+  rewritten = λ q. not (saves r v) && (same_register q r || k.rewritten q);
+}
 
 module _ (h : Header) where
   unfoldable pub run_or_stop : Known → ℕ → Known

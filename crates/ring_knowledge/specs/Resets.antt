@@ -14,6 +14,7 @@ use Rattle.traces.specs.declared.header.Header.{Header}
 use Rattle.traces.specs.declared.halt.Halt.TheVariants.{Not}
 use Rattle.traces.specs.declared.register.Register.{Register}
 use Rattle.traces.specs.declared.register.Register.TheVariants.{Usbcmd}
+use Rattle.traces.specs.declared.saving.Saving.TheVariants.{Unsaved}
 use Rattle.traces.specs.declared.row.Row.{Row}
 use Rattle.traces.specs.declared.row.Row.TheVariants.{Reg}
 use Rattle.traces.specs.Header.{command_ring, id_of, is_ring, shape_of}
@@ -51,6 +52,8 @@ module _ (h : Header) where
     started = false;
     halt = Not;
     register = λ r. None;
+    saving = Unsaved;
+    rewritten = λ r. false;
     ring = λ r. if is_ring r (id_of (command_ring h)) then given_up (shape_of h r) (k.ring r) else held_at_given (shape_of h r) (k.ring r);
     slot_state = λ s. Disabled;
     endpoint_state = λ s i. Off;

@@ -1,19 +1,22 @@
-ghost use Rattle.std.specs.Prelude.{ℕ, ◌≡◌, ◌<◌, ◌==◌, ◌&&◌, if◌then◌else◌, false};
+ghost use Rattle.std.specs.Prelude.{ℕ, ◌≡◌, ◌<◌, ◌==◌, ◌&&◌, if◌then◌else◌, false, replicate};
 ghost use Rattle.traces.specs.Halts.{is_asked};
+ghost use Rattle.traces.specs.Savings.{is_restoring};
 ghost use Rattle.traces.specs.declared.halt.Halt.TheVariants.{Done};
 ghost use Rattle.traces.specs.Header.{command_id};
 ghost use Rattle.traces.specs.Register.{ordinal};
+ghost use Rattle.traces.specs.declared.saving.Saving.TheVariants.{Restored, Restoring, Saved, Unsaved};
+ghost use Rattle.traces.specs.Register.{restore_bit, run_bit, save_bit};
 ghost use Rattle.traces.specs.declared.header.Header.{Header};
 ghost use Rattle.ring_knowledge.specs.Known.{Known, nothing};
 ghost use Rattle.ring_knowledge.specs.Histories.{gone};
 ghost use Rattle.ring_knowledge.specs.Registers.{register_read, register_written, run_or_stop, runs_again, runs_once};
 ghost use Rattle.ring_knowledge.specs.Resets.{reset};
 
-use traces::{Halt, Register, Version};
+use traces::{Halt, Register, Saving, Version};
 
 /// What one pass over a trace keeps of the registers: the last value written to each, to CRCR while the command ring was there
-/// that is there now, whether the controller was started, and after that stopped, and how far it is in halting (xHCI 5.4.1,
-/// 5.4.2). Contracts compare it with what is `Known`.
+/// that is there now, whether the controller was started, and after that stopped, how far it is in halting, and what became of the
+/// state that it saves (xHCI 4.23.2, 5.4.1, 5.4.2). Contracts compare it with what is `Known`.
 #[derive(Drop)]
 pub struct RegisterRecord {
     /// By the number of a register.
@@ -21,6 +24,9 @@ pub struct RegisterRecord {
     started: bool,
     stopped: bool,
     halt: Halt,
+    saving: Saving,
+    /// By the number of a register: it was written since the state was saved.
+    rewritten: [bool; 11],
 }
 
 impl RegisterRecord {
@@ -35,6 +41,8 @@ impl RegisterRecord {
             started: false,
             stopped: false,
             halt: Halt::Not,
+            saving: Saving::Unsaved,
+            rewritten: [false; 11],
         }
     }
 
@@ -59,6 +67,20 @@ impl RegisterRecord {
         self.halt
     }
 
+    /// What became of the state that the controller saves.
+    pub fn saving(&self) -> Saving
+        ensures { (k : Known) → FollowsRegisters k self.now → result ≡ k.saving }
+    {
+        self.saving
+    }
+
+    /// Whether a register was written since the state was saved.
+    pub fn is_rewritten(&self, register: Register) -> bool
+        ensures { (k : Known) → FollowsRegisters k self.now → result ≡ k.rewritten register }
+    {
+        self.rewritten[ordinal(register)]
+    }
+
     /// The last value written to a register.
     pub fn value(&self, register: Register) -> Option<u64>
         ensures { (k : Known) → FollowsRegisters k self.now → result ≡ k.register register }
@@ -70,9 +92,14 @@ impl RegisterRecord {
     pub fn write(&mut self, version: Version, register: Register, value: u64)
         ensures { (h : Header) (k : Known) → h.version ≡ version → FollowsRegisters k self.old → FollowsRegisters (register_written h k register value) self.new }
     {
-        self.values[ordinal(register)] = Some(value);
+        let number = ordinal(register);
+        self.values[number] = Some(value);
+        self.rewritten[number] = true;
         match register {
-            Register::Usbcmd => self.run_or_stop(version, value),
+            Register::Usbcmd => {
+                self.save_or_restore(value);
+                self.run_or_stop(version, value);
+            }
             _ => {}
         }
     }
@@ -82,7 +109,11 @@ impl RegisterRecord {
         ensures { (k : Known) → FollowsRegisters k self.old → FollowsRegisters (register_read k register value) self.new }
     {
         match register {
-            Register::Usbsts => self.note_status(value % 2 == 1),
+            Register::Usbsts => {
+                let has_halted = value % 2 == 1;
+                self.note_status(has_halted);
+                self.note_restored(has_halted && value / 512 % 4 == 0);
+            }
             _ => {}
         }
     }
@@ -92,6 +123,30 @@ impl RegisterRecord {
     {
         if self.halt.is_asked() && has_halted {
             self.halt = Halt::Done;
+        }
+    }
+
+    fn note_restored(&mut self, has_ended: bool)
+        ensures { self.new ≡ record self.old { saving = if is_restoring self.old.saving && has_ended then Restored else self.old.saving } }
+    {
+        if self.saving.is_restoring() && has_ended {
+            self.saving = Saving::Restored;
+        }
+    }
+
+    /// Notes what a value of USBCMD says of the state that the controller saves.
+    fn save_or_restore(&mut self, value: u64)
+        ensures { self.new ≡ record self.old {
+            saving = if save_bit value then Saved else if restore_bit value then Restoring else if run_bit value then Unsaved else self.old.saving;
+            rewritten = if save_bit value then replicate 11 false else self.old.rewritten } }
+    {
+        if value / 256 % 2 == 1 {
+            self.saving = Saving::Saved;
+            self.rewritten = [false; 11];
+        } else if value / 512 % 2 == 1 {
+            self.saving = Saving::Restoring;
+        } else if value % 2 == 1 {
+            self.saving = Saving::Unsaved;
         }
     }
 
@@ -114,6 +169,8 @@ impl RegisterRecord {
     /// Notes what a value of USBCMD starts or stops.
     fn run_or_stop(&mut self, version: Version, value: u64)
         ensures values { self.new.values ≡ self.old.values }
+        ensures saving { self.new.saving ≡ self.old.saving }
+        ensures rewritten { self.new.rewritten ≡ self.old.rewritten }
         ensures follows { (h : Header) (k : Known) → h.version ≡ version → FollowsRun k self.old → FollowsRun (run_or_stop h k value) self.new }
     {
         if version.has_runs() {
@@ -125,6 +182,8 @@ impl RegisterRecord {
 
     fn run_once(&mut self, value: u64)
         ensures values { self.new.values ≡ self.old.values }
+        ensures saving { self.new.saving ≡ self.old.saving }
+        ensures rewritten { self.new.rewritten ≡ self.old.rewritten }
         ensures follows { (k : Known) → FollowsRun k self.old → FollowsRun (runs_once k value) self.new }
     {
         let runs = value % 2 == 1;
@@ -139,6 +198,8 @@ impl RegisterRecord {
     /// A reset is told apart.
     fn run_again(&mut self, value: u64)
         ensures values { self.new.values ≡ self.old.values }
+        ensures saving { self.new.saving ≡ self.old.saving }
+        ensures rewritten { self.new.rewritten ≡ self.old.rewritten }
         ensures follows { (k : Known) → FollowsRun k self.old → FollowsRun (runs_again k value) self.new }
     {
         let runs = value % 2 == 1;

@@ -24,7 +24,7 @@ unfoldable pub use Rattle.ownership_rules.specs.Declarations.{declaration_tests,
 unfoldable pub use Rattle.ownership_rules.specs.Doorbells.{doorbell_tests, is_bad_bell, is_bad_doorbell, is_touched, touches_endpoint}
 unfoldable pub use Rattle.ownership_rules.specs.Events.{can_finish, can_report, can_report_at, event_tests, is_code_of_profile, is_impossible, is_impossible_by_kind, is_impossible_completion, is_impossible_transfer, is_in_profile, is_past_room, is_stopping_now, is_working, may_be_taken, was_stop_seen}
 pub use Rattle.ownership_rules.specs.Moves.{Binding}
-unfoldable pub use Rattle.ownership_rules.specs.Moves.{awaits_binding, binding_in, binds, binds_ring, drops, has_repeats, is_among, is_bad_binding, is_bad_dequeue, is_bad_move, is_bad_place, is_bad_stay, is_being_bound, is_being_moved, is_kept, is_placed, is_taken, moves_ring, ring_bound}
+unfoldable pub use Rattle.ownership_rules.specs.Moves.{awaits_binding, binding_in, binds, binds_ring, drops, has_repeats, is_had, is_among, is_bad_binding, is_bad_dequeue, is_bad_move, is_bad_place, is_bad_stay, is_being_bound, is_being_moved, is_kept, is_placed, is_taken, moves_ring, ring_bound}
 pub use Rattle.ownership_rules.specs.Older.{stricter}
 unfoldable pub use Rattle.ownership_rules.specs.OnLiterals.{rules_on_literals}
 pub use Rattle.ownership_rules.specs.OpenLeases.{DeviceContext, InputContext, Leased, Range, SegmentTable, SlotEntry, Use}
@@ -32,7 +32,7 @@ unfoldable pub use Rattle.ownership_rules.specs.OpenLeases.{context_ranges, cove
 pub use Rattle.ownership_rules.specs.Refusal.{Test, broken_of}
 unfoldable pub use Rattle.ownership_rules.specs.Registers.{has_gap, is_bad_command_register, is_bad_crcr, is_bad_erdp, is_bad_register, is_early_reset, is_early_resume, is_early_start, is_impossible_read, is_impossible_status, is_late_reset, is_no_first_block, is_unwritten, is_wrong_start, may_pass, names_no_place, read_tests, register_tests}
 pub use Rattle.ownership_rules.specs.Rings.{is_transfer_ring}
-unfoldable pub use Rattle.ownership_rules.specs.Rings.{goes_badly, is_bad_free, is_bad_kind, is_bad_ring, is_bad_segment, is_had, is_in_use, shows_first_lap}
+unfoldable pub use Rattle.ownership_rules.specs.Rings.{goes_badly, is_bad_free, is_bad_kind, is_bad_ring, is_bad_segment, is_in_use, shows_first_lap}
 unfoldable pub use Rattle.ownership_rules.specs.Rules.{broken, lenient, lenient_tests, tests}
 unfoldable pub use Rattle.ownership_rules.specs.Withdrawals.{has_stopped, is_bad_withdraw, is_left, rests_with, some_flips}
 unfoldable pub use Rattle.ownership_rules.specs.Writes.{changes_owned, holds_of, on_crossing, on_position, some_command, some_crossed, some_given, write_tests}

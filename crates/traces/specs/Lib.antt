@@ -2,6 +2,7 @@ pub mod Limits
 pub mod Versions
 pub mod Register
 pub mod Halts
+pub mod Savings
 pub mod Header
 pub mod Rows
 pub mod TraceRows
