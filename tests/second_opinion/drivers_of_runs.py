@@ -35,9 +35,10 @@ class DriverOfRuns:
         self.make(Register('config', 8))
 
     def beginning_of_commands(self):
-        """What CRCR may be: the first block of the command ring and RCS 1, mostly."""
+        """What CRCR may be: where the command ring stands still, mostly."""
         ring = self.command_ring
-        spots = ring.spots(0, 0 if self.pick.random() < 0.9 else self.known.declared(ring))
+        still = self.known.floor(ring).number
+        spots = ring.spots(still, still) if self.pick.random() < 0.8 else ring.spots(0, self.known.declared(ring))
         aligned = [spot for spot in spots if ring.spot_address(spot) % 64 == 0]
         spot = self.pick.choice(aligned or spots)
         other = 1 if self.pick.random() < 0.03 else 0
@@ -92,7 +93,7 @@ class DriverOfRuns:
         self.make(Register('usbcmd', self.pick.choice([SAVING, SAVING, SAVING | 4])))
         for name in SET_UP:
             if self.known.is_written(name) and self.pick.random() < 0.97:
-                self.make(Register(name, self.known.register(name)))
+                self.make(Register(name, self.beginning_of_commands() if name == 'crcr' else self.known.register(name)))
         if self.pick.random() < 0.95:
             self.make(Register('usbcmd', RESTORING))
         self.make(Read('usbsts', self.pick.choice([1, 1, 1, 9, 0x201, 0x401])))

@@ -2,6 +2,7 @@
 from areas import is_bad_area
 from blocks import aligned, bits, is_set
 from events import may_be_taken
+from rings import Data
 from runs import RESET, RESTORE, RUN, SAVE, SET_UP
 
 
@@ -68,9 +69,14 @@ def is_bad_usbcmd(known, value):
 
 
 def is_bad_crcr(known, value):
-    """The pointer isn't the first block of a command ring whose doorbell wasn't rung, RCS isn't 1, or CS or CA is."""
+    """The pointer and RCS don't name where the command ring stands still, CS or CA is 1, or the ring was started before a reset."""
     ring = known.command_ring
-    return ring is None or aligned(value, 64) != ring.address(0) or bits(value, 0, 3) != 1 or known.held(ring) != 0
+    if ring is None or bits(value, 1, 2) != 0 or known.held(ring) != 0 and not known.is_written('crcr'):
+        return True
+    floor, number = known.floor(ring), known.floor(ring).number
+    behind = [Data(number)] if known.is_way_given(ring, number) else []
+    is_named = any((aligned(value, 64), bits(value, 0, 1)) == (ring.spot_address(spot), ring.spot_cycle(spot)) for spot in [floor, *behind])
+    return not is_named or known.ceiling(ring) > number
 
 
 def is_bad_erstsz(known, value):

@@ -3,6 +3,7 @@ use Rattle.std.specs.Prelude.{ℕ, ◌-◌, ◌%◌, ◌^◌, ◌==◌, ◌&&◌
 use Rattle.std.specs.List.{list_any}
 use Rattle.segments.specs.Ceiling.{given_count}
 use Rattle.segments.specs.Places.{address_of}
+use Rattle.segments.specs.Moves.{stands_still_at}
 use Rattle.segments.specs.RingView.{due_positions}
 use Rattle.event_ring.specs.EventRing.{is_event_place, is_reached_within, erdp_address, lists, table_bytes}
 use Rattle.traces.specs.declared.header.Header.{Header}
@@ -55,9 +56,10 @@ is_value v (Some x) = x == v
 abbrev pub is_restored : Known → Register → ℕ → Bool
 is_restored k r v = is_done k.halt && is_value v (k.register r)
 
-unfoldable pub is_no_first_block : ℕ → Option Ring → Bool
-is_no_first_block v None = true
-is_no_first_block v (Some r) = not (base_address v == address_of r.shape 0)
+-- CRCR names where the command ring stands still
+unfoldable pub names_still : Known → ℕ → Option Ring → Bool
+names_still k v None = false
+names_still k v (Some r) = stands_still_at r.shape (k.ring r.id) (base_address v) (ring_cycle_state v == 1)
 
 -- how far the dequeue pointer may go: over what was read; before the start it stands at the first place
 unfoldable pub may_pass : Known → ℕ
@@ -68,9 +70,9 @@ module _ (h : Header) where
   abbrev pub is_used : Known → Bool
   is_used k = not (is_value 0 (k.ring (command_id h)).held)
 
-  -- CRCR names the first block of a command ring that wasn't started yet
+  -- CRCR names another place than where the command ring stands still, or stops it, or names one that was started before a reset
   unfoldable pub is_bad_crcr : Known → ℕ → Bool
-  is_bad_crcr k v = is_no_first_block v (command_ring h) || not (ring_cycle_state v == 1) || command_stop v || command_abort v || is_used k
+  is_bad_crcr k v = not (names_still k v (command_ring h)) || command_stop v || command_abort v || (is_used k && is_unwritten k Crcr)
 
   unfoldable pub is_bad_size : ℕ → Bool
   is_bad_size v = is_none (event_ring h) || not (v % 2 ^ 16 == length (event_shape h).segments)

@@ -1,5 +1,5 @@
 -- Where the dequeue pointer of a ring may be set: xHCI 4.6.5, 4.6.10
-use Rattle.std.specs.Prelude.{ℕ, ◌+◌, ◌-◌, ◌==◌, ◌&&◌, Bool, List, [], ◌∷◌, Option, find, if◌then◌else◌}
+use Rattle.std.specs.Prelude.{ℕ, ◌+◌, ◌-◌, ◌==◌, ◌&&◌, Bool, List, [], ◌∷◌, nat_le, Option, find, if◌then◌else◌}
 use Rattle.std.specs.List.{list_all, list_any, range_with_len, flat_map}
 use Rattle.segments.specs.declared.spot.Spot.{Spot}
 use Rattle.segments.specs.declared.spot.Spot.TheVariants.{Data, Link}
@@ -39,6 +39,14 @@ may_move_to shape v t = is_border v.lengths 0 (number t) && is_reached shape v t
 -- a pointer and a cycle state name a spot with a number from least to most to which the ring may be moved
 unfoldable pub is_move : Shape → RingView → ℕ → Bool → ℕ → ℕ → Bool
 is_move shape v p cycle least most = list_any (λ t. is_target shape p cycle t && may_move_to shape v t) (spots_between least most)
+
+-- where a controller may stand that can't have gone on from the floor: there, and at the block behind a Link there that was given
+unfoldable pub still_spots : Shape → RingView → List Spot
+still_spots shape v = v.floor ∷ (if is_way_given shape v (floor_number v) then Data (floor_number v) ∷ [] else [])
+
+-- a pointer and a cycle state name where the ring stands still
+unfoldable pub stands_still_at : Shape → RingView → ℕ → Bool → Bool
+stands_still_at shape v p cycle = nat_le (ceiling shape v) (floor_number v) && list_any (is_target shape p cycle) (still_spots shape v)
 
 -- they name a spot at which the controller stands still: it can't have gone on from the floor
 unfoldable pub is_placement : Shape → RingView → ℕ → Bool → Bool
