@@ -9,6 +9,7 @@ mod doorbells;
 mod register_reads;
 mod registers;
 mod rings;
+mod saving;
 mod write_effects;
 mod writes;
 

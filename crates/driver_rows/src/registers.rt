@@ -247,27 +247,28 @@ fn is_unwritten(registers: &RegisterRecord, register: Register) -> bool
     !is_written(registers, register)
 }
 
-/// Whether a value of CRCR names another place than the first block of a command ring that wasn't started, doesn't begin with cycle 1, or
-/// stops or aborts a command (xHCI 5.4.5).
+/// Whether a value of CRCR names another place than where the command ring stands still, or stops it, or names one that was started
+/// before a reset (xHCI 5.4.5).
 fn is_bad_crcr(header: &Header, finder: &Finder, t: &TraceRecord, value: u64) -> bool
     requires headed { IsHeader header.now }
     requires found { IsFinder header.now.rings finder.now }
+    requires as_many { length t.now.rings.items ≡ length header.now.rings }
     ensures { (k : Known) (m : ℕ → ℕ) → FollowsTrace header.now k t.now m → IsSetUp header.now k → result ≡ is_bad_crcr header.now k value }
 {
     let Some(number) = finder.commands else {
         return true;
     };
     let rings = header.rings.as_slice();
-    is_bad_begin(&rings[number].shape, value) || t.is_used(header, finder)
+    is_bad_spot(&rings[number].shape, &t.rings[number], value)
+        || t.is_used(header, finder) && is_unwritten(&t.registers, Register::Crcr)
 }
 
-/// Whether a value of CRCR names another place than the first block of a ring, doesn't begin with cycle 1, or stops or aborts
-/// a command.
-fn is_bad_begin(shape: &RingShape, value: u64) -> bool
-    ensures { result ≡ (not (value / 64 * 64 == address_of shape.now 0) || not (value % 2 == 1) || value / 2 % 2 == 1 || value / 4 % 2 == 1) }
+/// Whether a value of CRCR names another place than where a ring stands still, or has Command Stop (CS) or Command Abort (CA) 1.
+fn is_bad_spot(shape: &RingShape, known: &RingRecord, value: u64) -> bool
+    ensures { (v : RingView) → FollowsRing shape.now v known.now →
+        result ≡ (not (stands_still_at shape.now v (base_address value) (ring_cycle_state value == 1)) || command_stop value || command_abort value) }
 {
-    value / 64 * 64 != shape.address(0)
-        || value % 2 != 1
+    !known.stands_still_at(shape, value / 64 * 64, value % 2 == 1)
         || value / 2 % 2 == 1
         || value / 4 % 2 == 1
 }

@@ -5,6 +5,7 @@ use Rattle.segments.specs.Ceiling.{is_open}
 use Rattle.traces.specs.declared.header.Header.{Header}
 use Rattle.traces.specs.declared.register.Register.TheVariants.{Crcr, Dcbaap, Config, Erstsz, Erstba, Erdp}
 use Rattle.traces.specs.Halts.{is_done}
+use Rattle.traces.specs.Header.{is_transfer_kind}
 use Rattle.traces.specs.Register.{run_bit, reset_bit, save_bit, restore_bit}
 use Rattle.traces.specs.Savings.{is_saved}
 use Rattle.traces.specs.Versions.{has_runs}
@@ -21,9 +22,9 @@ abbrev pub is_at_work : Known → ℕ → Bool
 is_at_work k v = run_bit v || reset_bit v || not (is_done k.halt)
 
 module _ (h : Header) where
-  -- an endpoint works: its ring is open
+  -- an endpoint works: its transfer ring is open
   unfoldable pub some_works : Known → Bool
-  some_works k = list_any (λ r. is_open (k.ring r.id) && is_had k r.id) h.rings
+  some_works k = list_any (λ r. is_transfer_kind r.shape.kind && is_open (k.ring r.id) && is_had k r.id) h.rings
 
   -- the state is saved too early: while commands aren't finished, or an endpoint works; what is saved already stays so
   unfoldable pub is_early_save : Known → ℕ → Bool

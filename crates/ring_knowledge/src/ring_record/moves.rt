@@ -5,9 +5,9 @@ ghost use Rattle.segments.specs.Spots.{number};
 ghost use Rattle.segments.specs.RingView.{RingView, declared, floor_number};
 ghost use Rattle.segments.specs.Ceiling.{ceiling, is_data_below, is_stop_spot, is_way_given, stopped_number};
 ghost use Rattle.segments.specs.Descriptors.{is_border};
-ghost use Rattle.segments.specs.Moves.{is_move, is_placement, is_reached, may_move_to};
+ghost use Rattle.segments.specs.Moves.{is_move, is_placement, is_reached, may_move_to, stands_still_at};
 
-use super::spots::spot_between;
+use super::spots::{is_target, spot_between};
 use super::{RingRecord, is_noted, number};
 use segments::{RingShape, Spot};
 
@@ -48,6 +48,25 @@ impl RingRecord {
             return false;
         }
         self.is_move(shape, pointer, cycle, floor, floor)
+    }
+
+    /// Whether a pointer and a cycle state name where the ring stands still, since its controller can't have gone on from the floor:
+    /// there, or the block behind a Link there that was given. CRCR names that of a Command Ring (xHCI 5.4.5).
+    pub fn stands_still_at(&self, shape: &RingShape, pointer: u64, cycle: bool) -> bool
+        ensures { (v : RingView) → FollowsRing shape.now v self.now → result ≡ stands_still_at shape.now v pointer cycle }
+    {
+        let floor = number(self.floor);
+        if self.ceiling() > floor {
+            return false;
+        }
+        if is_target(shape, pointer, cycle, self.floor) {
+            return true;
+        }
+        if self.is_way_given(shape, floor) {
+            is_target(shape, pointer, cycle, Spot::Data(floor))
+        } else {
+            false
+        }
     }
 
     /// Whether a pointer and a cycle state stand at a spot, with a number from least to most, to which the ring may be moved.

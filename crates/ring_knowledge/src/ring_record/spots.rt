@@ -71,6 +71,26 @@ pub(crate) fn spot_between(
     }
 }
 
+/// A pointer and a cycle state stand at a spot.
+pub(crate) fn is_target(shape: &RingShape, pointer: u64, cycle: bool, spot: Spot) -> bool
+    ensures { result ≡ is_target shape.now pointer cycle spot }
+{
+    lies_at(shape, pointer, spot) && has_cycle(shape, spot, cycle)
+}
+
+/// The spot exists, and lies at an address.
+fn lies_at(shape: &RingShape, address: u64, spot: Spot) -> bool
+    ensures { result ≡ (is_spot shape.now spot && spot_address shape.now spot == address) }
+{
+    match spot {
+        Spot::Data(position) => shape.address(position) == address,
+        Spot::Link(crossing) => match shape.crossing(crossing) {
+            None => false,
+            Some(segment) => shape.link(segment) == address,
+        },
+    }
+}
+
 /// A controller stands at a spot with this Consumer Cycle State.
 fn has_cycle(shape: &RingShape, spot: Spot, cycle: bool) -> bool
     ensures { result ≡ (spot_cycle shape.now spot == (if cycle then 1 else 0)) }
