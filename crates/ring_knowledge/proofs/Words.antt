@@ -3,8 +3,9 @@ pub use Rattle.ring_knowledge.specs.Known.{Known}
 unfoldable pub use Rattle.ring_knowledge.specs.Known.{nothing}
 pub use Rattle.ring_knowledge.specs.Marks.{AreCleared}
 unfoldable pub use Rattle.ring_knowledge.specs.Marks.{is_noted}
-pub use Rattle.ring_knowledge.specs.RegisterRecords.{FollowsRegisters, FollowsRun}
+pub use Rattle.ring_knowledge.specs.RegisterRecords.{FollowsRegisters, FollowsRun, FollowsSaving}
 unfoldable pub use Rattle.ring_knowledge.specs.Histories.{forgotten, gone}
+pub use Rattle.ring_knowledge.specs.Registers.{restore_seen, saves, saving_behind}
 unfoldable pub use Rattle.ring_knowledge.specs.Registers.{register_read, register_written, run_or_stop, runs_again, runs_once, status_read, valued}
 unfoldable pub use Rattle.ring_knowledge.specs.Resets.{behind_blocks, first_free, given_up, held_at_given, reset}
 pub use Rattle.ring_knowledge.specs.RingRecords.{ArePositive, FollowsMarks, FollowsRing, IsFromFloor, crossings_of, is_the, least_crossing, positions_of}
