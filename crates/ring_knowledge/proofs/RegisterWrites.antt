@@ -1,5 +1,10 @@
 -- What a record of the registers holds after one is written
-use Rattle.ring_knowledge.proofs.Words.{arith, ◌≡◌, ◌<◌, ◌∷◌, ◌==◌, ◌∙◌, if◌then◌else◌, ℕ, List, [], false, true, ap, sym, subst, Option, Some, None, refl, length, set, get_or, get_or-set_other, get_or-set_same, eqb-true, length-set, cases_Bool, nat_tests, Header, Register, Usbcmd, ordinal, Not, with_register, Known, nothing, register_written, run_or_stop, runs_once, runs_again, valued, FollowsRegisters, FollowsRun, FollowsSaving, RegisterRecord, reset, gone, forgotten, saves, saving_behind, Bool, not, ◌&&◌, ◌||◌, replicate, get_or-replicate, Unsaved, command_id, Crcr, rules}
+use Rattle.ring_knowledge.proofs.Words.{arith, inl, inr, cases_lt, ◌≡◌, ◌<◌, ◌∷◌, ◌==◌, ◌∙◌, if◌then◌else◌, ℕ, List, [], false, true, ap, sym, subst, Option, Some, None, refl, length, set, get_or, get_or-set_other, get_or-set_same, eqb-true, length-set, cases_Bool, nat_tests, Header, Register, Usbcmd, ordinal, Not, with_register, Known, nothing, register_written, run_or_stop, runs_once, runs_again, valued, FollowsRegisters, FollowsRun, FollowsSaving, RegisterRecord, reset, gone, forgotten, saves, saving_behind, Bool, not, ◌&&◌, ◌||◌, replicate, command_id, Crcr, rules}
+use Rattle.traces.specs.declared.saving.Saving.{Saving}
+use Rattle.traces.specs.declared.saving.Saving.TheVariants.{Unsaved}
+use Rattle.traces.specs.Register.{same_register}
+use Rattle.std.proofs.lemmas.List.{get_or-replicate, get_or_past, length-replicate}
+use Rattle.std.proofs.lemmas.Bool.{cond_both}
 
 value_at : (values : List (Option ℕ)) (n m : ℕ) (x : Option ℕ) → n < length values → get_or (set values n x) m None ≡ (if m == n then x else get_or values m None)
 value_at values n m x below = search (rules, length, get_or, set, eqb-true, get_or-set_same, get_or-set_other, nat_tests)
@@ -41,9 +46,16 @@ rewritten_after : (h : Header) (k : Known) (r : Register) (v : ℕ) → (registe
 unfolding register_written valued
 rewritten_after h k r v = grind (arith, runs_rewritten)
 
-pub valued_run : (k : Known) (r : RegisterRecord) → FollowsRegisters k r → (q : Register) (v n : ℕ) → FollowsRun (valued k q v) (record r { values = set r.values n (Some v) })
-unfolding valued
-valued_run k r f q v n = record { started = f.run.started; stopped = f.run.stopped; halt = f.run.halt }
+-- whether the controller was started and stopped, and how far it is in halting, isn't told by the values
+module _ (k : Known) (r : RegisterRecord) (f : FollowsRegisters k r) (q : Register) (v : ℕ) (s : RegisterRecord) (started : s.started ≡ r.started) (stopped : s.stopped ≡ r.stopped)
+    (halt : s.halt ≡ r.halt) where
+  pub valued_run : FollowsRun (valued k q v) s
+  unfolding valued
+  valued_run = record { started = f.run.started ∙ sym started; stopped = f.run.stopped ∙ sym stopped; halt = f.run.halt ∙ sym halt }
+
+  pub other_run : (h : Header) → (q ≡ Usbcmd → ⊥) → FollowsRun (register_written h k q v) s
+  unfolding register_written valued
+  other_run h usbcmd = grind (arith, f, started, stopped, halt)
 
 module _ (h : Header) (k : Known) (r : RegisterRecord) (f : FollowsRegisters k r) (q : Register) (v : ℕ) where
   pub follows_written : (n : ℕ) → n ≡ ordinal q → n < 11 → (s : RegisterRecord) → s.values ≡ set r.values n (Some v) → FollowsRun (register_written h k q v) s →
@@ -69,7 +81,7 @@ module _ (h : Header) (k : Known) (r : RegisterRecord) (f : FollowsRegisters k r
       record {
         saving = saving_after h k q v ∙ ap (λ a. saving_behind a q v) f.saving.saving ∙ sym saving;
         as_many = ap (λ l. length l) rewritten
-          ∙ cond_both (saves q v) (replicate 11 false) (set r.rewritten n true) (λ l. length l ≡ 11) (λ _. refl) (λ _. length-set r.rewritten n true ∙ f.saving.as_many);
+            ∙ cond_both (saves q v) (replicate 11 false) (set r.rewritten n true) (λ l. length l ≡ 11) (λ _. refl) (λ _. length-set r.rewritten n true ∙ f.saving.as_many);
         rewritten = λ p. ap (λ g. g p) (rewritten_after h k q v) ∙ flags n is below p (saves q v) ∙ ap (λ l. get_or l (ordinal p) false) (sym rewritten);
       }
 
@@ -78,10 +90,12 @@ module _ (h : Header) (k : Known) (r : RegisterRecord) (f : FollowsRegisters k r
   unfolding register_written
   usbcmd_run usbcmd s run = subst (λ p. FollowsRun (register_written h k p v) s) (sym usbcmd) run
 
-  -- of another one
-  pub other_run : (n : ℕ) → (q ≡ Usbcmd → ⊥) → FollowsRun (register_written h k q v) (record r { values = set r.values n (Some v) })
-  unfolding register_written valued
-  other_run n usbcmd = grind (arith, f)
+-- of another register than USBCMD
+pub other_saving : (s : Saving) (q : Register) (v : ℕ) → (q ≡ Usbcmd → ⊥) → s ≡ saving_behind s q v
+other_saving s q v other = grind arith
+
+pub other_rewritten : (flags : List Bool) (q : Register) (v n : ℕ) → (q ≡ Usbcmd → ⊥) → set flags n true ≡ (if saves q v then replicate 11 false else set flags n true)
+other_rewritten flags q v n other = grind arith
 
 no_value : Option ℕ
 no_value = None

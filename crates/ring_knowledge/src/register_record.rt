@@ -137,8 +137,9 @@ impl RegisterRecord {
     /// Notes what a value of USBCMD says of the state that the controller saves.
     fn save_or_restore(&mut self, value: u64)
         ensures { self.new ≡ record self.old {
-            saving = if save_bit value then Saved else if restore_bit value then Restoring else if run_bit value then Unsaved else self.old.saving;
-            rewritten = if save_bit value then replicate 11 false else self.old.rewritten } }
+          saving = if save_bit value then Saved else if restore_bit value then Restoring else if run_bit value then Unsaved else self.old.saving;
+          rewritten = if save_bit value then replicate 11 false else self.old.rewritten;
+        } }
     {
         if value / 256 % 2 == 1 {
             self.saving = Saving::Saved;

@@ -1,5 +1,5 @@
-ghost use Rattle.std.specs.Prelude.{◌≡◌, if◌then◌else◌, ℕ, ◌==◌, ◌+◌, ◌≤◌, ◌<◌, ◌^◌, IfSome, Some, find, length};
-ghost use Rattle.segments.specs.Spots.{IsSpot, number, rank, spot_cycle};
+ghost use Rattle.std.specs.Prelude.{◌&&◌, ◌≡◌, if◌then◌else◌, ℕ, ◌==◌, ◌+◌, ◌≤◌, ◌<◌, ◌^◌, IfSome, Some, find, length};
+ghost use Rattle.segments.specs.Spots.{is_spot, IsSpot, number, rank, spot_address, spot_cycle};
 ghost use Rattle.segments.specs.Places.{link_crossed, links, place_count};
 ghost use Rattle.segments.specs.declared.spot.Spot.TheVariants.{Link};
 ghost use Rattle.segments.specs.Shape.{IsShape};
