@@ -2,7 +2,6 @@
 from areas import is_bad_area
 from blocks import aligned, bits, is_set
 from events import may_be_taken
-from rings import Data
 from runs import RESET, RESTORE, RUN, SAVE, SET_UP
 
 
@@ -73,10 +72,9 @@ def is_bad_crcr(known, value):
     ring = known.command_ring
     if ring is None or bits(value, 1, 2) != 0 or known.held(ring) != 0 and not known.is_written('crcr'):
         return True
-    floor, number = known.floor(ring), known.floor(ring).number
-    behind = [Data(number)] if known.is_way_given(ring, number) else []
-    is_named = any((aligned(value, 64), bits(value, 0, 1)) == (ring.spot_address(spot), ring.spot_cycle(spot)) for spot in [floor, *behind])
-    return not is_named or known.ceiling(ring) > number
+    floor = known.floor(ring)
+    is_named = (aligned(value, 64), bits(value, 0, 1)) == (ring.spot_address(floor), ring.spot_cycle(floor))
+    return not is_named or known.ceiling(ring) > floor.number
 
 
 def is_bad_erstsz(known, value):

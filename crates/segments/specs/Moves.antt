@@ -40,13 +40,9 @@ may_move_to shape v t = is_border v.lengths 0 (number t) && is_reached shape v t
 unfoldable pub is_move : Shape → RingView → ℕ → Bool → ℕ → ℕ → Bool
 is_move shape v p cycle least most = list_any (λ t. is_target shape p cycle t && may_move_to shape v t) (spots_between least most)
 
--- where a controller may stand that can't have gone on from the floor: there, and at the block behind a Link there that was given
-unfoldable pub still_spots : Shape → RingView → List Spot
-still_spots shape v = v.floor ∷ (if is_way_given shape v (floor_number v) then Data (floor_number v) ∷ [] else [])
-
--- a pointer and a cycle state name where the ring stands still
+-- a pointer and a cycle state name the floor, and the controller can't have gone on from there
 unfoldable pub stands_still_at : Shape → RingView → ℕ → Bool → Bool
-stands_still_at shape v p cycle = nat_le (ceiling shape v) (floor_number v) && list_any (is_target shape p cycle) (still_spots shape v)
+stands_still_at shape v p cycle = nat_le (ceiling shape v) (floor_number v) && is_target shape p cycle v.floor
 
 -- they name a spot at which the controller stands still: it can't have gone on from the floor
 unfoldable pub is_placement : Shape → RingView → ℕ → Bool → Bool

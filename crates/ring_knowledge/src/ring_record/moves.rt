@@ -50,8 +50,8 @@ impl RingRecord {
         self.is_move(shape, pointer, cycle, floor, floor)
     }
 
-    /// Whether a pointer and a cycle state name where the ring stands still, since its controller can't have gone on from the floor:
-    /// there, or the block behind a Link there that was given. CRCR names that of a Command Ring (xHCI 5.4.5).
+    /// Whether a pointer and a cycle state name the floor, and the ring's controller can't have gone on from there: so CRCR names where
+    /// a Command Ring stands still (xHCI 5.4.5).
     pub fn stands_still_at(&self, shape: &RingShape, pointer: u64, cycle: bool) -> bool
         ensures { (v : RingView) → FollowsRing shape.now v self.now → result ≡ stands_still_at shape.now v pointer cycle }
     {
@@ -59,14 +59,7 @@ impl RingRecord {
         if self.ceiling() > floor {
             return false;
         }
-        if is_target(shape, pointer, cycle, self.floor) {
-            return true;
-        }
-        if self.is_way_given(shape, floor) {
-            is_target(shape, pointer, cycle, Spot::Data(floor))
-        } else {
-            false
-        }
+        is_target(shape, pointer, cycle, self.floor)
     }
 
     /// Whether a pointer and a cycle state stand at a spot, with a number from least to most, to which the ring may be moved.
