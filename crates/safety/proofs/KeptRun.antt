@@ -100,22 +100,22 @@ module _ (h : Header) where
       run_same (run_or_stop h k x) (run_or_stop h (valued k Usbcmd x) x)
       (record { started = (grind arith); halt = (grind arith); register = (grind arith); used = (grind arith) }) run
 
-  crcr_run : (k : Known) → RunKeeps h k → IsDriverRing h (command_id h) → is_used h k ≡ false → (x : ℕ) → RunKeeps h (register_written h k Crcr x)
+  crcr_run : (k : Known) → RunKeeps h k → IsDriverRing h (command_id h) → (is_used h k ≡ true → is_named k ≡ true) → (x : ℕ) → RunKeeps h (register_written h k Crcr x)
   unfolding register_written valued
-  crcr_run k run ring unused x = record {
+  crcr_run k run ring used_named x = record {
     again = run.again;
     started = run.started;
     running = λ started on. refl;
     used = λ started used. refl;
     named = λ named. ring;
     absent = run.absent;
-    unused = λ off named. unused;
+    unused = λ off named. false_from_ne_true (is_used h k) (λ used. false≢true (sym (run.unused off (used_named used)) ∙ used));
   }
 
   register_run : IsHeader h → (k : Known) → RunKeeps h k → (r : Register) (x : ℕ) → is_bad_register h k r x ≡ false → RunKeeps h (register_written h k r x)
   unfolding register_written is_bad_register valued
   register_run is k run Usbcmd x good = value_run k x (usbcmd_run k run x good)
-  register_run is k run Crcr x good = let names = names_ring h is k x (or_parts (is_in_run k) (is_bad_crcr h k x) good).1 in crcr_run k run names.is_ring names.unused x
+  register_run is k run Crcr x good = let names = names_ring h is k x (or_parts (is_in_run k) (is_bad_crcr h k x) good).1 in crcr_run k run names.is_ring names.named x
   register_run is k run r x good = run_same k (register_written h k r x) (record { started = refl; halt = refl; register = refl; used = λ used. used }) run
 
   -- ---- an event: it holds the command ring nowhere else

@@ -1,5 +1,5 @@
 -- What CRCR names where it may be written
-use Rattle.safety.proofs.Words.{◌≡◌, ◌==◌, ◌||◌, ◌∙◌, ℕ, not, true, false, Option, Some, None, arith, refl, sym, ap, eqb-true, or_parts, not-false, false≢true, address_of, Header, Ring, IsHeader, is_command_kind, ring_with, shape_of, command_ring, command_id, base_address, ring_cycle_state, command_stop, command_abort, Known, is_no_first_block, is_bad_crcr, IsDriverRing, is_used}
+use Rattle.safety.proofs.Words.{◌≡◌, ◌==◌, ◌||◌, ◌∙◌, ℕ, not, true, false, Option, Some, None, arith, refl, sym, ap, eqb-true, or_parts, not-false, false≢true, address_of, Header, Ring, IsHeader, is_command_kind, ring_with, shape_of, command_ring, command_id, base_address, ring_cycle_state, command_stop, command_abort, Known, names_still, is_bad_crcr, IsDriverRing, is_used, is_named, is_unwritten, is_none, is_some, stands_still_at, is_target, ceiling, floor_number, and_parts, nat_le, ◌&&◌, ◌≤◌, Bool, Crcr, not, absurd}
 use Rattle.safety.proofs.Headers.{command_found, command_named, shape_is}
 use Rattle.safety.proofs.RingIds.{found_again, together}
 use Rattle.safety.proofs.KeptRegisters.{command_drives}
@@ -13,24 +13,34 @@ module _ (h : Header) (is : IsHeader h) where
   pub command_driver : (c : Ring) → command_ring h ≡ Some c → IsDriverRing h (command_id h)
   command_driver c at = record { ring = c; found = command_with c at; kind = command_drives c.shape.kind (command_found h is c at).1 }
 
-  first_block : (v : ℕ) (o : Option Ring) → command_ring h ≡ o → is_no_first_block v o ≡ false → (IsDriverRing h (command_id h)) × (base_address v ≡ address_of (shape_of h (command_id h)) 0)
-  unfolding is_no_first_block
-  first_block v o at first =
-      grind (arith, false≢true, command_driver, eqb-true, base_address, address_of, not-false, shape_is, command_id, command_with)
+  stands : (k : Known) (v : ℕ) (o : Option Ring) → command_ring h ≡ o → names_still k v o ≡ true →
+      ((c : Ring) × (command_ring h ≡ Some c)) × (stands_still_at (shape_of h (command_id h)) (k.ring (command_id h)) (base_address v) (ring_cycle_state v == 1) ≡ true)
+  unfolding names_still
+  stands k v None at named = absurd (false≢true named)
+  stands k v (Some r) at named =
+      ((r, at),
+      ap (λ s. stands_still_at s (k.ring (command_id h)) (base_address v) (ring_cycle_state v == 1)) (shape_is h (command_id h) r (command_with r at))
+      ∙ ap (λ i. stands_still_at r.shape (k.ring i) (base_address v) (ring_cycle_state v == 1)) (command_named h is (Some r) at) ∙ named)
 
-  -- where CRCR may be written the command ring is there, its first block is named, and it wasn't started
+  -- where CRCR may be written the command ring is there, and its floor is named, from which the controller can't have gone on
   pub record NamesRing (k : Known) (v : ℕ) : Type 0 where
+    pub ring : Ring
+    pub there : command_ring h ≡ Some ring
     pub is_ring : IsDriverRing h (command_id h)
-    pub base : base_address v ≡ address_of (shape_of h (command_id h)) 0
-    pub cycle : ring_cycle_state v ≡ 1
-    pub unused : is_used h k ≡ false
+    pub still : ceiling (shape_of h (command_id h)) (k.ring (command_id h)) ≤ floor_number (k.ring (command_id h))
+    pub floor : is_target (shape_of h (command_id h)) (base_address v) (ring_cycle_state v == 1) (k.ring (command_id h)).floor ≡ true
+    pub named : is_used h k ≡ true → is_named k ≡ true
+
+  used_named : (o : Option ℕ) (used : Bool) → (used && is_none o) ≡ false → used ≡ true → is_some o ≡ true
+  used_named o used none on = grind (arith, false≢true)
 
   pub names_ring : (k : Known) (v : ℕ) → is_bad_crcr h k v ≡ false → NamesRing k v
-  unfolding is_bad_crcr
+  unfolding is_bad_crcr stands_still_at is_unwritten
   names_ring k v good =
-      let four = or_parts (is_no_first_block v (command_ring h) || not (ring_cycle_state v == 1) || command_stop v || command_abort v) (is_used h k) good in
-      let three = or_parts (is_no_first_block v (command_ring h) || not (ring_cycle_state v == 1) || command_stop v) (command_abort v) four.0 in
-      let two = or_parts (is_no_first_block v (command_ring h) || not (ring_cycle_state v == 1)) (command_stop v) three.0 in
-      let one = or_parts (is_no_first_block v (command_ring h)) (not (ring_cycle_state v == 1)) two.0 in
-      let first = first_block v (command_ring h) refl one.0 in
-      record { is_ring = first.0; base = first.1; cycle = eqb-true (ring_cycle_state v) 1 (not-false (ring_cycle_state v == 1) one.1); unused = four.1 }
+      let three = or_parts (not (names_still k v (command_ring h)) || command_stop v || command_abort v) (is_used h k && is_unwritten k Crcr) good in
+      let two = or_parts (not (names_still k v (command_ring h)) || command_stop v) (command_abort v) three.0 in
+      let one = or_parts (not (names_still k v (command_ring h))) (command_stop v) two.0 in
+      let there = stands k v (command_ring h) refl (not-false (names_still k v (command_ring h)) one.0) in
+      let parts = and_parts (nat_le (ceiling (shape_of h (command_id h)) (k.ring (command_id h))) (floor_number (k.ring (command_id h))))
+          (is_target (shape_of h (command_id h)) (base_address v) (ring_cycle_state v == 1) (k.ring (command_id h)).floor) there.1 in
+      record { ring = there.0.0; there = there.0.1; is_ring = command_driver there.0.0 there.0.1; still = leb-le parts.0; floor = parts.1; named = used_named (k.register Crcr) (is_used h k) three.1 }

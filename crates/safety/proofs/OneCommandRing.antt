@@ -41,3 +41,10 @@ no_command_ring h is r other =
       | inl some ↦ absurd (other (sym (one_command h.rings r (together h is) some)))
       | inr none ↦ none
     ]
+
+-- and the one that is there is one
+pub a_command_ring : (h : Header) → IsHeader h → (r : Ring) → command_ring h ≡ Some r → is_command_ring h (command_id h) ≡ true
+unfolding is_command_ring
+a_command_ring h is r at =
+    let found = command_found h is r at in
+    any_of (λ q. is_command q && q.id == command_id h) h.rings r found.0 (and_from (is_command r) (r.id == command_id h) found.1 (eq-eqb r.id (command_id h) (sym (command_named h is (Some r) at))))

@@ -4,7 +4,11 @@ use Rattle.safety.proofs.LowerLaws.{[], ◌≡◌, ◌≢◌, ◌<◌, ◌&&◌,
 use Rattle.safety.proofs.RowRegister.{ErdpReached, SameRings, agrees_once_counted, same_matches, valued_agrees, with_same, erdp_agrees, erdp_stays}
 use Rattle.safety.proofs.MatchesGoesOn.{SameController}
 use Rattle.safety.proofs.NamesRing.{NamesRing, names_ring}
-use Rattle.safety.proofs.OneCommandRing.{no_command_ring}
+use Rattle.safety.proofs.OneCommandRing.{a_command_ring, no_command_ring}
+use Rattle.segments.proofs.SpotOrder.{data_not_link, rank_least, rank_most}
+use Rattle.segments.specs.Spots.{is_spot, IsSpot, rank, spot_address, spot_cycle}
+use Rattle.segments.specs.Moves.{is_target}
+use Rattle.segments.specs.declared.spot.Spot.TheVariants.{Link}
 use Rattle.ring_knowledge.specs.Registers.{asked}
 use Rattle.ownership_rules.specs.Registers.{is_bad_crcr}
 use Rattle.world_state.specs.DriverRows as driver
@@ -122,7 +126,16 @@ newest_none shape v [] none = border_first v.lengths
 newest_none shape v (Placed a ∷ older) none = border_first v.lengths
 newest_none shape v (Took a b d ∷ older) none = absurd (omega (arith, none))
 
--- the controller's pointer into command rings is set on one that wasn't started
+-- a spot behind another one with its number: the block, where that is
+further_number : (s t : Spot) → rank s ≤ rank t → number s ≤ number t
+further_number s t further = omega (arith, further, rank_least s, rank_most t)
+
+way_at : (way : ℕ → Bool) (s t : Spot) (q : ℕ) → s ≡ Data q → rank s ≤ rank t → number t ≡ number s → ((p : ℕ) → t ≡ Data p → way p ≡ true) → way q ≡ true
+way_at way (Link p) t q at further same given = absurd (data_not_link q p (sym at))
+way_at way (Data p) (Link e) q at further same given = absurd (omega (arith, further, same))
+way_at way (Data p) (Data e) q at further same given = given q (ap Data same ∙ at)
+
+-- the controller's pointer into command rings is set where the command ring stands still
 module _ (h : Header) (is : IsHeader h) (k : Known) (unread : List Block) (w : World) (d : DriverKeeps h k) (g : Agrees h k unread w) (x : ℕ) (n : NamesRing h is k x) where
   m : Known
   m = valued k Crcr x
@@ -130,49 +143,78 @@ module _ (h : Header) (is : IsHeader h) (k : Known) (unread : List Block) (w : W
   v : World
   v = driver.command_placed h (driver.valued w Crcr x) x
 
-  new : next_take (shape_of h (command_id h)) (w.events (command_id h)) ≡ 0
-  new = g.matches.new n.unused
+  shape : Shape
+  shape = shape_of h (command_id h)
 
-  -- its takes, of which there are none, are as they should be
-  right : (is_out_of_order (shape_of h (command_id h)) (w.events (command_id h)) ≡ false) × (has_other_words (shape_of h (command_id h)) (w.events (command_id h)) ≡ false)
-  right =
-      elim (cases_Bool (is_named k)) [
-        | inr off ↦ let rests = (g.matches.before off).rests in (rests.in_order, rests.as_declared)
-        | inl on ↦ let ring = (g.matches.command on).ring in (ring.in_order, ring.as_declared)
-      ]
+  view : RingView
+  view = k.ring (command_id h)
 
-  -- it is held where it begins
+  -- how far the controller is, by its events
+  record Standing : Type 0 where
+    below : floor_number view ≤ ceiling shape view
+    next : next_take shape (w.events (command_id h)) ≡ floor_number view
+    newest : Newest shape view (floor_number view) (w.events (command_id h))
+    way : (q : ℕ) → view.floor ≡ Data q → is_way_given shape view q ≡ true
+    in_order : is_out_of_order shape (w.events (command_id h)) ≡ false
+    as_declared : has_other_words shape (w.events (command_id h)) ≡ false
+    idle : w.under_way ≡ None
+
+  none_taken : (t : Spot) (o : Option UnderWay) → number t ≡ floor_number view → UnderWayMatches h k t o → o ≡ None
+  unfolding next_command
+  none_taken t None same u = refl
+  none_taken t (Some y) same u = absurd (omega (arith, same, u.0))
+
+  of_named : is_named k ≡ true → Standing
+  of_named on =
+      let c : CommandMatches h k w = g.matches.command on in
+      let least : floor_number view ≤ number c.spot = further_number view.floor c.spot c.ring.reached in
+      let same : number c.spot ≡ floor_number view = omega (arith, least, c.ring.below, n.still) in
+      record {
+        below = omega (arith, least, c.ring.below);
+        next = c.ring.next ∙ same;
+        newest = subst (λ q. Newest shape view q (w.events (command_id h))) same c.ring.newest;
+        way = λ q at. way_at (is_way_given shape view) view.floor c.spot q at c.ring.reached same c.ring.way;
+        in_order = c.ring.in_order;
+        as_declared = c.ring.as_declared;
+        idle = none_taken c.spot w.under_way same c.under_way;
+      }
+
   held_is : (o : Option ℕ) → not (is_value 0 o) ≡ false → o ≡ Some 0
   held_is o unused = grind (arith, eqb-true, false≢true)
 
-  held : (k.ring (command_id h)).held ≡ Some 0
-  held = held_is (k.ring (command_id h)).held n.unused
+  first_way : (q : ℕ) → view.floor ≡ Data 0 → view.floor ≡ Data q → is_way_given shape view q ≡ true
+  unfolding is_way_given
+  first_way q floor at = search (rules, number, true)
 
-  floor : (k.ring (command_id h)).floor ≡ Data 0
-  floor = elim d.command_ring.held [ inl none ↦ absurd (none-some 0 (sym none ∙ held)) | inr first ↦ first.1 ]
+  of_unnamed : is_named k ≡ false → Standing
+  of_unnamed off =
+      let before = g.matches.before off in
+      let unused : is_used h k ≡ false = false_from_ne_true (is_used h k) (λ used. false≢true (sym off ∙ n.named used)) in
+      let held : view.held ≡ Some 0 = held_is view.held unused in
+      let floor : view.floor ≡ Data 0 = elim d.command_ring.held [ inl none ↦ absurd (none-some 0 (sym none ∙ held)) | inr first ↦ first.1 ] in
+      let zero : floor_number view ≡ 0 = ap (λ t. number t) floor in
+      record {
+        below = omega (arith, zero);
+        next = g.matches.new unused ∙ sym zero;
+        newest = subst (λ q. Newest shape view q (w.events (command_id h))) (sym zero) (newest_none shape view (w.events (command_id h)) (g.matches.new unused));
+        way = λ q at. first_way q floor at;
+        in_order = before.rests.in_order;
+        as_declared = before.rests.as_declared;
+        idle = before.none;
+      }
 
-  no_ceiling : ceiling (shape_of h (command_id h)) (k.ring (command_id h)) ≡ 0
-  unfolding ceiling
-  no_ceiling = ap (λ o. unwrap_or o (given_count (shape_of h (command_id h)) (k.ring (command_id h)))) held
+  standing : Standing
+  standing = elim (cases_Bool (is_named k)) [ inl on ↦ of_named on | inr off ↦ of_unnamed off ]
 
-  next_zero : next_command h k ≡ 0
+  next_is : next_command h k ≡ floor_number view
   unfolding next_command
-  next_zero = ap (λ t. number t) floor
-
-  idle : w.under_way ≡ None
-  idle =
-      elim (cases_Bool (is_named k)) [
-        | inr off ↦ (g.matches.before off).none
-        | inl on ↦ nothing_taken (g.matches.command on).spot w.under_way (g.matches.command on).ring.below (g.matches.command on).under_way
-      ]
-    where
-      nothing_taken : (t : Spot) (o : Option UnderWay) → number t ≤ ceiling (shape_of h (command_id h)) (k.ring (command_id h)) → UnderWayMatches h k t o → o ≡ None
-      nothing_taken t None below u = refl
-      nothing_taken t (Some y) below u = absurd (omega (arith, below, u.0, no_ceiling))
+  next_is = refl
 
   not_taken : (s i : ℕ) → is_stopping_now h k s i ≡ true → ⊥
   unfolding is_stopping_now may_be_taken
-  not_taken s i stopping = search (rules, and_parts, ltb-true, no_ceiling, nat_lt)
+  not_taken s i stopping =
+      let parts = and_parts (nat_lt (next_command h k) (ceiling shape view)) _ stopping in
+      omega (arith, ltb-true (next_command h k) (ceiling shape view) parts.0, next_is, n.still)
 
   -- no Stop Endpoint is the next command
   seen : (s i : ℕ) → k.stop_seen s i ≡ false
@@ -182,48 +224,66 @@ module _ (h : Header) (is : IsHeader h) (k : Known) (unread : List Block) (w : W
         | inl stopped ↦ absurd (not_taken s i (d.states.seen_command s i stopped))
       ]
 
-  pointer : v.pointer_of (command_id h) ≡ address_of (shape_of h (command_id h)) 0
-  unfolding v driver.command_placed driver.valued
-  pointer = put_at w.pointer_of (command_id h) (base_address x) ∙ n.base
+  -- what CRCR names
+  record Names : Type 0 where
+    is_spot : IsSpot shape view.floor
+    address : base_address x ≡ spot_address shape view.floor
+    cycle : ring_cycle_state x ≡ spot_cycle shape view.floor
 
-  cycle : v.cycle_state (command_id h) ≡ cycle_of (shape_of h (command_id h)) 0
+  cycle_is : (b c : ℕ) → (c == (if b % 2 == 1 then 1 else 0)) ≡ true → b % 2 ≡ c
+  cycle_is b c same = grind (arith, eqb-true)
+
+  names : Names
+  unfolding is_target
+  names =
+      let parts = and_parts (is_spot shape view.floor) _ n.floor in
+      let two = and_parts (spot_address shape view.floor == base_address x) _ parts.1 in
+      record {
+        is_spot = parts.0;
+        address = sym (eqb-true (spot_address shape view.floor) (base_address x) two.0);
+        cycle = cycle_is x (spot_cycle shape view.floor) two.1;
+      }
+
+  pointer : v.pointer_of (command_id h) ≡ spot_address shape view.floor
   unfolding v driver.command_placed driver.valued
-  cycle = put_at w.cycle_state (command_id h) (ring_cycle_state x) ∙ n.cycle ∙ sym (cycle_of-first (shape_of h (command_id h)) 0 (place_count_pos (shape_of h (command_id h)) (ring_shape h is (command_id h) n.is_ring).is))
+  pointer = put_at w.pointer_of (command_id h) (base_address x) ∙ names.address
+
+  cycle : v.cycle_state (command_id h) ≡ spot_cycle shape view.floor
+  unfolding v driver.command_placed driver.valued
+  cycle = put_at w.cycle_state (command_id h) (ring_cycle_state x) ∙ names.cycle
 
   -- it works once its doorbell is rung
   inactive : v.is_active (command_id h) ≡ false
   unfolding v driver.command_placed driver.valued
-  inactive = elim (cases_Bool (w.is_active (command_id h))) [
-    | inr off ↦ and_left (w.is_active (command_id h)) _ off
-    | inl on ↦ elim (cases_Bool (is_named k)) [
-      | inr off ↦ absurd (false≢true (sym (g.matches.before off).rests.inactive ∙ on))
-      | inl named ↦ absurd (none-some 0 (sym ((g.matches.command named).ring.opened on) ∙ held))
-    ]
-  ]
+  inactive = and_right (w.is_active (command_id h)) (not (driver.is_command_ring h (command_id h))) (ap not (a_command_ring h is n.ring n.there))
 
-  still_new : next_take (shape_of h (command_id h)) (v.events (command_id h)) ≡ 0
-  unfolding v driver.command_placed driver.valued
-  still_new = new
-
-  still_right : (is_out_of_order (shape_of h (command_id h)) (v.events (command_id h)) ≡ false) × (has_other_words (shape_of h (command_id h)) (v.events (command_id h)) ≡ false)
-  unfolding v driver.command_placed driver.valued
-  still_right = right
+  still_new : is_used h m ≡ false → next_take shape (v.events (command_id h)) ≡ 0
+  unfolding m v valued driver.command_placed driver.valued
+  still_new unused = g.matches.new unused
 
   none : v.under_way ≡ None
   unfolding v driver.command_placed driver.valued
-  none = idle
+  none = standing.idle
 
-  first : RingMatches (shape_of h (command_id h)) (k.ring (command_id h)) (state_of v (command_id h)) (Data 0)
-  unfolding is_way_given
-  first = search (rules, v, pointer, cycle, is_way_given, true, number, false≢true, inactive, still_new, newest_none, still_right, floor)
-
-  next_there : next_command h m ≡ 0
-  unfolding next_command m valued
-  next_there = ap (λ t. number t) floor
+  placed_ring : RingMatches shape view (state_of v (command_id h)) view.floor
+  unfolding v driver.command_placed driver.valued
+  placed_ring = record {
+    is_spot = names.is_spot;
+    pointer = pointer;
+    cycle = cycle;
+    reached = omega arith;
+    below = standing.below;
+    way = standing.way;
+    opened = λ on. absurd (false≢true (sym inactive ∙ on));
+    next = standing.next;
+    newest = standing.newest;
+    in_order = standing.in_order;
+    as_declared = standing.as_declared;
+  }
 
   command : CommandMatches h m v
-  unfolding m valued
-  command = record { spot = Data 0; ring = first; under_way = subst (λ o. UnderWayMatches h m (Data 0) o) (sym none) (sym next_there, seen) }
+  unfolding m valued next_command
+  command = record { spot = view.floor; ring = placed_ring; under_way = subst (λ o. UnderWayMatches h m view.floor o) (sym none) (refl, seen) }
 
   -- the other rings are as they were
   others : (r : ℕ) → r ≢ command_id h → state_of v r ≡ state_of w r
@@ -256,7 +316,7 @@ module _ (h : Header) (is : IsHeader h) (k : Known) (unread : List Block) (w : W
     rings = other_ring;
     before = λ off. absurd (false≢true (sym off));
     command = λ _. command;
-    new = λ _. still_new;
+    new = still_new;
     scribbles = g.matches.scribbles;
     contexts = λ p c u. g.matches.contexts p c (record { due = u.due; given = u.given; command = u.command });
     inside = g.matches.inside;

@@ -59,6 +59,6 @@ pub use Rattle.safety.proofs.WokenChanges.{Owns, changes_woken, flipped, one_of}
 pub use Rattle.safety.proofs.WokenTransfers.{transfer_woken, works_there}
 pub use Rattle.safety.proofs.WokenTwice.{woken_more}
 pub use Rattle.safety.proofs.Words.{AddressDevice, AfterStop, Agrees, All, All-append, All-cons, All-get_or, All-head, All-map, All-nil, All-tail, All-weaker, AllAreRead, AreAtFloors, AreKept, ArePossible, AreSteps, Bell, Binding, Block, BlockKind, Bool, BoundRing, Change, Command, CommandCompletion, CommandKeeps, CommandMatches, CommandsKeep, Config, ConfigureEndpoint, ContextSize, Crossing, Data, Dcbaap, Declares, DeviceLeft, DisableSlot, Disables, DriverKeeps, EnableSlot, Ended, EndpointState, EndpointsKeep, Erdp, Error, EvaluateContext, FewSteps, Finish, FreeRow, Given, GivesMore, GoesSoFar, Halt, Halted, Harm, Header, Headline, HeldMore, Holds, InputContextChanged, IsBlock, IsComing, IsDriverRing, IsDriverRow, IsHeader, IsHeldMore, IsIdleEndpoint, IsIn, IsKept, IsNamed, IsRestored, IsRow, IsSafe, IsSpot, IsStep, IsTimely, IsTransferRing, IsUnfinished, KeepsPassed, KeptByRestoring, KeptByRows, Known, LazyLaw, Link, List, Look, LooksOutside, MayCome, MayReach, MayRing, MoreLaw, MovesIf, MovesRestored, NextRow, NoOp, None, NopRow, Opens, Option, Other, Places, Position, PostsOverUnread, Reaches, Read, Reg, RegRead, Register, Report, ResetDevice, ResetEndpoint, Resets, Restores, Rests, Ring, RingChange, RingEvent, RingKeeps, RingMatches, RingRow, RingSpot, RingState, RingView, RingWithdraws, RingsKeep, Row, RunKeeps, Running, Runs, Scene, Scribble, Segment, SetTrDequeue, Shape, SlotGoesOn, Some, Spot, Square, SquareLaw, Stands, StatesKeep, StaysIf, Step, StopEndpoint, Stopped, Stops, Sub, TakenCommand, TakenOtherWords, TakenOutOfOrder, Test, TransferEvent, Types, UnderWay, UnderWayMatches, Usbcmd, Usbsts, WaitsInsideDescriptor, Withdraws, World, Write, Writes, [], address_inside, address_of, after, after_reached, all_read, and_cases, and_from, and_left, and_parts, and_right, any_of, ap, append-nil, append_assoc, arith, block_at, broken_of, cases_Bool, cases_eq, cases_lt, cases_option, ceiling_held, ceiling_within, changed, code, command_of, cond-false, cond-true, cond_both, context_cycle, context_pointer, crossing_positive, cycle, cycle_of, cycle_of_bit, declared, driver_event_read, endpoint, eq-eqb, eqb-true, erdp_address, exclude, false, false_from_ne_true, false≢true, filter, find, flat_map, floor_number, from_filter, fun_ext, get_or, get_or-map-range_with_len, get_or-reverse, gives, gives_crossing, gives_crossing_is, gives_is, has_isoch, header_after, header_now, id_of, if◌then◌else◌, in_filter, inl, inr, interrupts, is_at_rest, is_command_completion, is_declared_as, is_disabled, is_dropped, is_due, is_halting, is_idle, is_in_run, is_inside, is_late_reset, is_link, is_none, is_not_whole, is_of_service, is_off, is_open_if, is_other_event, is_report_of_success, is_restored, is_ring, is_ring_row, is_run, is_running, is_set, is_shape, is_some, is_stop_of, is_stopped, is_stopping, is_success, is_transfer_event, is_transfer_kind, is_transfer_ring, is_trb_error, is_used, is_wrong_start, kind, known_after, known_now, lazy_further, le-ltb, leads_wrong, length, length-append, length-map-range_with_len, length-reverse, list_any, lt-ltb, ltb-false, ltb-true, map, max, move_more, named_ahead, named_context, named_spot-Some, nat_le, nat_lt, ne_eqb, new_ring, next, next_later, next_least, no_ops, none-some, not, not-false, not-true, not_from_false, not_from_true, number, number-after, option_and_then, option_map, or_cases, or_from, or_left, or_parts, or_right, place_count, placed_by_context, pointer, position, position-None, position_from, position_given_is, positions_given-one, put, put_pair, range_with_len, rank, rank_least, rank_most, read_made, refl, register_or_zero, reset_bit, restored, restores_keeps, reverse, reverse-append, reverse-reverse, ring_with, row_next, rules, run_bit, same_Some, same_rank, same_register, same_words, scene_reached, slice_get, slice_get-append, slice_get_within, slot, some_of, split_at, spot_address, spots_from, state_of, step_made, stop_spot_reached, subst, suc, sym, true, typed_by_context, unwrap_or, whole_more, with_coming, with_left, with_register, with_world, withdraws_keeps, word, zero, ℕ, ◌&&◌, ◌*◌, ◌++◌, ◌+◌, ◌-◌, ◌<◌, ◌==◌, ◌||◌, ◌∙◌, ◌∷◌, ◌≡◌, ◌≢◌, ◌≤◌, ◌⊎◌, is_value, NotNamed, is_named, is_asked, is_done, HaltState, Asked, Done, NotHalting, resets_by, resting}
-unfoldable pub use Rattle.safety.proofs.Words.{activated, added_endpoints, adds_streams, awaits_binding, begins_anew, behind_blocks, bell_row, binding_in, bindings_effect, binds, binds_ring, bound_to, broken_off, brought, can_finish, can_post, can_report, can_report_at, can_succeed, ceiling, changed_by, changed_by_all, changes, changes_owned, code_posted, code_told, command_at, command_given, command_id, command_placed, command_taken, completed, context_ranges, counted, covers, crossed, crossings_given, declaration_tests, descriptor_length, device_named, device_ranges, disabled, doorbell_tests, driver_reset, driver_resets, driver_rings, driver_runs_again, driver_runs_once, drops, due_crossings, due_positions, emptied, ended, ended_with, endpoint_bell, endpoint_rung, ends_need, entry_of, entry_ranges, event_at, event_read, event_shape, event_size, finish_finished, finish_succeeded, finished, finished_as, flips_passed, forgotten, further, given_by, given_of, given_up, goals, goes_badly, gone, halts, harm_of, harms, has_bad_context, has_bad_entry, has_changed_context, has_gap, has_no_room, has_one_of, has_other_words, has_repeats, has_stopped, held_at_ceiling, held_at_given, holds_of, in_state, inactive, is_among, is_bad_area, is_bad_bell, is_bad_binding, is_bad_command, is_bad_command_register, is_bad_dequeue, is_bad_device, is_bad_doorbell, is_bad_erdp, is_bad_free, is_bad_kind, is_bad_move, is_bad_place, is_bad_register, is_bad_ring, is_bad_segment, is_bad_stay, is_bad_withdraw, is_being_bound, is_being_moved, is_border, is_busy, is_changed_since, is_command_ring, is_context_changed, is_driver_ring, is_early_reset, is_early_resume, is_early_start, is_first_halt, is_had, is_had_by_another, is_held_ring, is_impossible_by_kind, is_impossible_completion, is_impossible_read, is_impossible_status, is_in_profile, is_in_range_lease, is_in_use, is_inside_descriptor, is_kept, is_last, is_late, is_leased, is_left, is_not_declared, is_not_restored, is_open, is_other_than_declared, is_out_of_order, is_placed, is_placed_by, is_placed_by_all, is_placement, is_soiled, is_stop_under_way, is_stopping_now, is_taken, is_the_controllers, is_touched, is_working, known_changed_by, known_changed_by_all, known_disabled, known_finished, known_in_state, known_succeeded, known_typed, lazy_brought, lazy_goals, lazy_run, lazy_steps, learned, length_from, lenient, lenient_tests, listed, looked, looked_at, looks_taken, looks_to, made, may_be_taken, may_come, may_pass, moved, moved_to, named, need, next_command, next_take, no_device, nothing, noting_post, number_behind, number_reported, on_crossing, on_position, on_ring, open_goals, open_ranges, opening, other_posted, passed, passes_end, placed, placed_on, pointed, pointers_after, pointers_at, pointers_for, positions_given, post_of, posted, posts_posted, range_of_command, range_of_entry, read_tests, register_read, register_tests, register_written, report_code, report_error, report_goals, report_stop, report_success, reported, reported_on, reset, resets, restored_on, rests_with, ring_bound, ring_having, ring_moved, ring_placed, ring_restored, row_done, run_or_stop, rung, runs_again, runs_once, seen_by_look, segment_ranges, set_to, shape_of, shows, shows_first_lap, slots, some_command, some_crossed, some_flips, some_given, spot_on, spots_before, status_read, steps_before, steps_for, steps_made, stop_ended, stop_goal, stopped_at, stopped_goals, stopped_number, stopped_with, stored, stored_block, streams_in, succeeded, table_range, taken_device, taken_on, taken_up_to, takes_bad_device, target, touches_endpoint, touches_ring, transfer_read, transferred, transferred_at, typed, unfinished, unfinished_positions, unreported, unrestored, until_halted, valued, waits, was_stop_seen, while_running, with_command_ring, with_device, with_reported, with_ring, with_word, without_descriptor, without_ring, world_changed_by, world_changed_by_all, world_disabled, world_in_state, world_typed, write_tests, written, is_unwritten, is_bad_crcr, is_no_first_block}
+unfoldable pub use Rattle.safety.proofs.Words.{activated, added_endpoints, adds_streams, awaits_binding, begins_anew, behind_blocks, bell_row, binding_in, bindings_effect, binds, binds_ring, bound_to, broken_off, brought, can_finish, can_post, can_report, can_report_at, can_succeed, ceiling, changed_by, changed_by_all, changes, changes_owned, code_posted, code_told, command_at, command_given, command_id, command_placed, command_taken, completed, context_ranges, counted, covers, crossed, crossings_given, declaration_tests, descriptor_length, device_named, device_ranges, disabled, doorbell_tests, driver_reset, driver_resets, driver_rings, driver_runs_again, driver_runs_once, drops, due_crossings, due_positions, emptied, ended, ended_with, endpoint_bell, endpoint_rung, ends_need, entry_of, entry_ranges, event_at, event_read, event_shape, event_size, finish_finished, finish_succeeded, finished, finished_as, flips_passed, forgotten, further, given_by, given_of, given_up, goals, goes_badly, gone, halts, harm_of, harms, has_bad_context, has_bad_entry, has_changed_context, has_gap, has_no_room, has_one_of, has_other_words, has_repeats, has_stopped, held_at_ceiling, held_at_given, holds_of, in_state, inactive, is_among, is_bad_area, is_bad_bell, is_bad_binding, is_bad_command, is_bad_command_register, is_bad_dequeue, is_bad_device, is_bad_doorbell, is_bad_erdp, is_bad_free, is_bad_kind, is_bad_move, is_bad_place, is_bad_register, is_bad_ring, is_bad_segment, is_bad_stay, is_bad_withdraw, is_being_bound, is_being_moved, is_border, is_busy, is_changed_since, is_command_ring, is_context_changed, is_driver_ring, is_early_reset, is_early_resume, is_early_start, is_first_halt, is_had, is_had_by_another, is_held_ring, is_impossible_by_kind, is_impossible_completion, is_impossible_read, is_impossible_status, is_in_profile, is_in_range_lease, is_in_use, is_inside_descriptor, is_kept, is_last, is_late, is_leased, is_left, is_not_declared, is_not_restored, is_open, is_other_than_declared, is_out_of_order, is_placed, is_placed_by, is_placed_by_all, is_placement, is_soiled, is_stop_under_way, is_stopping_now, is_taken, is_the_controllers, is_touched, is_working, known_changed_by, known_changed_by_all, known_disabled, known_finished, known_in_state, known_succeeded, known_typed, lazy_brought, lazy_goals, lazy_run, lazy_steps, learned, length_from, lenient, lenient_tests, listed, looked, looked_at, looks_taken, looks_to, made, may_be_taken, may_come, may_pass, moved, moved_to, named, need, next_command, next_take, no_device, nothing, noting_post, number_behind, number_reported, on_crossing, on_position, on_ring, open_goals, open_ranges, opening, other_posted, passed, passes_end, placed, placed_on, pointed, pointers_after, pointers_at, pointers_for, positions_given, post_of, posted, posts_posted, range_of_command, range_of_entry, read_tests, register_read, register_tests, register_written, report_code, report_error, report_goals, report_stop, report_success, reported, reported_on, reset, resets, restored_on, rests_with, ring_bound, ring_having, ring_moved, ring_placed, ring_restored, row_done, run_or_stop, rung, runs_again, runs_once, seen_by_look, segment_ranges, set_to, shape_of, shows, shows_first_lap, slots, some_command, some_crossed, some_flips, some_given, spot_on, spots_before, status_read, steps_before, steps_for, steps_made, stop_ended, stop_goal, stopped_at, stopped_goals, stopped_number, stopped_with, stored, stored_block, streams_in, succeeded, table_range, taken_device, taken_on, taken_up_to, takes_bad_device, target, touches_endpoint, touches_ring, transfer_read, transferred, transferred_at, typed, unfinished, unfinished_positions, unreported, unrestored, until_halted, valued, waits, was_stop_seen, while_running, with_command_ring, with_device, with_reported, with_ring, with_word, without_descriptor, without_ring, world_changed_by, world_changed_by_all, world_disabled, world_in_state, world_typed, write_tests, written, is_unwritten, is_bad_crcr, names_still}
 pub use Rattle.safety.proofs.WriteBeside.{beside_new, beside_old, context_from, context_parts}
 pub use Rattle.safety.proofs.WriteEvents.{word_read, written_word}

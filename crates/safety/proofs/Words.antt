@@ -30,7 +30,7 @@ unfoldable pub use Rattle.ownership_rules.specs.OnLiterals.{rules_on_literals}
 pub use Rattle.ownership_rules.specs.OpenLeases.{DeviceContext, InputContext, Leased, Range, SegmentTable, SlotEntry, Use}
 unfoldable pub use Rattle.ownership_rules.specs.OpenLeases.{context_ranges, covers, device_ranges, entry_ranges, is_leased, is_the_controllers, lease_bytes, lease_start, open_leases, open_on, open_ranges, range_of_command, range_of_context, range_of_device, range_of_entry, segment_ranges, slots, table_range}
 pub use Rattle.ownership_rules.specs.Refusal.{Test, broken_of}
-unfoldable pub use Rattle.ownership_rules.specs.Registers.{has_gap, is_bad_command_register, is_bad_crcr, is_bad_erdp, is_bad_register, is_early_reset, is_early_resume, is_early_start, is_impossible_read, is_impossible_status, is_late_reset, is_no_first_block, is_unwritten, is_wrong_start, may_pass, names_no_place, read_tests, register_tests}
+unfoldable pub use Rattle.ownership_rules.specs.Registers.{has_gap, is_bad_command_register, is_bad_crcr, is_bad_erdp, is_bad_register, is_early_reset, is_early_resume, is_early_start, is_impossible_read, is_impossible_status, is_late_reset, names_still, is_unwritten, is_wrong_start, may_pass, names_no_place, read_tests, register_tests}
 pub use Rattle.ownership_rules.specs.Rings.{is_transfer_ring}
 unfoldable pub use Rattle.ownership_rules.specs.Rings.{goes_badly, is_bad_free, is_bad_kind, is_bad_ring, is_bad_segment, is_in_use, shows_first_lap}
 unfoldable pub use Rattle.ownership_rules.specs.Rules.{broken, lenient, lenient_tests, tests}
