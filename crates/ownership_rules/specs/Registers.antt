@@ -10,9 +10,9 @@ use Rattle.traces.specs.declared.ring.Ring.{Ring}
 use Rattle.traces.specs.declared.register.Register.{Register}
 use Rattle.traces.specs.declared.register.Register.TheVariants.{Usbcmd, Usbsts, Crcr, Dcbaap, Config, Erstsz, Erstba, Erdp}
 use Rattle.traces.specs.Header.{command_id, command_ring, event_ring, event_shape, shape_of}
-use Rattle.traces.specs.Halts.{is_asked, is_done}
+use Rattle.traces.specs.Halts.{is_asked, is_done, is_saved, is_unrestored}
 use Rattle.traces.specs.Versions.{has_runs}
-use Rattle.traces.specs.Register.{register_or_zero, run_bit, reset_bit, halted_bit, base_address, ring_cycle_state, command_stop, command_abort}
+use Rattle.traces.specs.Register.{register_or_zero, run_bit, reset_bit, save_bit, restore_bit, halted_bit, base_address, ring_cycle_state, command_stop, command_abort}
 use Rattle.ring_knowledge.specs.Known.{Known}
 use Rattle.ownership_rules.specs.Refusal.{Test}
 use Rattle.ownership_rules.specs.declared.refusal.Refusal.TheVariants.{BadRegister, BadErdp, ImpossibleRead}
@@ -36,6 +36,14 @@ is_late_reset k v = reset_bit v && list_any (is_written k) (Crcr ∷ Dcbaap ∷ 
 -- R/S 1, and HCRST 0
 abbrev pub is_run : ℕ → Bool
 is_run v = run_bit v && not (reset_bit v)
+
+-- the controller is known to have halted, and neither goes on nor is reset
+abbrev pub is_at_rest : Known → ℕ → Bool
+is_at_rest k v = is_done k.halt && not (run_bit v) && not (reset_bit v)
+
+-- its state is restored (CRS) elsewhere, or beside a saving one, or where none was saved
+unfoldable pub is_early_restore : Known → ℕ → Bool
+is_early_restore k v = restore_bit v && (not (is_at_rest k v) || save_bit v || not (is_saved k.halt))
 
 -- the start before the rings are set up
 unfoldable pub is_early_start : Known → ℕ → Bool
@@ -89,10 +97,18 @@ module _ (h : Header) where
   unfoldable pub names_no_place : Known → ℕ → Bool
   names_no_place k v = not k.started && is_some (event_ring h) && not (is_event_place (event_shape h) (erdp_address v))
 
-  -- a controller that halts goes on before it was seen to have halted, or with another command ring than CRCR names, or with commands that
-  -- aren't finished
+  -- a controller that halts goes on before it was seen to have halted, or with a state that it saved and isn't known to have restored, or with
+  -- another command ring than CRCR names, or with commands that aren't finished
   unfoldable pub is_early_resume : Known → ℕ → Bool
-  is_early_resume k v = is_asked k.halt && is_run v && (not (is_done k.halt) || is_unwritten k Crcr || may_be_taken h k)
+  is_early_resume k v = is_asked k.halt && is_run v && (not (is_done k.halt) || is_unrestored k.halt || is_unwritten k Crcr || may_be_taken h k)
+
+  -- its state is saved (CSS) before it has halted, or with commands that aren't finished
+  unfoldable pub is_early_save : Known → ℕ → Bool
+  is_early_save k v = save_bit v && (not (is_at_rest k v) || may_be_taken h k)
+
+  -- a controller that runs more than once saves or restores its state where it can't
+  unfoldable pub saves_badly : Known → ℕ → Bool
+  saves_badly k v = has_runs h.version && (is_early_save k v || is_early_restore k v)
 
   -- behind a TRB of the command ring that wasn't handed over one was
   unfoldable pub has_gap : Known → Bool
@@ -105,7 +121,7 @@ module _ (h : Header) where
 
   unfoldable pub is_bad_command_register : Known → ℕ → Bool
   is_bad_command_register k v =
-      if k.started then is_early_reset k v || is_early_resume k v else is_late_reset k v || is_early_start k v || is_wrong_start k v
+      saves_badly k v || (if k.started then is_early_reset k v || is_early_resume k v else is_late_reset k v || is_early_start k v || is_wrong_start k v)
 
   unfoldable pub is_bad_register : Known → Register → ℕ → Bool
   is_bad_register k Usbcmd v = is_bad_command_register k v

@@ -6,13 +6,12 @@ use Rattle.commands.specs.declared.state.EndpointState.TheVariants.{Running}
 use Rattle.commands.specs.States.{is_stopped}
 use Rattle.event_ring.specs.EventRing.{position_from, erdp_address}
 use Rattle.traces.specs.declared.header.Header.{Header}
-use Rattle.traces.specs.declared.halt.Halt.{Halt}
-use Rattle.traces.specs.declared.halt.Halt.TheVariants.{Not, Asked, Done}
+use Rattle.traces.specs.declared.halt.Halt.TheVariants.{Not}
 use Rattle.traces.specs.declared.register.Register.{Register}
 use Rattle.traces.specs.declared.register.Register.TheVariants.{Usbcmd, Usbsts, Erdp}
 use Rattle.traces.specs.Header.{command_id, event_shape}
 use Rattle.traces.specs.Register.{with_register, run_bit, reset_bit, halted_bit}
-use Rattle.traces.specs.Halts.{is_asked}
+use Rattle.traces.specs.Halts.{is_asked, seen, told}
 use Rattle.traces.specs.Versions.{has_runs}
 use Rattle.ring_knowledge.specs.Known.{Known}
 use Rattle.ring_knowledge.specs.Rings.{on_ring}
@@ -23,21 +22,17 @@ runs_once k v =
     if not k.started then (if run_bit v && not (reset_bit v) then record k { started = true } else k)
     else (if not (run_bit v) || reset_bit v then record k { stopped = true } else k)
 
--- R/S is cleared in a run
-abbrev pub asked : Halt → Halt
-asked Not = Asked
-asked halt = halt
-
--- one that runs again: R/S 0 has it halt, and R/S 1 go on; HCRST 1 is told apart, where it resets the controller
+-- one that runs again: R/S 0 has it halt, and then save its state and restore it; R/S 1 has it go on; HCRST 1 is told apart, where it resets the
+-- controller
 unfoldable pub runs_again : Known → ℕ → Known
 runs_again k v =
     if reset_bit v then k
     else if run_bit v then record k { started = true; halt = Not }
-    else if k.started then record k { halt = asked k.halt } else k
+    else if k.started then record k { halt = told k.halt v } else k
 
--- USBSTS was read: behind R/S 0 the controller is seen to have halted
+-- USBSTS was read: behind R/S 0 the controller is seen to have halted, and behind CRS to have restored its state
 unfoldable pub status_read : Known → ℕ → Known
-status_read k v = if is_asked k.halt && halted_bit v then record k { halt = Done } else k
+status_read k v = if is_asked k.halt && halted_bit v then record k { halt = seen k.halt v } else k
 
 unfoldable pub register_read : Known → Register → ℕ → Known
 register_read k Usbsts v = status_read k v

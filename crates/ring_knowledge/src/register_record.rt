@@ -1,8 +1,7 @@
 ghost use Rattle.std.specs.Prelude.{ℕ, ◌≡◌, ◌<◌, ◌==◌, ◌&&◌, if◌then◌else◌, false};
-ghost use Rattle.traces.specs.Halts.{is_asked};
-ghost use Rattle.traces.specs.declared.halt.Halt.TheVariants.{Done};
+ghost use Rattle.traces.specs.Halts.{is_asked, seen};
 ghost use Rattle.traces.specs.Header.{command_id};
-ghost use Rattle.traces.specs.Register.{ordinal};
+ghost use Rattle.traces.specs.Register.{halted_bit, ordinal};
 ghost use Rattle.traces.specs.declared.header.Header.{Header};
 ghost use Rattle.ring_knowledge.specs.Known.{Known, nothing};
 ghost use Rattle.ring_knowledge.specs.Histories.{gone};
@@ -82,16 +81,16 @@ impl RegisterRecord {
         ensures { (k : Known) → FollowsRegisters k self.old → FollowsRegisters (register_read k register value) self.new }
     {
         match register {
-            Register::Usbsts => self.note_status(value % 2 == 1),
+            Register::Usbsts => self.note_status(value),
             _ => {}
         }
     }
 
-    fn note_status(&mut self, has_halted: bool)
-        ensures { self.new ≡ record self.old { halt = if is_asked self.old.halt && has_halted then Done else self.old.halt } }
+    fn note_status(&mut self, value: u64)
+        ensures { self.new ≡ record self.old { halt = if is_asked self.old.halt && halted_bit value then seen self.old.halt value else self.old.halt } }
     {
-        if self.halt.is_asked() && has_halted {
-            self.halt = Halt::Done;
+        if self.halt.is_asked() && value % 2 == 1 {
+            self.halt = self.halt.seen(value);
         }
     }
 
@@ -149,8 +148,8 @@ impl RegisterRecord {
         if runs {
             self.started = true;
             self.halt = Halt::Not;
-        } else if self.started && !self.halt.is_asked() {
-            self.halt = Halt::Asked;
+        } else if self.started {
+            self.halt = self.halt.told(value);
         }
     }
 }

@@ -1,6 +1,6 @@
 -- Whether the controller runs, and whether CRCR names the command ring, is kept by each row
 use Rattle.traces.specs.Versions.{has_runs}
-use Rattle.ring_knowledge.specs.Registers.{asked}
+use Rattle.traces.specs.Halts.{told}
 use Rattle.safety.proofs.MiddleLaws.{◌≡◌, ◌⊎◌, ◌&&◌, ◌||◌, ◌∙◌, if◌then◌else◌, ℕ, Bool, not, true, false, Option, None, Some, refl, sym, ap, inl, inr, arith, rules, false≢true, cases_Bool, eqb-true, Block, Header, Register, Usbcmd, Crcr, Sub, Write, Reg, Bell, Read, RegRead, IsHeader, command_id, kind, run_bit, reset_bit, Known, on_ring, RunKeeps, DriverKeeps, KeptByRows, lenient, learned, Row, [], is_used, is_named, is_asked, is_done, HaltState, is_some, is_value, is_run, is_in_run, is_restored, register_written, valued, run_or_stop, runs_once, runs_again, rung, endpoint_rung, event_read, is_bad_register, is_bad_command_register, is_early_resume, is_early_start, is_bad_crcr, or_parts, register_facts, bell_facts, register_leaves, status_leaves, declaration_leaves, write_leaves, bell_leaves, event_same, endpoints_of, command_not_transfer, ring_here, ring_elsewhere, IsDriverRing, subst, Opens, NotHalting, cond_both, with_register, is_unwritten, and_from, false_from_ne_true}
 use Rattle.safety.proofs.NamesRing.{names_ring}
 use Rattle.safety.proofs.SafeContext.{named_in_run, not_done}
@@ -37,8 +37,8 @@ module _ (h : Header) where
   crcr_same : (k l : Known) → l.register ≡ k.register → is_named l ≡ is_named k
   crcr_same k l same = ap (λ (f : Register → Option ℕ). is_some (f Crcr)) same
 
-  still_not : (a : HaltState) → is_done (asked a) ≡ false → is_done a ≡ false
-  still_not o goes = grind arith
+  still_not : (a : HaltState) (v : ℕ) → is_done (told a v) ≡ false → is_done a ≡ false
+  still_not o v goes = grind arith
 
   still_runs : (k l : Known) → (is_done k.halt ≡ true → is_done l.halt ≡ true) → is_done l.halt ≡ false → is_done k.halt ≡ false
   still_runs k l more running = elim (cases_Bool (is_done k.halt)) [ inl halted ↦ absurd (false≢true (sym running ∙ more halted)) | inr not_yet ↦ not_yet ]
@@ -79,12 +79,12 @@ module _ (h : Header) where
   once_run k run x good false false b at runs = run
 
   again_run : has_runs h.version ≡ true → (k : Known) → RunKeeps h k → (x : ℕ) → is_bad_command_register h k x ≡ false → (r a s : Bool) → reset_bit x ≡ r → run_bit x ≡ a → k.started ≡ s →
-      RunKeeps h (if r then k else if a then record k { started = true; halt = NotHalting } else if s then record k { halt = asked k.halt } else k)
+      RunKeeps h (if r then k else if a then record k { started = true; halt = NotHalting } else if s then record k { halt = told k.halt x } else k)
   again_run runs_more k run x good true a s resets runs at = run
   again_run runs_more k run x good false true s resets runs at =
       let named = runs_named k run x good (and_from (run_bit x) (not (reset_bit x)) runs (ap not resets)) in
       run_in k run true k.stopped NotHalting (λ _. runs_more) (λ asked. absurd (false≢true asked)) (λ _ _. named) (λ _ _. named) (λ off. absurd (false≢true (sym off)))
-  again_run runs_more k run x good false false true resets runs at = run_in k run k.started k.stopped (asked k.halt) (λ _. runs_more) (λ _. at) (λ on goes. run.running on (still_not k.halt goes)) run.used run.unused
+  again_run runs_more k run x good false false true resets runs at = run_in k run k.started k.stopped (told k.halt x) (λ _. runs_more) (λ _. at) (λ on goes. run.running on (still_not k.halt x goes)) run.used run.unused
   again_run runs_more k run x good false false false resets runs at = run
 
   usbcmd_run : (k : Known) → RunKeeps h k → (x : ℕ) → is_bad_command_register h k x ≡ false → RunKeeps h (run_or_stop h k x)

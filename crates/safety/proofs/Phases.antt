@@ -2,7 +2,7 @@
 use Rattle.safety.proofs.UpperLaws.{[], ◌≡◌, ◌∷◌, ◌∙◌, ◌&&◌, ◌||◌, ℕ, Bool, not, true, false, List, None, Option, refl, sym, ap, inl, inr, and_parts, and_from, or_parts, or_left, or_right, cases_Bool, cond-true, false≢true, false_from_ne_true, not_from_false, arith, Block, kind, Header, Read, Register, Usbcmd, reset_bit, IsHeader, World, Known, learned, learned_read, event_same, all_read, is_asked, is_done, DriverKeeps, Runs}
 use Rattle.traces.specs.Versions.{has_runs}
 use Rattle.ring_knowledge.specs.Resets.{resets}
-use Rattle.ownership_rules.specs.Registers.{has_gap, is_bad_command_register, is_bad_register, is_early_reset, is_early_resume}
+use Rattle.ownership_rules.specs.Registers.{has_gap, is_bad_command_register, is_bad_register, is_early_reset, is_early_resume, saves_badly}
 use Rattle.world_state.specs.DriverRows as driver
 
 module _ (h : Header) where
@@ -39,9 +39,10 @@ module _ (h : Header) where
     early : (x : ℕ) → k.started ≡ true → has_runs h.version ≡ true → reset_bit x ≡ true → is_done k.halt ≡ false → is_bad_command_register h k x ≡ true
     unfolding is_bad_command_register is_early_reset
     early x started runs bit not_done =
-        cond-true k.started _ _ started
+        or_right (saves_badly h k x) _
+        (cond-true k.started _ _ started
         ∙ or_left (has_runs h.version && reset_bit x && (not (is_done k.halt) || has_gap h k)) (is_early_resume h k x)
-        (and_from (has_runs h.version && reset_bit x) _ (and_from (has_runs h.version) (reset_bit x) runs bit) (or_left (not (is_done k.halt)) (has_gap h k) (not_from_false (is_done k.halt) not_done)))
+        (and_from (has_runs h.version && reset_bit x) _ (and_from (has_runs h.version) (reset_bit x) runs bit) (or_left (not (is_done k.halt)) (has_gap h k) (not_from_false (is_done k.halt) not_done))))
 
     -- the world is reset only where the rows say so
     pub no_reset : DriverKeeps h k → (r : Register) (x : ℕ) → is_bad_register h k r x ≡ false → resets k r x ≡ false → driver.resets w r x ≡ false

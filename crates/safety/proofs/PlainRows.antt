@@ -1,6 +1,8 @@
 -- What a row does that doesn't reset the controller; and a register that is read
-use Rattle.safety.proofs.LowerLaws.{◌≡◌, ◌&&◌, ◌||◌, ◌∙◌, if◌then◌else◌, ℕ, Bool, not, true, false, List, Option, Some, None, refl, sym, ap, subst, arith, same_Some, none-some, cases_Bool, cond-true, cond-false, inl, inr, false≢true, and_parts, cond_some, Usbsts, DriverKeeps, Block, Header, Row, Reg, RegRead, Register, World, counted, Known, learned, Agrees, is_asked, Done, register_read, status_read}
+use Rattle.safety.proofs.LowerLaws.{◌≡◌, ◌&&◌, ◌||◌, ◌∙◌, if◌then◌else◌, ℕ, Bool, not, true, false, List, Option, Some, None, refl, sym, ap, subst, arith, same_Some, none-some, cases_Bool, cond-true, cond-false, inl, inr, false≢true, and_parts, cond_some, Usbsts, DriverKeeps, Block, Header, Row, Reg, RegRead, Register, World, counted, Known, learned, Agrees, is_asked, HaltState, register_read, status_read}
+use Rattle.traces.specs.Halts.{seen}
 use Rattle.traces.specs.Register.{halted_bit}
+use Rattle.safety.proofs.RowFrames.{seen_asked}
 use Rattle.safety.proofs.RowRegister.{agrees_once_counted}
 use Rattle.safety.proofs.RowRegisters.{phase_agrees}
 use Rattle.world_state.specs.DriverRows as driver
@@ -14,19 +16,20 @@ halted_shown : (started halted asked bit : Bool) → (asked ≡ true → started
 halted_shown started halted asked bit was seen shown = grind arith
 
 module _ (h : Header) (k : Known) (unread : List Block) (w : World) (d : DriverKeeps h k) (g : Agrees h k unread w) where
-  seen_halted : w.halted ≡ true → is_asked k.halt ≡ true → Agrees h (let m : Known = record k { halt = Done } in m) unread w
-  seen_halted halted asked =
-      subst (λ (b : Bool). Agrees h (let m : Known = record k { halt = Done } in m) unread (let v : World = record w { halting = b } in v)) (sym (g.stands.halting ∙ asked))
-      (subst (λ (b : Bool). Agrees h (let m : Known = record k { halt = Done } in m) unread (let v : World = record w { started = b; halting = true } in v)) (sym g.stands.started)
-      (phase_agrees h k unread w g k.started Done w.halted (λ _. halted) (λ _. refl) (λ some. sym g.stands.started ∙ g.events.started some)))
+  -- how far it is in what it does once it has halted, the driver alone knows
+  seen_halted : (a : HaltState) → is_asked a ≡ true → w.halted ≡ true → is_asked k.halt ≡ true → Agrees h (let m : Known = record k { halt = a } in m) unread w
+  seen_halted a is halted asked =
+      subst (λ (b : Bool). Agrees h (let m : Known = record k { halt = a } in m) unread (let v : World = record w { halting = b } in v)) (is ∙ sym (g.stands.halting ∙ asked))
+      (subst (λ (b : Bool). Agrees h (let m : Known = record k { halt = a } in m) unread (let v : World = record w { started = b; halting = is_asked a } in v)) (sym g.stands.started)
+      (phase_agrees h k unread w g k.started a w.halted (λ _. halted) (λ _. is) (λ some. sym g.stands.started ∙ g.events.started some)))
 
   status_by : (x : ℕ) → driver.shows w Usbsts x ≡ true → Agrees h (status_read k x) unread w
   unfolding status_read driver.shows
   status_by x shown =
       elim (cases_Bool (is_asked k.halt && halted_bit x)) [
-        | inl seen ↦
-            subst (λ m. Agrees h m unread w) (sym (cond-true (is_asked k.halt && halted_bit x) _ k seen))
-            (seen_halted (halted_shown w.started w.halted (is_asked k.halt) (halted_bit x) (λ asked. g.stands.started ∙ d.run.started asked) seen shown) (and_parts (is_asked k.halt) (halted_bit x) seen).0)
+        | inl seen_so ↦
+            subst (λ m. Agrees h m unread w) (sym (cond-true (is_asked k.halt && halted_bit x) _ k seen_so))
+            (seen_halted (seen k.halt x) (seen_asked k.halt x (and_parts (is_asked k.halt) (halted_bit x) seen_so).0) (halted_shown w.started w.halted (is_asked k.halt) (halted_bit x) (λ asked. g.stands.started ∙ d.run.started asked) seen_so shown) (and_parts (is_asked k.halt) (halted_bit x) seen_so).0)
         | inr none ↦ subst (λ m. Agrees h m unread w) (sym (cond-false (is_asked k.halt && halted_bit x) _ k none)) g
       ]
 

@@ -1,6 +1,7 @@
 -- What each row of the driver leaves as it is
 use Rattle.safety.proofs.RunOrStop.{runs_leave}
-use Rattle.safety.proofs.Words.{is_asked, is_done, ◌≡◌, ◌⊎◌, ℕ, true, and_left, List, RegRead, register_read, status_read, refl, rules, Block, RingView, Writes, changed, Header, Register, Sub, Write, Reg, Bell, shape_of, command_id, Known, on_ring, with_device, with_word, written, run_or_stop, valued, register_written, endpoint_rung, rung, learned, arith, runs_again, runs_once, Usbcmd, Erdp}
+use Rattle.traces.specs.Halts.{seen}
+use Rattle.safety.proofs.Words.{HaltState, false≢true, is_asked, is_done, ◌≡◌, ◌⊎◌, ℕ, true, and_left, List, RegRead, register_read, status_read, refl, rules, Block, RingView, Writes, changed, Header, Register, Sub, Write, Reg, Bell, shape_of, command_id, Known, on_ring, with_device, with_word, written, run_or_stop, valued, register_written, endpoint_rung, rung, learned, arith, runs_again, runs_once, Usbcmd, Erdp}
 use Rattle.safety.proofs.SameDriver.{view_after}
 
 -- how far a controller may be on a ring
@@ -72,6 +73,13 @@ pub record BellLeaves (k l : Known) : Type 0 where
   pub registers : SameRegisters k l
   pub memory : SameMemory k l
   pub slots : SameSlots k l
+
+-- behind what USBSTS shows a controller that is to halt has halted
+pub seen_asked : (a : HaltState) (x : ℕ) → is_asked a ≡ true → is_asked (seen a x) ≡ true
+seen_asked a x asked = grind (arith, false≢true)
+
+pub seen_done : (a : HaltState) (x : ℕ) → is_asked a ≡ true → is_done (seen a x) ≡ true
+seen_done a x asked = grind (arith, false≢true)
 
 module _ (h : Header) where
   pub declaration_leaves : (k : Known) (r : ℕ) (blocks : List Block) → DeclarationLeaves k (learned h k (Sub r blocks))

@@ -5,7 +5,7 @@ use Rattle.safety.proofs.RowRegister.{ErdpReached, SameRings, agrees_once_counte
 use Rattle.safety.proofs.MatchesGoesOn.{SameController}
 use Rattle.safety.proofs.NamesRing.{NamesRing, names_ring}
 use Rattle.safety.proofs.OneCommandRing.{no_command_ring}
-use Rattle.ring_knowledge.specs.Registers.{asked}
+use Rattle.traces.specs.Halts.{told}
 use Rattle.ownership_rules.specs.Registers.{is_bad_crcr}
 use Rattle.world_state.specs.DriverRows as driver
 use Rattle.world_state.specs.World as of_world
@@ -45,11 +45,11 @@ module _ (h : Header) (k : Known) (unread : List Block) (w : World) (g : Agrees 
     stamps = g.stamps;
   }
 
-  asked_done : (a : HaltState) → is_done (asked a) ≡ true → is_done a ≡ true
-  asked_done o done = grind (arith, false≢true)
+  told_done : (a : HaltState) (x : ℕ) → is_done (told a x) ≡ true → is_done a ≡ true
+  told_done o x done = grind (arith, false≢true)
 
-  asked_is : (a : HaltState) → is_asked (asked a) ≡ true
-  asked_is o = grind arith
+  told_asked : (a : HaltState) (x : ℕ) → is_asked (told a x) ≡ true
+  told_asked o x = grind arith
 
   stands_in : (s : Bool) (a : HaltState) → (is_done a ≡ true → w.halted ≡ true) → (w.halted ≡ true → is_asked a ≡ true) → is_asked a ≡ w.halting → (0 < w.posted → s ≡ true) →
       Agrees h (in_phase s a) unread (record w { started = s })
@@ -76,26 +76,27 @@ module _ (h : Header) (k : Known) (unread : List Block) (w : World) (g : Agrees 
       (once_by k.started (run_bit x && not (reset_bit x)) (not (run_bit x) || reset_bit x) still)
 
   -- one that runs again
-  again_known : Bool → Bool → Bool → Known
-  again_known r a s = if r then k else if a then record k { started = true; halt = NotHalting } else if s then record k { halt = asked k.halt } else k
+  again_known : ℕ → Bool → Bool → Bool → Known
+  again_known x r a s = if r then k else if a then record k { started = true; halt = NotHalting } else if s then record k { halt = told k.halt x } else k
 
   again_world : Bool → Bool → Bool → World
   again_world r a s = if r then w else if a then record w { started = true; halting = false; halted = false } else if s then record w { halting = true } else w
 
-  again_by : (r a s : Bool) → Agrees h (again_known r a s) unread (again_world r a s)
+  again_by : (x : ℕ) (r a s : Bool) → Agrees h (again_known x r a s) unread (again_world r a s)
   unfolding again_known again_world
-  again_by true a s = g
-  again_by false true s = phase_agrees true NotHalting false (λ done. absurd (false≢true done)) (λ done. absurd (false≢true done)) (λ _. refl)
-  again_by false false true =
-      let halts : Agrees h (in_phase k.started (asked k.halt)) unread (world_phase k.started (is_asked (asked k.halt)) w.halted) =
-      phase_agrees k.started (asked k.halt) w.halted (λ done. g.stands.halted (asked_done k.halt done)) (λ done. asked_is k.halt) (λ some. sym g.stands.started ∙ g.events.started some) in
-      subst (λ a. Agrees h (record k { halt = asked k.halt }) unread (record w { halting = a })) (asked_is k.halt)
-      (subst (λ s. Agrees h (record k { halt = asked k.halt }) unread (world_phase s (is_asked (asked k.halt)) w.halted)) (sym g.stands.started) halts)
-  again_by false false false = g
+  again_by x true a s = g
+  again_by x false true s = phase_agrees true NotHalting false (λ done. absurd (false≢true done)) (λ done. absurd (false≢true done)) (λ _. refl)
+  again_by x false false true =
+      let halt : HaltState = told k.halt x in
+      let halts : Agrees h (in_phase k.started halt) unread (world_phase k.started (is_asked halt) w.halted) =
+      phase_agrees k.started halt w.halted (λ done. g.stands.halted (told_done k.halt x done)) (λ done. told_asked k.halt x) (λ some. sym g.stands.started ∙ g.events.started some) in
+      subst (λ a. Agrees h (record k { halt = halt }) unread (record w { halting = a })) (told_asked k.halt x)
+      (subst (λ s. Agrees h (record k { halt = halt }) unread (world_phase s (is_asked halt) w.halted)) (sym g.stands.started) halts)
+  again_by x false false false = g
 
   again_agrees : (x : ℕ) → Agrees h (runs_again k x) unread (driver.runs_again h w x)
   unfolding runs_again driver.runs_again again_known again_world
-  again_agrees x = subst (λ s. Agrees h (runs_again k x) unread (again_world (reset_bit x) (run_bit x) s)) (sym g.stands.started) (again_by (reset_bit x) (run_bit x) k.started)
+  again_agrees x = subst (λ s. Agrees h (runs_again k x) unread (again_world (reset_bit x) (run_bit x) s)) (sym g.stands.started) (again_by x (reset_bit x) (run_bit x) k.started)
 
   run_agrees : (x : ℕ) → (run_or_stop h k x).stopped ≡ false → Agrees h (run_or_stop h k x) unread (driver.run_or_stop h w x)
   unfolding run_or_stop driver.run_or_stop

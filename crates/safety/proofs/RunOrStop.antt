@@ -1,6 +1,6 @@
 -- A value of USBCMD that starts, halts or stops the controller changes nothing else
 use Rattle.safety.proofs.Words.{◌≡◌, ◌&&◌, ◌||◌, if◌then◌else◌, ℕ, Bool, not, true, refl, cond_both, Header, Known, run_or_stop, runs_once, runs_again, run_bit, reset_bit, HaltState, NotHalting}
-use Rattle.ring_knowledge.specs.Registers.{asked}
+use Rattle.traces.specs.Halts.{told}
 use Rattle.traces.specs.Versions.{has_runs}
 
 pub record SameButPhase (k l : Known) : Type 0 where
@@ -75,7 +75,7 @@ module _ (k : Known) where
   unfolding runs_again
   again x =
       either (reset_bit x) k _ same
-      (either (run_bit x) _ _ (in_phase true k.stopped NotHalting (λ _. refl)) (either k.started _ k (in_phase k.started k.stopped (asked k.halt) (λ on. on)) same))
+      (either (run_bit x) _ _ (in_phase true k.stopped NotHalting (λ _. refl)) (either k.started _ k (in_phase k.started k.stopped (told k.halt x) (λ on. on)) same))
 
 pub runs_leave : (h : Header) (k : Known) (x : ℕ) → SameButPhase k (run_or_stop h k x)
 unfolding run_or_stop

@@ -1,7 +1,8 @@
 -- A driver's row and an event that isn't read yet may change places, whatever kind of row it is
 use Rattle.traces.specs.Header.{command_ring}
 use Rattle.safety.proofs.IdleCommands.{taken_still}
-use Rattle.ring_knowledge.specs.Registers.{asked}
+use Rattle.traces.specs.Halts.{seen, told}
+use Rattle.ownership_rules.specs.Registers.{is_early_restore, is_early_save, saves_badly}
 use Rattle.traces.specs.Register.{command_abort, command_stop, halted_bit, ring_cycle_state}
 use Rattle.traces.specs.declared.register.Register.TheVariants.{Crcr, Erstba, Erstsz}
 use Rattle.traces.specs.Versions.{has_runs}
@@ -47,7 +48,7 @@ config_stands k o v h on good = refl
 
 -- how far the controller is in halting behind a value of a register, where it runs more than once
 halt_after : Bool → HaltState → Register → ℕ → HaltState
-halt_after true a Usbcmd v = if reset_bit v then a else if run_bit v then NotHalting else asked a
+halt_after true a Usbcmd v = if reset_bit v then a else if run_bit v then NotHalting else told a v
 halt_after _ a r v = a
 
 module _ (h : Header) where
@@ -66,8 +67,8 @@ module _ (h : Header) where
   unfolding runs_again halt_after
   again_is k v on = by (reset_bit v) (run_bit v)
     where
-      by : (r a : Bool) → (if r then k else if a then record k { started = true; halt = NotHalting } else if k.started then record k { halt = asked k.halt } else k)
-          ≡ (let l : Known = record k { halt = if r then k.halt else if a then NotHalting else asked k.halt } in l)
+      by : (r a : Bool) → (if r then k else if a then record k { started = true; halt = NotHalting } else if k.started then record k { halt = told k.halt v } else k)
+          ≡ (let l : Known = record k { halt = if r then k.halt else if a then NotHalting else told k.halt v } in l)
       by true a = refl
       by false true = ap (λ (s : Bool). let l : Known = record k { started = s; halt = NotHalting } in l) (sym on)
       by false false = cond-true k.started _ _ on
@@ -147,6 +148,16 @@ module _ (h : Header) where
         | inl some ↦ (grind (arith, some))
       ]
 
+  saves_still : (k l : Known) → StillRuled k l → (v : ℕ) → saves_badly h k v ≡ false → saves_badly h l v ≡ false
+  unfolding saves_badly is_early_save is_early_restore
+  saves_still k l s v good =
+      elim (cases_Bool (may_be_taken h k)) [
+        | inr none ↦
+            let later = s.taken none in
+            (grind (arith, later, none))
+        | inl some ↦ (grind (arith, some))
+      ]
+
   reset_still : (k l : Known) → StillRuled k l → (v : ℕ) → is_early_reset h k v ≡ false → resets k Usbcmd v ≡ false → is_early_reset h l v ≡ false
   unfolding is_early_reset resets
   reset_still k l s v good stays = grind (arith, false≢true)
@@ -165,8 +176,10 @@ module _ (h : Header) where
   register_still : (k l : Known) → StillRuled k l → (r : Register) (v : ℕ) → resets k r v ≡ false → is_bad_register h k r v ≡ false → is_bad_register h l r v ≡ false
   unfolding is_bad_register is_bad_command_register
   register_still k l s Usbcmd v stays good =
-      let parts = or_parts (is_early_reset h k v) (is_early_resume h k v) (sym (cond-true k.started (is_early_reset h k v || is_early_resume h k v) _ s.on) ∙ good) in
-      cond-true l.started (is_early_reset h l v || is_early_resume h l v) _ s.also ∙ or_from _ _ (reset_still k l s v parts.0 stays) (resume_still k l s v parts.1)
+      let both = or_parts (saves_badly h k v) _ good in
+      let parts = or_parts (is_early_reset h k v) (is_early_resume h k v) (sym (cond-true k.started (is_early_reset h k v || is_early_resume h k v) _ s.on) ∙ both.1) in
+      or_from (saves_badly h l v) _ (saves_still k l s v both.0)
+      (cond-true l.started (is_early_reset h l v || is_early_resume h l v) _ s.also ∙ or_from _ _ (reset_still k l s v parts.0 stays) (resume_still k l s v parts.1))
   register_still k l s Crcr v stays good =
       let parts = or_parts (is_in_run k) (is_bad_crcr h k v) good in
       or_from (is_in_run l) (is_bad_crcr h l v) (ap (λ b. b && not (is_done l.halt)) (s.also ∙ sym s.on) ∙ ap (λ a. k.started && not (is_done a)) s.halt ∙ parts.0) (crcr_still k l s v parts.1)
@@ -246,7 +259,7 @@ module _ (h : Header) where
   with_halt k a = record k { halt = a }
 
   halt_read : HaltState → Register → ℕ → HaltState
-  halt_read a Usbsts v = if is_asked a && halted_bit v then Done else a
+  halt_read a Usbsts v = if is_asked a && halted_bit v then seen a v else a
   halt_read a r v = a
 
   status_is : (k : Known) (r : Register) (v : ℕ) → learned h k (RegRead r v) ≡ with_halt k (halt_read k.halt r v)

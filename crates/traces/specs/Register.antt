@@ -57,9 +57,20 @@ run_bit value = value % 2 == 1
 abbrev pub reset_bit : ℕ → Bool
 reset_bit value = value / 2 % 2 == 1
 
+-- and Controller Save State (CSS), Controller Restore State (CRS)
+abbrev pub save_bit : ℕ → Bool
+save_bit value = value / 256 % 2 == 1
+
+abbrev pub restore_bit : ℕ → Bool
+restore_bit value = value / 512 % 2 == 1
+
 -- USBSTS: HCHalted (HCH)
 abbrev pub halted_bit : ℕ → Bool
 halted_bit value = value % 2 == 1
+
+-- neither Restore State Status (RSS) nor Save/Restore Error (SRE)
+abbrev pub restore_ended : ℕ → Bool
+restore_ended value = value / 512 % 4 == 0
 
 -- the Command Ring Pointer of CRCR, and the base addresses of DCBAAP and ERSTBA: bits 63:6
 abbrev pub base_address : ℕ → ℕ

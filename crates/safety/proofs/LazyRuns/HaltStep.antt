@@ -3,6 +3,7 @@ use Rattle.safety.proofs.UpperLaws.{[], ◌≡◌, ◌∷◌, ◌∙◌, ◌&&�
 use Rattle.traces.specs.Register.{halted_bit}
 use Rattle.traces.specs.declared.register.Register.TheVariants.{Crcr}
 use Rattle.safety.proofs.DriverHistories.{kept_driver}
+use Rattle.safety.proofs.RowFrames.{seen_done}
 use Rattle.safety.proofs.RowRuns.{row_runs}
 use Rattle.safety.proofs.Squares.{square_law}
 use Rattle.safety.proofs.StepRuns.{step_goes}
@@ -55,6 +56,7 @@ module _ (h : Header) (is : IsHeader h) (past : Past h) (later : List Row) (w : 
   known_so =
       ap (λ q. is_done (register_read past.known q x).halt) sees.status
       ∙ ap (λ (m : Known). is_done m.halt) (cond-true (is_asked past.known.halt && halted_bit x) _ past.known (and_from (is_asked past.known.halt) (halted_bit x) sees.asked sees.bit))
+      ∙ seen_done past.known.halt x sees.asked
 
   on : (learned h past.known (RegRead r x)).stopped ≡ false
   on = (status_leaves h past.known r x).stopped ∙ f.runs.on

@@ -10,9 +10,9 @@ pub returns-then-runs-clause-follows : goal.returns-then-runs-clause-follows
 unfolding runs_again
 returns-then-runs-clause-follows c = grind arith
 
-pub returns-then-not-is_asked-clause-follows : goal.returns-then-not-is_asked-clause-follows
+pub returns-then-self-clause-follows : goal.returns-then-self-clause-follows
 unfolding runs_again
-returns-then-not-is_asked-clause-follows c = grind arith
+returns-then-self-clause-follows c = grind arith
 
 pub returns-else-self-clause-follows : goal.returns-else-self-clause-follows
 unfolding runs_again
