@@ -12,7 +12,7 @@ ghost use Rattle.ring_knowledge.specs.Known.{Known};
 ghost use Rattle.ring_knowledge.specs.RegisterRecords.{FollowsRegisters};
 ghost use Rattle.ring_knowledge.specs.Registers.{register_written};
 ghost use Rattle.ring_knowledge.specs.Resets.{resets};
-ghost use Rattle.ownership_rules.specs.Registers.{is_bad_command_register, is_bad_crcr, is_bad_erdp, is_bad_register, is_bad_size, is_bad_table, is_early_start, is_late_reset, is_restored, is_unwritten, is_written, is_wrong_size, is_wrong_start};
+ghost use Rattle.ownership_rules.specs.Registers.{is_bad_command_register, is_bad_crcr, is_bad_erdp, is_bad_register, is_bad_size, is_bad_table, is_early_reset, is_early_resume, is_early_start, is_late_reset, is_restored, is_unwritten, is_written, is_wrong_size, is_wrong_start};
 ghost use Rattle.ownership_rules.specs.Older.{stricter};
 ghost use Rattle.ownership_rules.specs.declared.refusal.Refusal.TheVariants.{BadErdp, BadRegister};
 ghost use Rattle.safety.specs.Keeps.{DriverKeeps};
@@ -169,11 +169,21 @@ fn is_written(registers: &RegisterRecord, register: Register) -> bool
     registers.value(register).is_some()
 }
 
-/// Whether a value of USBCMD breaks the rule of a controller that was started, or of one that wasn't (xHCI 4.2, 5.4.1).
+/// Whether a value of USBCMD breaks the rule: by what it saves or restores, or lets run or resets (xHCI 4.2, 4.23.2, 5.4.1).
 fn is_bad_command(header: &Header, finder: &Finder, t: &TraceRecord, value: u64) -> bool
     requires headed { IsHeader header.now }
     requires found { IsFinder header.now.rings finder.now }
     ensures { (k : Known) (m : ℕ → ℕ) → FollowsTrace header.now k t.now m → IsSetUp header.now k → result ≡ is_bad_command_register header.now k value }
+{
+    t.saves_badly(header, finder, value) || runs_badly(header, finder, t, value)
+}
+
+/// Whether a value of USBCMD lets a controller run or resets it where it may not: one that was started, or one that wasn't.
+fn runs_badly(header: &Header, finder: &Finder, t: &TraceRecord, value: u64) -> bool
+    requires headed { IsHeader header.now }
+    requires found { IsFinder header.now.rings finder.now }
+    ensures { (k : Known) (m : ℕ → ℕ) → FollowsTrace header.now k t.now m → IsSetUp header.now k →
+        result ≡ (if k.started then is_early_reset header.now k value || is_early_resume header.now k value else is_late_reset k value || is_early_start k value || is_wrong_start header.now k value) }
 {
     if t.registers.is_started() {
         t.is_early_reset(header, finder, value) || t.is_early_resume(header, finder, value)

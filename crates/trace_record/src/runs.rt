@@ -6,7 +6,7 @@ ghost use Rattle.traces.specs.Header.{IsHeader};
 ghost use Rattle.traces.specs.declared.header.Header.{Header as HeaderValue};
 ghost use Rattle.ring_knowledge.specs.Known.{Known};
 ghost use Rattle.ring_knowledge.specs.RegisterRecords.{FollowsRegisters};
-ghost use Rattle.ownership_rules.specs.Registers.{is_early_reset, is_early_resume, is_impossible_read, is_in_run, is_restored, is_run};
+ghost use Rattle.ownership_rules.specs.Registers.{is_at_rest, is_early_reset, is_early_restore, is_early_resume, is_early_save, is_impossible_read, is_in_run, is_restored, is_run, saves_badly};
 ghost use Rattle.ownership_rules.specs.Rings.{is_bad_kind, is_in_use};
 ghost use Rattle.trace_record.specs.FollowsTrace.{FollowsEvents};
 ghost use Rattle.trace_record.specs.Premises.{StartedIsThere};
@@ -33,8 +33,8 @@ impl TraceRecord {
         self.registers.halt().is_done() && self.registers.value(register) == Some(value)
     }
 
-    /// Whether a value of USBCMD lets a controller that halts go on before it was seen to have halted, or with another command ring
-    /// than CRCR names, or with commands that aren't finished.
+    /// Whether a value of USBCMD lets a controller that halts go on before it was seen to have halted, or with a state that it saved and
+    /// isn't known to have restored, or with another command ring than CRCR names, or with commands that aren't finished.
     pub fn is_early_resume(&self, header: &Header, finder: &Finder, value: u64) -> bool
         requires headed { IsHeader header.now }
         requires found { IsFinder header.now.rings finder.now }
@@ -47,10 +47,54 @@ impl TraceRecord {
         if !is_run(value) {
             return false;
         }
-        if !halt.is_done() {
+        if !halt.is_done() || halt.is_unrestored() {
             return true;
         }
         self.registers.value(Register::Crcr).is_none() || self.may_be_taken(header, finder)
+    }
+
+    /// Whether a value of USBCMD has a controller that runs more than once save its state (CSS) or restore it (CRS) where it can't
+    /// (xHCI 4.23.2).
+    pub fn saves_badly(&self, header: &Header, finder: &Finder, value: u64) -> bool
+        requires headed { IsHeader header.now }
+        requires found { IsFinder header.now.rings finder.now }
+        ensures { (k : Known) → FollowsRegisters k self.now.registers → FollowsRings header.now k self.now.rings.items → StartedIsThere header.now k → result ≡ saves_badly header.now k value }
+    {
+        if !header.version.has_runs() {
+            return false;
+        }
+        self.is_early_save(header, finder, value) || self.is_early_restore(value)
+    }
+
+    /// Whether it saves its state before it was seen to have halted, or with commands that aren't finished.
+    fn is_early_save(&self, header: &Header, finder: &Finder, value: u64) -> bool
+        requires headed { IsHeader header.now }
+        requires found { IsFinder header.now.rings finder.now }
+        ensures { (k : Known) → FollowsRegisters k self.now.registers → FollowsRings header.now k self.now.rings.items → StartedIsThere header.now k → result ≡ is_early_save header.now k value }
+    {
+        if value / 256 % 2 == 0 {
+            return false;
+        }
+        if !self.is_at_rest(value) {
+            return true;
+        }
+        self.may_be_taken(header, finder)
+    }
+
+    /// Whether it restores its state before it was seen to have halted, or beside saving one, or where none was saved.
+    fn is_early_restore(&self, value: u64) -> bool
+        ensures { (k : Known) → FollowsRegisters k self.now.registers → result ≡ is_early_restore k value }
+    {
+        let saves = value / 256 % 2 == 1;
+        let restores = value / 512 % 2 == 1;
+        restores && (!self.is_at_rest(value) || saves || !self.registers.halt().is_saved())
+    }
+
+    /// Whether the controller was seen to have halted, and a value of USBCMD neither lets it go on nor resets it.
+    fn is_at_rest(&self, value: u64) -> bool
+        ensures { (k : Known) → FollowsRegisters k self.now.registers → result ≡ is_at_rest k value }
+    {
+        self.registers.halt().is_done() && value % 2 == 0 && value / 2 % 2 == 0
     }
 
     /// Whether a value of USBCMD resets a controller that runs more than once while it runs, or with a gap in its command ring.
