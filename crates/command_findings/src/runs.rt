@@ -16,8 +16,13 @@ const SET_UP: [Register; 4] = [
     Register::Erdp,
 ];
 
-/// USBCMD with a value that starts, resets or lets go on a controller for which it isn't time.
+/// USBCMD with a value that starts, resets or lets go on a controller for which it isn't time, or has it save its state or restore it.
 pub(crate) fn note_command(case: &mut Case, value: u64) {
+    if case.header.version.has_runs() && value / 256 % 4 != 0 {
+        if note_saving(case, value) {
+            return;
+        }
+    }
     let resets = value / 2 % 2 == 1;
     let controller = &case.known.controller;
     let (is_started, has_halted) = (controller.start.is_some(), controller.halt.is_some());
@@ -29,6 +34,79 @@ pub(crate) fn note_command(case: &mut Case, value: u64) {
         (true, false) if has_halted => note_resume(case),
         (true, false) => note_early_resume(case),
     }
+}
+
+/// A state that is saved (CSS) or restored (CRS) where it can't be; whether that is the cause.
+fn note_saving(case: &mut Case, value: u64) -> bool {
+    let halt = case.known.controller.registers.halt();
+    let saves = value / 256 % 2 == 1;
+    let restores = value / 512 % 2 == 1;
+    if !halt.is_done() {
+        note_early_saving(case, saves);
+    } else if value % 4 != 0 || saves && restores {
+        note_two_at_once(case);
+    } else if saves {
+        note_unfinished_saving(case);
+    } else if !halt.is_saved() {
+        note_unsaved(case);
+    } else {
+        return false;
+    }
+    true
+}
+
+/// The state is saved or restored before the controller was seen to have halted.
+fn note_early_saving(case: &mut Case, saves: bool) {
+    case.head(
+        if saves {
+            "the controller is to save its state before it was seen to halt"
+        } else {
+            "the controller is to restore its state before it was seen to halt"
+        },
+        &[],
+    );
+    note_running(case);
+    case.say("CSS (bit 8) and CRS (bit 9) may be 1 only where HCHalted (HCH) is 1 (xHCI 5.4.1)");
+    case.advise(
+        "write Run/Stop 0, and read USBSTS until HCHalted is 1 (`rd usbsts`), before CSS or CRS",
+    );
+}
+
+/// Of Run/Stop, HCRST, CSS and CRS more than one is 1.
+fn note_two_at_once(case: &mut Case) {
+    case.head(
+        "the controller is to save or restore its state, and something else at once",
+        &[],
+    );
+    case.say(
+        "of Run/Stop, HCRST (bit 1), CSS (bit 8) and CRS (bit 9) more than one is 1 (xHCI 4.23.2, 5.4.1)",
+    );
+    case.advise("write CSS and CRS each by itself, with Run/Stop and HCRST 0");
+}
+
+/// A state is restored that wasn't saved in this halt.
+fn note_unsaved(case: &mut Case) {
+    case.head(
+        "the controller is to restore a state that it did not save",
+        &[],
+    );
+    let halt = case.known.controller.halt;
+    case.mark(halt, "HCHalted was read as 1 here", &[]);
+    case.say("CSS (bit 8) wasn't 1 since the controller halted (xHCI 4.23.2)");
+    case.not_judged();
+    case.advise(
+        "write CSS before CRS; without a saved state reset the controller (HCRST), and set it up anew",
+    );
+}
+
+/// The state is saved with commands that aren't finished.
+fn note_unfinished_saving(case: &mut Case) {
+    case.head(
+        "the controller is to save its state with commands that aren't finished",
+        &[],
+    );
+    note_unfinished(case);
+    case.advise("read the Command Completion Event of each command before Run/Stop 0");
 }
 
 /// A reset behind the set-up.
@@ -149,8 +227,12 @@ fn note_early_resume(case: &mut Case) {
     );
 }
 
-/// Run/Stop 1 of a controller that has halted, with another Command Ring than CRCR names, or with unfinished commands.
+/// Run/Stop 1 of a controller that has halted, with a state that isn't restored, with another Command Ring than CRCR names, or with
+/// unfinished commands.
 fn note_resume(case: &mut Case) {
+    if case.known.controller.registers.halt().is_unrestored() {
+        return note_unrestored(case);
+    }
     if case.register(Register::Crcr).is_none() {
         return note_resume_unnamed(case);
     }
@@ -160,6 +242,25 @@ fn note_resume(case: &mut Case) {
     );
     note_unfinished(case);
     case.advise("read the Command Completion Event of each command before Run/Stop 0");
+}
+
+/// Run/Stop 1 where the state that was saved isn't known to be restored.
+fn note_unrestored(case: &mut Case) {
+    case.head(
+        "the controller is to run again with a state that it saved and has not restored",
+        &[],
+    );
+    let controller = &case.known.controller;
+    case.mark(controller.save, "CSS is 1 here", &[]);
+    case.mark(controller.restore, "CRS is 1 here", &[]);
+    case.say(if controller.restore.is_some() {
+        "USBSTS wasn't read since with RSS (bit 9) and SRE (bit 10) 0 (xHCI 4.23.2, 5.4.2)"
+    } else {
+        "CRS (bit 9) wasn't 1 since: what lost its power has lost its state (xHCI 4.23.2)"
+    });
+    case.advise(
+        "set the registers up again, write CRS, and read USBSTS until RSS is 0 (`rd usbsts`), before Run/Stop 1; where SRE is 1, reset the controller (HCRST)",
+    );
 }
 
 /// Run/Stop 1 where CRCR doesn't name the Command Ring that is there.

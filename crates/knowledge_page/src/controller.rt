@@ -35,6 +35,9 @@ fn state_name(registers: &RegisterRecord) -> &'static str {
         Halt::Not => "isn't started",
         Halt::Asked => "halts",
         Halt::Done => "is halted",
+        Halt::Saved => "is halted, its state saved",
+        Halt::Restoring => "is halted, and restores its state",
+        Halt::Restored => "is halted, its state restored",
     }
 }
 
