@@ -32,12 +32,13 @@ pub record AreHints (starts : List Start) (count : ℕ) (hints : List ℕ) : Typ
   pub all : length hints ≡ 1024
   pub each : (k : ℕ) (d : Start) → k < count → slice_index hints (slot_of (slice_index_or starts k d).address) < length starts
 
--- it has the number of each ring, where each segment starts, by rising address, hints where, and the number of the command ring
+-- it has the number of each ring, where each segment starts, by rising address, hints where, as many by small pages, and the number of the command ring
 pub record IsFinder (rings : List Ring) (f : Finder) : Type 0 where
   pub numbers : AreNumbers rings (length rings) f.numbers.items
   pub starts : IsPermutation (starts_from 0 rings) f.starts.items
   pub sorted : IsNonDecreasingBy (λ s. s.address) f.starts.items
   pub hints : AreHints f.starts.items (length f.starts.items) f.hints.items
+  pub near : length f.near.items ≡ 1024
   pub commands : f.commands ≡ position (λ ring. is_command_kind ring.shape.kind) rings
 
 -- the ring of the last start at or before an address, if there is one
