@@ -2,12 +2,12 @@ ghost use Rattle.std.specs.Prelude.{◌≡◌, ◌==◌, ◌+◌, ◌<◌, ◌�
 ghost use Rattle.std.specs.Bool.{OnTrue};
 ghost use Rattle.std.specs.List.{Contains};
 ghost use Rattle.segments.specs.Places.{touches};
-ghost use Rattle.traces.specs.Header.{IsHeader, is_command_kind, may_stand_together, ring_having};
+ghost use Rattle.traces.specs.Header.{IsHeader, is_command_kind, is_event_kind, may_stand_together, ring_having};
 ghost use Rattle.traces.specs.declared.ring.Ring.{Ring};
 ghost use Rattle.trace_record.specs.RingFinder.Finding.{AreHints, AreNumbers, IsFinder, IsRingBefore, slot_of, start_of, starts_from};
 ghost use Rattle.trace_record.specs.declared.ring_finder.finder.Start.{Start as StartValue};
 
-use crate::ring_finder::kinds::{is_command_ring, is_transfer_ring};
+use crate::ring_finder::kinds::{is_command_ring, is_event_ring, is_transfer_ring};
 use std::alloc::{AllocError, Global};
 use traces::{Header, Ring};
 
@@ -44,6 +44,8 @@ pub struct Finder {
     pub near: Vec<usize>,
     /// The number of the command ring, where there is one.
     pub commands: Option<usize>,
+    /// The number of the event ring, where there is one.
+    pub events: Option<usize>,
 }
 
 impl Finder {
@@ -60,12 +62,14 @@ impl Finder {
         let mut near = no_hints(alloc)?;
         note_hints(&mut hints, &mut near, starts.as_slice());
         let commands = command_number(rings);
+        let events = event_number(rings);
         Ok(Finder {
             numbers,
             starts,
             hints,
             near,
             commands,
+            events,
         })
     }
 
@@ -220,6 +224,13 @@ fn command_number(rings: &[Ring]) -> Option<usize>
     ensures { result ≡ position (λ ring. is_command_kind ring.shape.kind) rings.now }
 {
     rings.iter().position(|ring| is_command_ring(ring))
+}
+
+/// The number of the event ring, where there is one.
+fn event_number(rings: &[Ring]) -> Option<usize>
+    ensures { result ≡ position (λ ring. is_event_kind ring.shape.kind) rings.now }
+{
+    rings.iter().position(|ring| is_event_ring(ring))
 }
 
 /// By ID: the number of the ring that has it.
