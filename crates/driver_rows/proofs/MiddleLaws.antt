@@ -10,7 +10,7 @@ pub use Rattle.driver_rows.proofs.MemoryWrites.RingWrites.{IsStill, least_of_rin
 pub use Rattle.driver_rows.proofs.RingBindings.BindingLists.{again_is, bad_first, bad_is, bindings_at, bindings_end, binds_ring_is, forgets, noted, nothing_bad, of_dequeue, or_last, range_is, taken_next}
 pub use Rattle.driver_rows.proofs.RingBindings.KeptRings.{kept_is, left_is, none_keeps, numbered}
 pub use Rattle.driver_rows.proofs.RingBindings.SlotWalk.{below_all, below_next, below_none, named_here, of_none, of_some, passes_below}
-pub use Rattle.driver_rows.proofs.RingRows.Came.{clear_header, clear_together, comes_so, no_other_command, no_other_events, none_of}
+pub use Rattle.driver_rows.proofs.RingRows.Came.{clear_header, clear_together, comes_so, none_of}
 pub use Rattle.driver_rows.proofs.RingRows.GivenAt.{flips_by_others, moved_by_others, restored_by_others}
 pub use Rattle.driver_rows.proofs.RingRows.PassedFlips.{event_flips, none_flips, ring_flips}
 pub use Rattle.driver_rows.proofs.RingRows.Withdrawn.{if_both, if_ok, if_refused, may, may_not, may_now, not_passed}

@@ -1,7 +1,7 @@
 -- The record of the command ring, and how the ring stands
 use Rattle.trace_record.proofs.UpperLaws.{◌≡◌, ◌∙◌, ℕ, List, Bool, true, false, Option, None, Some, refl, ap, sym, subst, arith, position, slice_get, Ring, Header, IsHeader, Known, is_command_kind, command_id, command_ring, shape_of, among_at, shape_there}
 use Rattle.std.proofs.Common.{◌==◌, ◌&&◌, nat_le, nat_lt, not, unwrap_or, is_none, is_some}
-use Rattle.trace_record.proofs.BaseWords.{[], EventState, FollowsEvents, Xfer, eqb, event_ring, cases_Bool, false≢true, inl, inr, nat_tests, place_count, same_Some, range_with_len, shape_or}
+use Rattle.trace_record.proofs.BaseWords.{[], Xfer, eqb, event_ring, is_event_kind, cases_Bool, false≢true, inl, inr, nat_tests, place_count, same_Some, range_with_len, shape_or}
 use Rattle.std.specs.Option.{option_eq}
 use Rattle.std.specs.List.{list_any}
 use Rattle.segments.specs.ShapeValue.{Shape}
@@ -13,8 +13,9 @@ use Rattle.ownership_rules.specs.Events.{may_be_taken}
 use Rattle.ownership_rules.specs.Registers.{has_gap, is_used, is_value}
 use Rattle.trace_record.specs.Premises.{StartedIsThere}
 use Rattle.trace_record.specs.RingFinder.RecordsOfRings.{FollowsRings}
-use Rattle.trace_record.proofs.RingFinder.FoundRings.{no_command_ring}
-use Rattle.trace_record.proofs.RingFinder.CommandRings.{command_id_is, command_number, no_ring}
+use Rattle.trace_record.proofs.RingFinder.HeaderRings.{event_found, not_found}
+use Rattle.trace_record.proofs.RingFinder.FoundRings.{no_command_ring, none_here}
+use Rattle.trace_record.proofs.RingFinder.CommandRings.{command_id_is, command_number, found_at, no_ring}
 
 -- ---- whether a ring is held at its beginning
 
@@ -93,9 +94,22 @@ commands_there h headed = by (position (λ q. is_command_kind q.shape.kind) h.ri
     by None none = ap (λ (x : Option ℕ). is_some x) none ∙ sym (ap (λ (x : Option Ring). is_some x) (no_command_ring h none))
     by (Some n) is = ap (λ (x : Option ℕ). is_some x) is ∙ sym (ap (λ (x : Option Ring). is_some x) (command_number h headed n is).there)
 
-pub events_there : (h : Header) (k : Known) (o : Option EventState) → FollowsEvents h k o → is_some o ≡ is_some (event_ring h)
-events_there h k None f = sym (ap (λ (x : Option Ring). is_some x) f)
-events_there h k (Some e) f = sym f.here
+pub no_event_ring : (h : Header) → position (λ q. is_event_kind q.shape.kind) h.rings ≡ None → event_ring h ≡ None
+unfolding event_ring
+no_event_ring h none = not_found (λ q. is_event_kind q.shape.kind) h.rings (none_here h (λ q. is_event_kind q.shape.kind) h.rings none refl)
+
+pub events_there : (h : Header) → IsHeader h → is_some (position (λ q. is_event_kind q.shape.kind) h.rings) ≡ is_some (event_ring h)
+events_there h headed = by (position (λ q. is_event_kind q.shape.kind) h.rings) refl
+  where
+    by : (o : Option ℕ) → position (λ q. is_event_kind q.shape.kind) h.rings ≡ o → is_some (position (λ q. is_event_kind q.shape.kind) h.rings) ≡ is_some (event_ring h)
+    by None none = ap (λ (x : Option ℕ). is_some x) none ∙ sym (ap (λ (x : Option Ring). is_some x) (no_event_ring h none))
+    by (Some n) is =
+        let (ring, at, kind) = found_at (λ q. is_event_kind q.shape.kind) h.rings n is in
+        ap (λ (x : Option ℕ). is_some x) is ∙ sym (ap (λ (x : Option Ring). is_some x) (event_found h headed ring (among_at h.rings n ring at) kind))
+
+pub none_some : {X : Type 0} (o : Option X) → is_some o ≡ false → o ≡ None
+none_some None none = refl
+none_some (Some x) none = absurd (false≢true (sym none))
 
 pub same_value : (o : Option ℕ) (v : ℕ) → option_eq eqb o (Some v) ≡ is_value v o
 same_value None v = refl

@@ -1,14 +1,13 @@
 //! What the rules ask of a controller that halts, goes on or is reset (xHCI 4.2, 5.4.1, 5.4.2).
-ghost use Rattle.std.specs.Prelude.{◌≡◌, ◌&&◌, ◌||◌, ℕ, if◌then◌else◌, not};
+ghost use Rattle.std.specs.Prelude.{◌≡◌, ◌&&◌, ◌||◌, ℕ, None, false, if◌then◌else◌, not, true};
 ghost use Rattle.trb.specs.declared.ring_kind.RingKind.TheVariants.{Cmd, Evt};
 ghost use Rattle.traces.specs.Halts.{is_asked, is_done};
-ghost use Rattle.traces.specs.Header.{IsHeader};
+ghost use Rattle.traces.specs.Header.{IsHeader, command_ring, event_ring, is_command_kind, is_event_kind};
 ghost use Rattle.traces.specs.declared.header.Header.{Header as HeaderValue};
 ghost use Rattle.ring_knowledge.specs.Known.{Known};
 ghost use Rattle.ring_knowledge.specs.RegisterRecords.{FollowsRegisters};
 ghost use Rattle.ownership_rules.specs.Registers.{is_at_rest, is_early_reset, is_early_restore, is_early_resume, is_early_save, is_impossible_read, is_in_run, is_restored, is_run, saves_badly};
 ghost use Rattle.ownership_rules.specs.Rings.{is_bad_kind, is_in_use};
-ghost use Rattle.trace_record.specs.FollowsTrace.{FollowsEvents};
 ghost use Rattle.trace_record.specs.Premises.{StartedIsThere};
 ghost use Rattle.trace_record.specs.RingFinder.Finding.{IsFinder};
 ghost use Rattle.trace_record.specs.RingFinder.RecordsOfRings.{FollowsRings};
@@ -139,11 +138,13 @@ impl TraceRecord {
     pub fn is_bad_kind(&self, header: &Header, finder: &Finder, kind: RingKind) -> bool
         requires headed { IsHeader header.now }
         requires found { IsFinder header.now.rings finder.now }
-        ensures { (k : Known) → FollowsRegisters k self.now.registers → FollowsEvents header.now k self.now.events → result ≡ is_bad_kind header.now k kind }
+        ensures rule { (k : Known) → FollowsRegisters k self.now.registers → result ≡ is_bad_kind header.now k kind }
+        ensures commands { result ≡ false → is_command_kind kind ≡ true → command_ring header.now ≡ None }
+        ensures events { result ≡ false → is_event_kind kind ≡ true → event_ring header.now ≡ None }
     {
         match kind {
             RingKind::Cmd => finder.commands.is_some() || self.is_in_run(),
-            RingKind::Evt => self.events.is_some() || self.registers.is_started(),
+            RingKind::Evt => finder.events.is_some() || self.registers.is_started(),
             RingKind::Xfer => false,
         }
     }

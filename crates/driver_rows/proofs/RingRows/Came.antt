@@ -1,23 +1,11 @@
 -- A ring that comes: the header is one still, and what the record of it rests on
-use Rattle.driver_rows.proofs.LowerLaws.{rules, Bool, ◌≡◌, ◌*◌, ◌==◌, ◌∷◌, ◌++◌, ◌∙◌, ◌&&◌, true, false, [], None, Option, nat_lt, refl, sym, ap, lt-ltb, list_all, cases_Bool, inl, inr, and_from, and_left, and_right, or_from, false≢true, is_some, is_shape, rings_overlap, Header, Ring, RingKind, IsHeader, clash, is_command_kind, is_event_kind, event_ring, may_stand_together, ring_with, touches_ring, Known, IsIn, DriverKeeps, ring_untouched, header_parts, fails_in, IsComing, forgotten, is_bad_ring, with_ring, all_more, none_found, overlaps_none, together_more, bad_same, f_keeps, fresh, segment_some, cleared, IsClear, find, or_parts, command_ring, is_bad_kind, is_in_run, Comes, HasNoEvents, SameCommands, other_commands, same_twice, Cmd, Evt, Xfer, absent, no_command, no_event, commands_come, events_come}
+use Rattle.driver_rows.proofs.LowerLaws.{rules, Bool, ◌≡◌, ◌*◌, ◌==◌, ◌∷◌, ◌++◌, ◌∙◌, ◌&&◌, true, false, [], None, Option, nat_lt, refl, sym, ap, lt-ltb, list_all, cases_Bool, inl, inr, and_from, and_left, and_right, or_from, false≢true, is_some, is_shape, rings_overlap, Header, Ring, RingKind, IsHeader, clash, is_command_kind, is_event_kind, event_ring, may_stand_together, ring_with, touches_ring, Known, IsIn, DriverKeeps, ring_untouched, header_parts, fails_in, IsComing, forgotten, is_bad_ring, with_ring, all_more, none_found, overlaps_none, together_more, bad_same, f_keeps, fresh, segment_some, cleared, IsClear, find, command_ring, Comes, HasNoEvents, SameCommands, other_commands, same_twice, Cmd, Evt, Xfer, absent, no_command, no_event, commands_come, events_come}
 use Rattle.safety.proofs.RingChanges.EventRings as events
 use Rattle.safety.proofs.RingChanges.Forgotten as forgets
 use Rattle.safety.proofs.RingChanges.NewRings as comes
 
 pub none_of : {X : Type 0} (o : Option X) → is_some o ≡ false → o ≡ None
 none_of o none = search (rules, false≢true)
-
-module _ (h : Header) (k : Known) where
-  -- no command ring is there where one comes
-  pub no_other_command : (kind : RingKind) → is_bad_kind h k kind ≡ false → is_command_kind kind ≡ true → command_ring h ≡ None
-  unfolding is_bad_kind
-  no_other_command Cmd fine it = none_of (command_ring h) (or_parts (is_some (command_ring h)) (is_in_run k) fine).0
-  no_other_command _ fine it = absurd (false≢true it)
-
-  pub no_other_events : (kind : RingKind) → is_bad_kind h k kind ≡ false → is_event_kind kind ≡ true → event_ring h ≡ None
-  unfolding is_bad_kind
-  no_other_events Evt fine it = none_of (event_ring h) (or_parts (is_some (event_ring h)) k.started fine).0
-  no_other_events _ fine it = absurd (false≢true it)
 
 module _ (h : Header) (is : IsHeader h) (r : Ring) (coming : IsComing r) where
   pub clear_together : IsClear h r → (list_all (λ q. nat_lt q.id 256 && is_shape q.shape) (h.rings ++ r ∷ []) ≡ true) × (may_stand_together (h.rings ++ r ∷ []) ≡ true)

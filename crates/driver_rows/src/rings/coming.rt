@@ -32,7 +32,6 @@ pub fn check_coming<M: WordMemory>(
 ) -> Result<(), StepFault>
     requires headed { IsHeader header.now }
     requires found { IsFinder header.now.rings finder.now }
-    requires known { (k : Known) × FollowsTrace header.now k kept.now (M.words memory.now) }
     ensures comes { OnOk result (header.new ≡ with_ring header.old ring) }
     ensures headed { OnOk result (IsHeader header.new) }
     ensures found { OnOk result (IsFinder header.new.rings finder.new) }

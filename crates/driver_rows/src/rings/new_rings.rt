@@ -24,7 +24,6 @@ pub(crate) fn is_bad_ring<M: WordMemory>(
 ) -> bool
     requires headed { IsHeader header.now }
     requires found { IsFinder header.now.rings finder.now }
-    requires known { (k : Known) × FollowsTrace header.now k kept.now (M.words memory.now) }
     ensures rule { (k : Known) → FollowsTrace header.now k kept.now (M.words memory.now) → result ≡ is_bad_ring header.now k ring.now }
     ensures clear { result ≡ false → IsClear header.now ring.now }
     ensures allowed { IsShape ring.now.shape }

@@ -23,6 +23,7 @@ impl Bits {
     }
 
     /// The bits of a number.
+    #[inline(always)]
     pub fn of(&self, number: u64) -> u64
         ensures { result ≡ bits_of self.now number }
     {
@@ -30,6 +31,7 @@ impl Bits {
     }
 
     /// A number has these bits. Want of memory changes nothing.
+    #[inline(always)]
     pub fn set(&mut self, number: u64, bits: u64) -> Result<(), AllocError>
         ensures ok { OnOk result ((n : ℕ) → bits_of self.new n ≡ put (bits_of self.old) number bits n) }
         ensures err { OnErr result ((n : ℕ) → bits_of self.new n ≡ bits_of self.old n) }

@@ -150,6 +150,7 @@ impl SoiledWords {
     }
 
     /// The bits of a group: 0 where none of its words was soiled.
+    #[inline(always)]
     fn bits(&self, group: u64) -> u64
         ensures { result ≡ group_bits self.now group }
     {
@@ -160,6 +161,7 @@ impl SoiledWords {
     }
 
     /// Whether all words of a group are soiled, whatever its own bits are.
+    #[inline(always)]
     fn is_whole(&self, group: u64) -> bool
         ensures { result ≡ is_whole (bits_of self.now.whole) group }
     {
@@ -180,6 +182,7 @@ impl SoiledWords {
     }
 
     /// Sets those bits of a group that are 1 here. Want of memory changes nothing.
+    #[inline(always)]
     fn add_bits(&mut self, group: u64, bits: u64) -> Result<(), AllocError>
         ensures ok { OnOk result ((g : ℕ) → group_bits self.new g ≡ put (group_bits self.old) group (bit_or (group_bits self.old group) bits) g) }
         ensures err { OnErr result ((g : ℕ) → group_bits self.new g ≡ group_bits self.old g) }
@@ -193,6 +196,7 @@ impl SoiledWords {
     }
 
     /// Sets the bits of a group. Want of memory changes nothing.
+    #[inline(always)]
     fn set_bits(&mut self, group: u64, bits: u64) -> Result<(), AllocError>
         ensures ok { OnOk result ((g : ℕ) → group_bits self.new g ≡ put (group_bits self.old) group bits g) }
         ensures err { OnErr result ((g : ℕ) → group_bits self.new g ≡ group_bits self.old g) }

@@ -2,12 +2,12 @@ ghost use Rattle.std.specs.Prelude.{◌≡◌, ◌==◌, ◌+◌, ◌<◌, ◌�
 ghost use Rattle.std.specs.Bool.{OnTrue};
 ghost use Rattle.std.specs.List.{Contains};
 ghost use Rattle.segments.specs.Places.{touches};
-ghost use Rattle.traces.specs.Header.{IsHeader, is_command_kind, may_stand_together, ring_having};
+ghost use Rattle.traces.specs.Header.{IsHeader, is_command_kind, is_event_kind, may_stand_together, ring_having};
 ghost use Rattle.traces.specs.declared.ring.Ring.{Ring};
 ghost use Rattle.trace_record.specs.RingFinder.Finding.{AreHints, AreNumbers, IsFinder, IsRingBefore, slot_of, start_of, starts_from};
 ghost use Rattle.trace_record.specs.declared.ring_finder.finder.Start.{Start as StartValue};
 
-use crate::ring_finder::kinds::{is_command_ring, is_transfer_ring};
+use crate::ring_finder::kinds::{is_command_ring, is_event_ring, is_transfer_ring};
 use std::alloc::{AllocError, Global};
 use traces::{Header, Ring};
 
@@ -22,7 +22,10 @@ pub struct Start {
 /// The bytes of a page: no segment crosses a multiple of it.
 const PAGE: u64 = 1 << 16;
 
-/// How many hints there are.
+/// The bytes of a small page: Linux's segments are such pages, side by side.
+const SMALL_PAGE: u64 = 1 << 12;
+
+/// How many hints there are by pages, and by small pages.
 const HINTS: u64 = 1024;
 
 /// The hint of a page without segments.
@@ -37,8 +40,12 @@ pub struct Finder {
     pub starts: Vec<Start>,
     /// By what an address leaves: where one of the segments stands that start on such a page.
     pub hints: Vec<usize>,
+    /// The same by small pages. Nothing is asked of these hints: a segment that has an address proves itself.
+    pub near: Vec<usize>,
     /// The number of the command ring, where there is one.
     pub commands: Option<usize>,
+    /// The number of the event ring, where there is one.
+    pub events: Option<usize>,
 }
 
 impl Finder {
@@ -51,13 +58,18 @@ impl Finder {
         let numbers = ring_numbers(alloc, rings)?;
         let mut starts = all_starts(alloc, rings)?;
         starts.sort_unstable_by_key(|start| start.address);
-        let hints = hints_of(alloc, starts.as_slice())?;
+        let mut hints = no_hints(alloc)?;
+        let mut near = no_hints(alloc)?;
+        note_hints(&mut hints, &mut near, starts.as_slice());
         let commands = command_number(rings);
+        let events = event_number(rings);
         Ok(Finder {
             numbers,
             starts,
             hints,
+            near,
             commands,
+            events,
         })
     }
 
@@ -82,6 +94,11 @@ impl Finder {
         if has(start, address) {
             return Some(start.ring);
         }
+        if let Some(near) = self.start_near(header, address) {
+            if has(near, address) {
+                return Some(near.ring);
+            }
+        }
         self.ring_by_search(header, address)
     }
 
@@ -92,6 +109,15 @@ impl Finder {
         ensures none { IfNone result ((start : StartValue) → Contains self.now.starts.items start → start.address / 65536 ≡ address / 65536 → ⊥) }
     {
         let hint = self.hints[slot(address)];
+        self.starts.get(hint).copied()
+    }
+
+    /// A segment that may start on the small page of an address.
+    fn start_near(&self, header: &Header, address: u64) -> Option<Start>
+        requires { IsFinder header.now.rings self.now }
+        ensures { IfSome result (λ start. Contains self.now.starts.items start) }
+    {
+        let hint = self.near[near_slot(address)];
         self.starts.get(hint).copied()
     }
 
@@ -165,22 +191,31 @@ fn slot(address: u64) -> usize
     ((page + page / 256) % HINTS) as usize
 }
 
-/// By what an address leaves: where one of the segments stands that start on such a page.
-fn hints_of(alloc: Global, starts: &[Start]) -> Result<Vec<usize>, AllocError>
-    ensures { IfOk result (λ hints. AreHints starts.now (length starts.now) hints.items) }
+/// The same by small pages.
+fn near_slot(address: u64) -> usize
+    ensures { result < 1024 }
 {
-    let mut hints = vec![in alloc; NOTHING; HINTS as usize]?;
-    note_hints(&mut hints, starts);
-    Ok(hints)
+    let page = address / SMALL_PAGE;
+    ((page + page / 256) % HINTS) as usize
 }
 
-/// Writes the hints of segments over those that were there.
-pub(crate) fn note_hints(hints: &mut Vec<usize>, starts: &[Start])
-    requires { length hints.now.items ≡ 1024 }
-    ensures { AreHints starts.now (length starts.now) hints.new.items }
+/// Hints of no segments.
+fn no_hints(alloc: Global) -> Result<Vec<usize>, AllocError>
+    ensures { IfOk result (λ hints. length hints.items ≡ 1024) }
+{
+    Ok(vec![in alloc; NOTHING; HINTS as usize]?)
+}
+
+/// Writes the hints of segments, by pages and by small pages, over those that were there.
+pub(crate) fn note_hints(hints: &mut Vec<usize>, near: &mut Vec<usize>, starts: &[Start])
+    requires hints { length hints.now.items ≡ 1024 }
+    requires near { length near.now.items ≡ 1024 }
+    ensures hints { AreHints starts.now (length starts.now) hints.new.items }
+    ensures near { length near.new.items ≡ 1024 }
 {
     for (number, start) in starts.iter().enumerate() {
         hints[slot(start.address)] = number;
+        near[near_slot(start.address)] = number;
     }
 }
 
@@ -189,6 +224,13 @@ fn command_number(rings: &[Ring]) -> Option<usize>
     ensures { result ≡ position (λ ring. is_command_kind ring.shape.kind) rings.now }
 {
     rings.iter().position(|ring| is_command_ring(ring))
+}
+
+/// The number of the event ring, where there is one.
+fn event_number(rings: &[Ring]) -> Option<usize>
+    ensures { result ≡ position (λ ring. is_event_kind ring.shape.kind) rings.now }
+{
+    rings.iter().position(|ring| is_event_ring(ring))
 }
 
 /// By ID: the number of the ring that has it.

@@ -37,6 +37,3 @@ returns-clause-logged g c = λ list h first past p numbered room held.
     comes_logged words Holds h first past before p room ring c.args.number numbered c.note_coming.new.book c.note_coming.new.ranges
     (c.in_ok-note_coming.ensures list before.header k (lents h first past) before.record (words before.memory) p.headed coming
     (next_row words Holds h first past before p room (RingRow ring) (comes_clean before.header k ring step.kept)) (held_before words Holds h first past before p room before.log before.ranges held))
-
-pub check_coming-requires-clause-known : goal.check_coming-requires-clause-known
-check_coming-requires-clause-known g c = let (h, past, p) = c.requires.so_far in (known_now h past, p.tracked.follows)
