@@ -1,5 +1,6 @@
 -- Lines whose fields stand at fixed places
-use Rattle.trace_reader.proofs.LowerLaws.{rules, ◌≡◌, ◌+◌, ◌<◌, ◌∷◌, ◌++◌, ◌∙◌, ℕ, suc, Bool, false, List, [], length, slice_index, take, drop, nat_lt, Some, Ok, All, refl, ap, sym, subst, arith, codes, w8, w32, w64, digits_without_space, take-append-drop, slice_split_at, slice_split_none, SaysAlone, HasBytes, Width, byte_len, bytes_of_8, bytes_of_32, bytes_of_64, length-digits_of, number_of, said, fields_of, has_empty_field, is_empty, is_space, All-cons, All-nil, All-head, All-tail, nat_tests, common_steps, slice_split, str_to_ascii_lowercase, to_ascii_lowercase, content_fault, said_by_fields, most_bytes, form_of, said_of, block_of, word_address_of, Block, blocks_of, register_named, register_value_of, Row, Sub, Write, Bell, Read, Reg, Erdp, SaysRow, Version, drop-cons, drop-drop, get_or-drop, length-drop, then_there, words_there}
+use Rattle.trace_reader.proofs.LowerLaws.{rules, ◌≡◌, ◌+◌, ◌≤◌, ◌<◌, ◌∷◌, ◌++◌, ◌∙◌, ℕ, suc, Bool, true, false, List, [], length, slice_index, take, drop, nat_lt, Some, Ok, All, refl, ap, sym, subst, arith, codes, w8, w32, w64, digits_without_space, take-append-drop, slice_split_at, slice_split_none, SaysAlone, HasBytes, Width, byte_len, bytes_of_8, bytes_of_32, bytes_of_64, length-digits_of, number_of, said, fields_of, has_empty_field, is_empty, is_space, All-cons, All-nil, All-head, All-tail, nat_tests, common_steps, slice_split, str_to_ascii_lowercase, to_ascii_lowercase, content_fault, said_by_fields, most_bytes, form_of, said_of, block_of, word_address_of, Block, blocks_of, register_value_of, Row, Sub, Write, Bell, Read, Reg, Register, register_name, append_assoc, bytes_eq, SaysRow, Version, drop-cons, drop-drop, get_or-drop, length-drop, then_there, words_there}
+use Rattle.trace_reader.proofs.SpelledWords.{value_there, word_register}
 
 -- ---- a number is a field
 
@@ -55,6 +56,12 @@ last_from content m n whole spaceless = grind (arith, common_steps, slice_split_
 first_bytes : (content : List ℕ) (c d : ℕ) → 1 < length content → slice_index content 0 ≡ c → slice_index content 1 ≡ d → take 2 content ≡ c ∷ d ∷ []
 first_bytes content c d some is next = search rules
 
+-- two fields
+fields_behind : (content name field : List ℕ) → content ≡ name ++ 32 ∷ field → All (λ c. is_space c ≡ false) name → All (λ c. is_space c ≡ false) field → fields_of content ≡ name ∷ field ∷ []
+unfolding fields_of
+fields_behind content name field whole first second =
+    ap (slice_split is_space) whole ∙ slice_split_at is_space name 32 field first refl ∙ ap (λ fields. name ∷ fields) (slice_split_none is_space field second)
+
 -- a row's line: its name, of so many bytes, a space, and these fields behind it
 by_name : (content name : List ℕ) (n : ℕ) (fields : List (List ℕ)) (row : Row) → nat_lt most_bytes (length content) ≡ false → n < length content → take n content ≡ name → All (λ c. is_space c ≡ false) name →
     slice_index content n ≡ 32 → fields_of (drop (suc n) content) ≡ fields → has_empty_field (name ∷ fields) ≡ false →
@@ -62,14 +69,23 @@ by_name : (content name : List ℕ) (n : ℕ) (fields : List (List ℕ)) (row : 
 unfolding content_fault
 by_name content name n fields row short inside is plain space behind full says = grind (arith, field_from, rw (is, behind) at (field_from content 0 n n (omega arith) inside space (rw is plain)))
 
-pub erdp_says : (content : List ℕ) (value : ℕ) → length content ≡ 25 → take 9 content ≡ codes "reg erdp " → number_of w64 (drop 9 content) ≡ Some value → SaysAlone (Reg Erdp value) content
-unfolding content_fault fields_of said_by_fields form_of said_of register_named register_value_of
-erdp_says content value long named ha =
-    let a = drop 9 content in
-    let pa = number_field w64 bytes_of_64 (omega arith) a value ha in
-    let are : fields_of content ≡ codes "reg" ∷ codes "erdp" ∷ a ∷ [] = ap fields_of (sym (take-append-drop 9 content) ∙ ap (λ word. word ++ a) named)
-    ∙ ap (λ fields. codes "reg" ∷ codes "erdp" ∷ fields) (slice_split_none is_space a pa.spaceless) in
-    λ version begun. rw (long, are, pa.some, ha) refl
+same_name : (register : Register) → bytes_eq (register_name register) (register_name register) ≡ true
+same_name register = search rules
+
+name_field : (register : Register) → IsField (register_name register)
+name_field register = record { spaceless = (search (rules, All-cons, All-nil)); some = (search rules) }
+
+pub register_says : (content field : List ℕ) (register : Register) (value : ℕ) → length content ≤ 27 → content ≡ (codes "reg " ++ register_name register ++ 32 ∷ []) ++ field →
+    register_value_of register field ≡ Some value → SaysAlone (Reg register value) content
+unfolding said_by_fields form_of said_of
+register_says content field register value short whole says =
+    let name = register_name register in
+    let p = name_field register in
+    let q = number_field w64 bytes_of_64 (omega arith) field value (value_there register field value says).0 in
+    let known = word_register name register (same_name register) in
+    let behind : fields_of (drop 4 content) ≡ name ∷ field ∷ [] = fields_behind (drop 4 content) name field (ap (drop 4) whole ∙ append_assoc name (32 ∷ []) field) p.spaceless q.spaceless in
+    by_name content (codes "reg") 3 (name ∷ field ∷ []) (Reg register value) (grind (arith, nat_tests, short)) (rw whole (omega arith)) (rw whole refl) (search (rules, All-cons, All-nil)) (rw whole refl) behind
+    (rw (p.some, q.some) refl) (λ version begun. rw (known, known, says) refl)
 
 pub write_says : (content : List ℕ) (at word : ℕ) → length content ≡ 27 → slice_index content 0 ≡ 119 → slice_index content 1 ≡ 32 → slice_index content 18 ≡ 32 →
     word_address_of (take 16 (drop 2 content)) ≡ Some at → number_of w32 (take 8 (drop 19 content)) ≡ Some word → SaysAlone (Write at word) content

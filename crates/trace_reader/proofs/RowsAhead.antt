@@ -45,7 +45,7 @@ says_behind st content row says is behind within =
 abbrev somewhere : State
 somewhere = record (start true) { lines = 2 }
 
-begins_with : (text content : List ℕ) (count : ℕ) (row : Row) → SaysAlone row content → IsOrdinary row → length content + 1 ≡ count → ((rest : List ℕ) × (text ≡ content ++ 10 ∷ rest)) →
+pub begins_with : (text content : List ℕ) (count : ℕ) (row : Row) → SaysAlone row content → IsOrdinary row → length content + 1 ≡ count → ((rest : List ℕ) × (text ≡ content ++ 10 ∷ rest)) →
     BeginsWithRow row count text
 begins_with text content count row says is long whole =
     let read = λ (st : State). says_behind st content row says is in

@@ -372,8 +372,10 @@ pub fn word_address_of(field: &[u8]) -> Option<Addr>
     Addr::new(u64_of(field)?)
 }
 
+/// The value of a register: it is below 2^32, where the register has 32 bits.
 #[tactic(auto, unfolding(crate::specs::Values::register_value_of))]
-fn register_value_of(register: Register, field: &[u8]) -> Option<u64>
+#[inline(always)]
+pub fn register_value_of(register: Register, field: &[u8]) -> Option<u64>
     ensures { result ≡ register_value_of register field.now }
 {
     let value = u64_of(field)?;

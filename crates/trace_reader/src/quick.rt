@@ -1,15 +1,15 @@
-ghost use Rattle.std.specs.Prelude.{◌≡◌, ◌∷◌, ◌++◌, [], ℕ, List, Ok, Bool, false, length, IfOk, IfSome};
+ghost use Rattle.std.specs.Prelude.{◌≡◌, ◌∷◌, ◌++◌, ◌≤◌, [], ℕ, List, Ok, Bool, false, length, codes, IfOk, IfSome};
 ghost use Rattle.trace_reader.specs.Entries.{SaysAlone, said_alone};
 ghost use Rattle.trace_reader.specs.RowsAhead.{BeginsWithRow};
 ghost use Rattle.trace_reader.specs.Values.{SaysRow};
-ghost use Rattle.traces.specs.declared.register.Register.TheVariants.{Erdp};
+ghost use Rattle.traces.specs.Register.{register_name};
 ghost use Rattle.traces.specs.declared.row.Row.{Row};
 ghost use Rattle.traces.specs.declared.version.Version.{Version};
 
-use crate::entry::{block_of, word_address_of};
+use crate::entry::{block_of, register_value_of, word_address_of};
 use crate::plain_row::PlainRow;
 use guest_memory::Addr;
-use line_text::{Line, u8_of, u32_of, u64_of};
+use line_text::{Line, u8_of, u32_of};
 use traces::{Register, Row};
 use trb::{Block, Blocks};
 
@@ -22,10 +22,10 @@ pub fn quick_row(line: &Line) -> Option<PlainRow>
     }
     let content = line.content();
     match content.len() {
-        27 => write_of(content),
+        27 if content[0] == b'w' => write_of(content),
         38 => event_of(content),
         8 => bell_of(content),
-        25 => erdp_of(content),
+        25 | 27 => register_of(content),
         42 => declaration_of(content),
         _ => None,
     }
@@ -56,12 +56,18 @@ pub fn bell_ahead(text: &[u8]) -> Option<(u8, u8)>
     quick_bell(content_ahead(text, 8)?)
 }
 
-/// The value of a text's first line, where that is `reg erdp` and a value: it takes 26 bytes.
+/// The register and the value of a text's first line, where that is `reg` and these, and the register is ERDP, IMAN, USBSTS or USBCMD; and
+/// how many bytes it takes.
 #[inline(always)]
-pub fn erdp_ahead(text: &[u8]) -> Option<u64>
-    ensures { IfSome result (λ value. BeginsWithRow (Row.Reg Erdp value) 26 text.now) }
+pub fn register_ahead(text: &[u8]) -> Option<(Register, u64, usize)>
+    ensures { IfSome result (λ said. BeginsWithRow (Row.Reg said.0 said.1) said.2 text.now) }
 {
-    quick_erdp(content_ahead(text, 25)?)
+    if let Some(content) = content_ahead(text, 25) {
+        let (register, value) = quick_register(content)?;
+        return Some((register, value, 26));
+    }
+    let (register, value) = quick_register(content_ahead(text, 27)?)?;
+    Some((register, value, 28))
 }
 
 /// The ring and the block of a text's first line, where that is `sub` and these: it takes 43 bytes.
@@ -161,24 +167,42 @@ fn quick_bell(content: &[u8]) -> Option<(u8, u8)>
     Some((slot, target))
 }
 
-/// `reg erdp` and a value.
-fn erdp_of(content: &[u8]) -> Option<PlainRow>
-    requires { length content.now ≡ 25 }
+/// `reg`, a register and a value.
+fn register_of(content: &[u8]) -> Option<PlainRow>
+    requires { length content.now ≤ 27 }
     ensures { IfSome result (λ plain. SaysAlone plain.row content.now) }
 {
-    let value = quick_erdp(content)?;
-    let register = Register::Erdp;
+    let (register, value) = quick_register(content)?;
     let row = Row::Reg { register, value };
     Some(PlainRow { row })
 }
 
 /// What such a line says.
 #[inline(always)]
-fn quick_erdp(content: &[u8]) -> Option<u64>
-    requires { length content.now ≡ 25 }
-    ensures { IfSome result (λ value. SaysAlone (Row.Reg Erdp value) content.now) }
+fn quick_register(content: &[u8]) -> Option<(Register, u64)>
+    requires { length content.now ≤ 27 }
+    ensures { IfSome result (λ said. SaysAlone (Row.Reg said.0 said.1) content.now) }
 {
-    u64_of(content.strip_prefix(b"reg erdp ")?)
+    let (register, field) = register_field(content)?;
+    let value = register_value_of(register, field)?;
+    Some((register, value))
+}
+
+/// The register of such a line, and the field of its value.
+#[inline(always)]
+fn register_field(content: &[u8]) -> Option<(Register, &[u8])>
+    ensures { IfSome result (λ said. content.now ≡ (codes "reg " ++ register_name said.0 ++ 32 ∷ []) ++ said.1.now) }
+{
+    if content.len() == 25 {
+        if let Some(field) = content.strip_prefix(b"reg erdp ") {
+            return Some((Register::Erdp, field));
+        }
+        return Some((Register::Iman, content.strip_prefix(b"reg iman ")?));
+    }
+    if let Some(field) = content.strip_prefix(b"reg usbsts ") {
+        return Some((Register::Usbsts, field));
+    }
+    Some((Register::Usbcmd, content.strip_prefix(b"reg usbcmd ")?))
 }
 
 /// `sub`, a ring and the four words of one block.

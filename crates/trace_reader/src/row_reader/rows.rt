@@ -14,12 +14,12 @@ use crate::row_reader::fault::{StreamFault, fault_of};
 use crate::row_reader::reader::RowReader;
 use crate::row_reader::source::Source;
 use crate::{
-    MOST_LINES, bell_ahead, declaration_ahead, erdp_ahead, event_ahead, most_lines_of, note_id,
+    MOST_LINES, bell_ahead, declaration_ahead, event_ahead, most_lines_of, note_id, register_ahead,
     row_in, write_ahead,
 };
 use line_text::first_line;
 use std::alloc::Global;
-use traces::{Header, Register, Row};
+use traces::{Header, Row};
 use trb::Blocks;
 
 impl RowReader {
@@ -101,13 +101,10 @@ impl RowReader {
             let row = Row::Bell { slot, target };
             return Ok(Some((self.lines, row)));
         }
-        if let Some(value) = erdp_ahead(self.ahead.as_slice()) {
-            self.ahead.skip(26);
+        if let Some((register, value, count)) = register_ahead(self.ahead.as_slice()) {
+            self.ahead.skip(count);
             self.lines += 1;
-            let row = Row::Reg {
-                register: Register::Erdp,
-                value,
-            };
+            let row = Row::Reg { register, value };
             return Ok(Some((self.lines, row)));
         }
         self.searched_row(source)
