@@ -1,6 +1,6 @@
 -- What is right to answer to the text of a trace whose lazy schedule is asked for
 use Rattle.std.specs.Prelude.{true, ◌≡◌, ℕ, List, reverse, Option, Some, Ok}
-use Rattle.trace_reader.specs.Reading.{TraceText}
+use Rattle.trace_reader.specs.TraceOfText.{TraceText}
 use Rattle.trace_reader.specs.Schedules.{schedule_of}
 use Rattle.trace_reader.specs.ScheduleSpelling.{printed_schedule}
 use Rattle.controller_model.specs.Showing.{scene_replayed}

@@ -129,7 +129,8 @@ pub use Rattle.trace_reader.proofs.Streaming.LineEnds.{ended_if_read}
 pub use Rattle.trace_reader.proofs.Streaming.RowsFit.{answer_fits}
 pub use Rattle.trace_reader.proofs.Streaming.Streams.{end_read, line_read_bad, opened_read, row_numbered, row_read}
 pub use Rattle.trace_reader.specs.Entries.{text_of}
-pub use Rattle.trace_reader.specs.Reading.{State, TraceText}
+pub use Rattle.trace_reader.specs.Reading.{State}
+pub use Rattle.trace_reader.specs.TraceOfText.{TraceText}
 unfoldable pub use Rattle.trace_reader.specs.Reading.{trace_of}
 pub use Rattle.trace_reader.specs.Streaming.Ahead.{OfLater, OfText, ahead_of}
 pub use Rattle.trace_reader.specs.Streaming.Answers.{IsCall, has_ended}

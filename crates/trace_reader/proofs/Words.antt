@@ -55,7 +55,8 @@ unfoldable pub use Rattle.trace_reader.specs.PlanSpelling.{plan_line_fields, pla
 pub use Rattle.trace_reader.specs.Plans.{PlanText, declares_too_much, plan_behind, plan_in, plan_line, plan_line_fault, plan_ring, plan_ring_fault, plan_sub_line, ret_line, ring_alone, with_ring}
 unfoldable pub use Rattle.trace_reader.specs.Plans.{is_plan_version, plan_form_of, plan_of, plan_value, ring_line_form, ring_value}
 pub use Rattle.trace_reader.specs.Printing.{in_a_row, spaced}
-pub use Rattle.trace_reader.specs.Reading.{State, TraceText, behind_row, go_on, has_no_shape, is_misplaced, is_too_much, most_of, next_number, start, whole, with_row, with_said}
+pub use Rattle.trace_reader.specs.Reading.{State, behind_row, go_on, has_no_shape, is_misplaced, is_too_much, most_of, next_number, start, whole, with_row, with_said}
+pub use Rattle.trace_reader.specs.TraceOfText.{TraceText}
 unfoldable pub use Rattle.trace_reader.specs.Reading.{after, form_in, is_bad_number, is_bad_row, is_bad_shape, is_past_limit, is_too_long, line_fault, read_line, read_lines, row_fault, said_in, size_of, trace_of, version_of}
 pub use Rattle.trace_reader.specs.RowsAhead.{BeginsWithRow}
 pub use Rattle.trace_reader.specs.ScheduleSpelling.{IsSchedule, schedule_version_fields}

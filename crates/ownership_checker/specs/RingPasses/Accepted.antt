@@ -5,7 +5,7 @@ use Rattle.segments.specs.Walk.{WalkReads}
 use Rattle.traces.specs.declared.header.Header.{Header}
 use Rattle.traces.specs.declared.row.Row.{Row}
 use Rattle.traces.specs.Header.{shape_of}
-use Rattle.trace_reader.specs.Reading.{TraceText}
+use Rattle.trace_reader.specs.TraceOfText.{TraceText}
 use Rattle.ring_knowledge.specs.declared.lease.Lease.{Lease}
 use Rattle.safety.specs.RingsKeep.{IsDriverRing}
 use Rattle.leases.specs.LeaseBooks.Lents.{lease_of, lents}

@@ -2,7 +2,8 @@
 use Rattle.std.specs.Prelude.{◌≡◌, ℕ, Bool, List, [], Option, None, Ok, reverse}
 use Rattle.traces.specs.declared.header.Header.{Header}
 use Rattle.traces.specs.declared.row.Row.{Row}
-use Rattle.trace_reader.specs.Reading.{TraceText, trace_of}
+use Rattle.trace_reader.specs.Reading.{trace_of}
+use Rattle.trace_reader.specs.TraceOfText.{TraceText}
 use Rattle.trace_reader.specs.Streaming.Streams.{OfStream}
 use Rattle.trace_reader.specs.declared.row_reader.reader.RowReader.{RowReader}
 use Rattle.ownership_rules.specs.declared.refusal.Refusal.{Refusal}
