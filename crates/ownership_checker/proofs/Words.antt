@@ -10,6 +10,7 @@ pub use Rattle.driver_rows.specs.RingRows.Withdrawing.{NamesTransfer}
 pub use Rattle.event_ring.specs.EventPlaceValue.{EventState}
 pub use Rattle.event_rows.proofs.TransferEvents.Reports.{left_out as left_out_transfer}
 pub use Rattle.leases.proofs.LeaseBooks.FirstBook.{first_list}
+pub use Rattle.leases.proofs.LeaseBooks.Growing.{leases_are}
 pub use Rattle.leases.proofs.LeaseRows.EntriesFit.{nothing_fits, tables_fit}
 pub use Rattle.leases.proofs.LeaseRows.OtherRows.{on_both, on_more}
 pub use Rattle.leases.proofs.RingLeases.FoundFree.{found_moved, found_restored, found_withdrawn}
@@ -29,7 +30,7 @@ pub use Rattle.line_text.specs.Lines.{TextLine, lines_of}
 pub use Rattle.ownership_checker.specs.Following.{EndsAt, IsToldBad, IsToldSoFar, told_behind, told_first, told_with}
 unfoldable pub use Rattle.ownership_checker.specs.Following.{told_as_it_comes}
 pub use Rattle.ownership_checker.specs.JudgedRows.Tracking.{IsLeastFrom, IsStepFrom, IsTracked}
-pub use Rattle.ownership_checker.specs.RingPasses.Accepted.{IsSound, WalksRead, leases_of}
+pub use Rattle.ownership_checker.specs.RingPasses.Accepted.{IsSound, WalksRead}
 pub use Rattle.ownership_checker.specs.RingPasses.Clean.{AreClean, IsLeastOfRow}
 pub use Rattle.ownership_checker.specs.RingPasses.KeptRows.{IsBehindAll}
 pub use Rattle.ownership_checker.specs.RingPasses.Passing.{IsRingLogged, IsRingPassed, NothingFree}
@@ -43,6 +44,7 @@ pub use Rattle.ownership_rules.specs.Doorbells.{is_bad_doorbell}
 unfoldable pub use Rattle.ownership_rules.specs.Doorbells.{doorbell_tests}
 pub use Rattle.ownership_rules.specs.Events.{is_impossible_completion, is_impossible_transfer, is_in_profile, is_past_room}
 unfoldable pub use Rattle.ownership_rules.specs.Events.{event_tests, is_impossible, is_impossible_by_kind}
+pub use Rattle.ownership_rules.specs.Leases.{leases as leases_of}
 unfoldable pub use Rattle.ownership_rules.specs.Leases.{without_end}
 unfoldable pub use Rattle.ownership_rules.specs.Older.{older, stricter}
 pub use Rattle.ownership_rules.specs.OpenLeases.{Leased, open_leases}
