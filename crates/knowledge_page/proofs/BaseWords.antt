@@ -16,7 +16,7 @@ pub use Rattle.std.proofs.lemmas.Result.{err_from_is_err_and}
 pub use Rattle.std.specs.Prelude.{All, reverse, take}
 pub use Rattle.trace_reader.specs.Entries.{text_of}
 pub use Rattle.trace_reader.specs.TraceOfText.{TraceText}
-pub use Rattle.traces.specs.Header.{IsHeader}
+pub use Rattle.traces.specs.AllowedHeaders.{IsHeader}
 pub use Rattle.traces.specs.LivingRings.{header_after}
 pub use Rattle.traces.specs.TraceRows.{AreRowsOf, IsRowOf, IsTraceRow}
 pub use Rattle.traces.specs.declared.header.Header.{Header}

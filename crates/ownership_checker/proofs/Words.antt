@@ -160,7 +160,8 @@ pub use Rattle.trace_record.specs.declared.fault.StepFault.{StepFault}
 pub use Rattle.trace_record.specs.declared.fault.StepFault.TheVariants.{Memory, Refused, Refused as RefusedBy}
 pub use Rattle.trace_record.specs.declared.row_place.RowPlace.{RowPlace}
 pub use Rattle.trace_record.specs.declared.trace_record.TraceRecord.{TraceRecord}
-pub use Rattle.traces.specs.Header.{IsHeader, command_ring, event_ring, id_of, id_or_none, is_driver_kind, is_ring, is_transfer_kind, no_id, ring_with, shape_of}
+pub use Rattle.traces.specs.Header.{command_ring, event_ring, id_of, id_or_none, is_driver_kind, is_ring, is_transfer_kind, no_id, ring_with, shape_of}
+pub use Rattle.traces.specs.AllowedHeaders.{IsHeader}
 unfoldable pub use Rattle.traces.specs.Header.{command_id, event_shape, event_size}
 pub use Rattle.traces.specs.Limits.{most_streamed_lines}
 pub use Rattle.traces.specs.LivingRings.{header_after, without_ring}

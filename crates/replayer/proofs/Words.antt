@@ -124,7 +124,8 @@ pub use Rattle.trace_record.specs.RingFinder.Finding.{IsFinder}
 pub use Rattle.trace_record.specs.RingFinder.RecordsOfRings.{FollowsRings}
 pub use Rattle.trace_record.specs.declared.trace_record.TraceRecord.{TraceRecord}
 pub use Rattle.traces.specs.Halts.{is_asked, is_done}
-pub use Rattle.traces.specs.Header.{IsHeader, is_command_kind, is_event_kind, is_transfer_kind, may_stand_together, no_shape, ring_with}
+pub use Rattle.traces.specs.Header.{is_command_kind, is_event_kind, is_transfer_kind, no_shape, ring_with}
+pub use Rattle.traces.specs.AllowedHeaders.{IsHeader, may_stand_together}
 unfoldable pub use Rattle.traces.specs.Header.{command_id, command_ring, ring_having, shape_of}
 pub use Rattle.traces.specs.Limits.{most_lines, most_streamed_lines}
 pub use Rattle.traces.specs.LivingRings.{header_after}

@@ -126,12 +126,14 @@ pub use Rattle.std.proofs.lemmas.Nat.{mod_below}
 pub use Rattle.std.proofs.lemmas.Option.{cond_some, get_or_from_slice_get, none-some, same_Some, slice_get-get_or, slice_get_past, slice_get_within}
 pub use Rattle.std.specs.List.{cons_option, filter_map, flat_map, list_all, list_any, range_with_len}
 pub use Rattle.std.specs.Option.{option_map, option_or}
-pub use Rattle.traces.specs.Header.{IsHeader, clash, id_of, id_or_none, is_command_kind, is_driver_kind, is_event_kind, is_ring, is_transfer_kind, may_stand_together, ring_with, shape_or}
+pub use Rattle.traces.specs.Header.{id_of, id_or_none, is_command_kind, is_driver_kind, is_event_kind, is_ring, is_transfer_kind, ring_with, shape_or}
+pub use Rattle.traces.specs.AllowedHeaders.{IsHeader, clash, may_stand_together}
 unfoldable pub use Rattle.traces.specs.Header.{command_id, command_ring, driver_rings, event_ring, event_shape, event_size, ring_having, shape_of, touches_ring}
 pub use Rattle.traces.specs.LivingRings.{header_after}
 unfoldable pub use Rattle.traces.specs.LivingRings.{with_ring, without_ring}
 pub use Rattle.traces.specs.Register.{base_address, command_abort, command_stop, register_or_zero, reset_bit, ring_cycle_state, run_bit, same_register, with_register}
-pub use Rattle.traces.specs.Rows.{AreSteps, IsComing, IsRow, IsStep, is_ring_row}
+pub use Rattle.traces.specs.Rows.{AreSteps, IsComing, IsRow, is_ring_row}
+pub use Rattle.traces.specs.Steps.{IsStep}
 pub use Rattle.traces.specs.Versions.{has_isoch, profile_of, has_runs}
 pub use Rattle.traces.specs.declared.header.Header.{Header}
 pub use Rattle.traces.specs.declared.register.Register.{Register}

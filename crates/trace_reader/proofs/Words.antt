@@ -89,12 +89,14 @@ pub use Rattle.trace_reader.specs.declared.row_reader.fault.StreamFault.{StreamF
 pub use Rattle.trace_reader.specs.declared.row_reader.fault.StreamFault.TheVariants.{Device, Line, Memory as NoMemory}
 pub use Rattle.trace_reader.specs.declared.row_reader.reader.RowReader.{RowReader}
 pub use Rattle.trace_reader.specs.declared.so_far.TraceSoFar.{TraceSoFar}
-pub use Rattle.traces.specs.Header.{IsHeader, clash, is_command_kind, is_event_kind, may_stand_together}
+pub use Rattle.traces.specs.Header.{is_command_kind, is_event_kind}
+pub use Rattle.traces.specs.AllowedHeaders.{IsHeader, clash, may_stand_together}
 pub use Rattle.traces.specs.Limits.{most_bytes, most_declared, most_lines, most_schedule_lines, most_streamed_lines}
 unfoldable pub use Rattle.traces.specs.Limits.{most_lines_of}
 pub use Rattle.traces.specs.PlanLines.{IsPlanLine}
 pub use Rattle.traces.specs.Register.{is_wide, register_name}
-pub use Rattle.traces.specs.Rows.{FitsLine, IsRow, IsStep, IsWordAddress}
+pub use Rattle.traces.specs.Rows.{FitsLine, IsRow}
+pub use Rattle.traces.specs.Steps.{IsStep, IsWordAddress}
 pub use Rattle.traces.specs.TraceRows.{IsTraceRow, begins_with_ring, has_used_id, have_new_ids, ids_with, is_of_version, AreRowsOf, IsRowOf}
 pub use Rattle.traces.specs.Versions.{has_runs}
 pub use Rattle.traces.specs.declared.header.Header.{Header}

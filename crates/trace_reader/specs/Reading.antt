@@ -17,7 +17,7 @@ use Rattle.traces.specs.declared.row.Row.{Row}
 use Rattle.traces.specs.declared.row.Row.TheVariants.{Ring as RingRow, Sub}
 use Rattle.traces.specs.TraceRows.{has_used_id, ids_with}
 use Rattle.trace_reader.specs.TraceLines.{Form, form_of, said_of}
-use Rattle.traces.specs.Header.{clash}
+use Rattle.traces.specs.AllowedHeaders.{clash}
 use Rattle.traces.specs.Limits.{most_lines_of, most_bytes, most_declared}
 use Rattle.trace_reader.specs.Values.{Said, SaysRow, SaysRing}
 use Rattle.trace_reader.specs.TraceOfText.{TraceText}

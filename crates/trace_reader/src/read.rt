@@ -5,7 +5,7 @@ ghost use Rattle.trace_reader.specs.Reading.{read_line, start, trace_of, whole};
 ghost use Rattle.trace_reader.specs.TraceOfText.{TraceText};
 ghost use Rattle.trace_reader.specs.Spelling.{printed_trace, spells};
 ghost use Rattle.trace_reader.specs.Valid.{IsTrace};
-ghost use Rattle.traces.specs.Header.{IsHeader};
+ghost use Rattle.traces.specs.AllowedHeaders.{IsHeader};
 ghost use Rattle.traces.specs.Limits.{most_lines, most_lines_of};
 ghost use Rattle.trace_reader.specs.Values.{SaysRing, SaysRow};
 

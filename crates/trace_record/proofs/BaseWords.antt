@@ -93,7 +93,8 @@ pub use Rattle.trace_record.specs.declared.ring_finder.finder.Finder.{Finder}
 pub use Rattle.trace_record.specs.declared.ring_finder.finder.Start.{Start}
 pub use Rattle.trace_record.specs.declared.row_place.RowPlace.{RowPlace}
 pub use Rattle.trace_record.specs.declared.trace_record.TraceRecord.{TraceRecord}
-pub use Rattle.traces.specs.Header.{IsHeader, clash, id_of, id_or_none, is_command_kind, is_driver_kind, is_event_kind, is_ring, is_transfer_kind, may_stand_together, ring_with, shape_or}
+pub use Rattle.traces.specs.Header.{id_of, id_or_none, is_command_kind, is_driver_kind, is_event_kind, is_ring, is_transfer_kind, ring_with, shape_or}
+pub use Rattle.traces.specs.AllowedHeaders.{IsHeader, clash, may_stand_together}
 unfoldable pub use Rattle.traces.specs.Header.{command_id, command_ring, driver_rings, event_ring, event_shape, ring_having, shape_of, touches_ring}
 pub use Rattle.traces.specs.Register.{base_address, register_or_zero}
 pub use Rattle.traces.specs.Versions.{is_lenient}

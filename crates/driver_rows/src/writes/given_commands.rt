@@ -2,7 +2,8 @@
 ghost use Rattle.std.specs.Prelude.{◌≡◌, ◌&&◌, ℕ, not, if◌then◌else◌, None, IfNone, IfSome};
 ghost use Rattle.trb.specs.declared.ring_kind.RingKind.{RingKind};
 ghost use Rattle.segments.specs.RingView.{RingView};
-ghost use Rattle.traces.specs.Header.{IsHeader, is_command_kind};
+ghost use Rattle.traces.specs.Header.{is_command_kind};
+ghost use Rattle.traces.specs.AllowedHeaders.{IsHeader};
 ghost use Rattle.ring_knowledge.specs.Known.{Known};
 ghost use Rattle.ring_knowledge.specs.RingRecords.{positions_of};
 ghost use Rattle.trace_record.specs.RingFinder.Finding.{IsFinder};

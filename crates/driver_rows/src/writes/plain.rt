@@ -1,6 +1,6 @@
 //! A write that gives nothing of any ring, as most writes.
 ghost use Rattle.std.specs.Prelude.{◌≡◌, ℕ, false, None, IfSome, IfNone};
-ghost use Rattle.traces.specs.Header.{IsHeader};
+ghost use Rattle.traces.specs.AllowedHeaders.{IsHeader};
 ghost use Rattle.traces.specs.declared.row.Row.TheVariants.{Write};
 ghost use Rattle.ring_knowledge.specs.Known.{Known};
 ghost use Rattle.ownership_rules.specs.Older.{writes_to_owned};

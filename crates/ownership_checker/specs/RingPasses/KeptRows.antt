@@ -1,6 +1,6 @@
 -- A pass over rows that are kept in memory, and what stands behind them
 use Rattle.std.specs.Prelude.{◌≡◌, ◌≤◌, ℕ, ◌+◌, List, [], None, length, reverse}
-use Rattle.traces.specs.Header.{IsHeader}
+use Rattle.traces.specs.AllowedHeaders.{IsHeader}
 use Rattle.traces.specs.declared.header.Header.{Header}
 use Rattle.traces.specs.declared.row.Row.{Row}
 use Rattle.ring_knowledge.specs.declared.lease.Lease.{Lease}

@@ -1,6 +1,6 @@
 //! A row, by its kind.
 ghost use Rattle.std.specs.Prelude.{◌≡◌, ◌+◌, ℕ, false, length, None, IfErr, OnOk};
-ghost use Rattle.traces.specs.Header.{IsHeader};
+ghost use Rattle.traces.specs.AllowedHeaders.{IsHeader};
 ghost use Rattle.traces.specs.Limits.{most_streamed_lines};
 ghost use Rattle.traces.specs.Rows.{is_ring_row};
 ghost use Rattle.traces.specs.declared.row.Row.TheVariants.{Bell, Write};

@@ -1,6 +1,6 @@
 //! The notes of one row: those that come before it is noted in the record, and those that come behind that.
 ghost use Rattle.std.specs.Prelude.{◌≡◌, ◌++◌, ℕ, [], map, All, IfOk, OnOk};
-ghost use Rattle.traces.specs.Header.{IsHeader};
+ghost use Rattle.traces.specs.AllowedHeaders.{IsHeader};
 ghost use Rattle.traces.specs.declared.header.Header.{Header as HeaderValue};
 ghost use Rattle.traces.specs.declared.row.Row.TheVariants.{Bell, Read};
 ghost use Rattle.ring_knowledge.specs.Known.{Known};

@@ -2,7 +2,8 @@
 //! (xHCI 4.6.9, 4.6.10).
 ghost use Rattle.std.specs.Prelude.{◌≡◌, ◌+◌, ◌<◌, ◌≤◌, ℕ, true, false, [], ◌∷◌, List, None, Some, length, IfErr, OnOk};
 ghost use Rattle.segments.specs.RingView.{Restores, Withdraws as WithdrawsAt, floor_number};
-ghost use Rattle.traces.specs.Header.{IsHeader, ring_with};
+ghost use Rattle.traces.specs.Header.{ring_with};
+ghost use Rattle.traces.specs.AllowedHeaders.{IsHeader};
 ghost use Rattle.traces.specs.declared.header.Header.{Header};
 ghost use Rattle.traces.specs.Limits.{most_streamed_lines};
 ghost use Rattle.traces.specs.declared.row.Row.TheVariants.{Write, Nop as NopRow};
