@@ -40,9 +40,9 @@ pub use Rattle.std.specs.Prelude.{IfErr, IfOk, IfSome, is_some}
 pub use Rattle.trace_reader.proofs.Streaming.Streams.{known_text}
 pub use Rattle.trace_reader.specs.Entries.{text_of}
 pub use Rattle.trace_reader.specs.Reading.{trace_of}
-pub use Rattle.trace_reader.specs.TraceOfText.{TraceText}
 pub use Rattle.trace_reader.specs.Schedules.{schedule_of}
 pub use Rattle.trace_reader.specs.Streaming.Streams.{IfBadLine, IsBadLine, OfStream}
+pub use Rattle.trace_reader.specs.TraceOfText.{TraceText}
 pub use Rattle.trace_reader.specs.declared.fault.LineFault.{LineFault}
 pub use Rattle.trace_reader.specs.declared.fault.ReadFault.{ReadFault}
 pub use Rattle.trace_reader.specs.declared.fault.ReadFault.TheVariants.{Memory as OutOfMemory}

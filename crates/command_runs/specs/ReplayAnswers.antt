@@ -5,7 +5,7 @@ use Rattle.trace_reader.specs.TraceOfText.{TraceText}
 use Rattle.trace_reader.specs.Schedules.{schedule_of}
 use Rattle.trace_reader.specs.declared.fault.LineFault.{LineFault}
 use Rattle.controller_model.specs.Showing.{scene_replayed}
-use Rattle.world_state.specs.Steps.{Ending, NoHarm as EndsSafe, NotPossible as Stuck, Harmful as Harms}
+use Rattle.world_state.specs.Replays.{Ending, NoHarm as EndsSafe, NotPossible as Stuck, Harmful as Harms}
 use Rattle.answers.specs.declared.replay_lines.ReplayEnd.{ReplayEnd}
 use Rattle.answers.specs.declared.replay_lines.ReplayEnd.TheVariants.{NoHarm, Harmful, NotPossible}
 use Rattle.answers.specs.declared.answer.Answer.{Answer}

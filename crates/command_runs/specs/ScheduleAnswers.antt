@@ -4,7 +4,7 @@ use Rattle.trace_reader.specs.TraceOfText.{TraceText}
 use Rattle.trace_reader.specs.Schedules.{schedule_of}
 use Rattle.trace_reader.specs.ScheduleSpelling.{printed_schedule}
 use Rattle.controller_model.specs.Showing.{scene_replayed}
-use Rattle.world_state.specs.Steps.{NoHarm}
+use Rattle.world_state.specs.Replays.{NoHarm}
 use Rattle.ownership_checker.specs.RingPasses.Clean.{AreClean}
 use Rattle.ownership_rules.specs.Rules.{trace_verdict}
 use Rattle.safety.specs.LazyRuns.LateEvents.{IsTimely}

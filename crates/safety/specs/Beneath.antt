@@ -13,7 +13,7 @@ use Rattle.traces.specs.Rows.{IsRow}
 use Rattle.ring_knowledge.specs.Known.{Known}
 use Rattle.ring_knowledge.specs.Learned.{learned}
 use Rattle.ring_knowledge.specs.Resets.{resets}
-use Rattle.ownership_rules.specs.Rules.{lenient}
+use Rattle.ownership_rules.specs.LenientRules.{lenient}
 use Rattle.ownership_rules.specs.Doorbells.{is_touched}
 use Rattle.safety.specs.Restoring.{MayCome}
 use Rattle.safety.specs.Keeps.{DriverKeeps}

@@ -6,7 +6,7 @@ use Rattle.traces.specs.declared.row.Row.{Row}
 use Rattle.traces.specs.AllowedHeaders.{IsHeader}
 use Rattle.ring_knowledge.specs.Known.{Known}
 use Rattle.ring_knowledge.specs.Learned.{learned}
-use Rattle.ownership_rules.specs.Rules.{lenient}
+use Rattle.ownership_rules.specs.LenientRules.{lenient}
 use Rattle.safety.specs.Restoring.{MayCome}
 use Rattle.safety.specs.Keeps.{DeviceKeeps, IsUnfinished, CommandKeeps, DriverKeeps}
 

@@ -15,5 +15,5 @@ pub use Rattle.ring_knowledge.specs.Histories.{header_now}
 pub use Rattle.std.proofs.Common.{Bool, List, Some, false, map, refl, rules, subst, true, ℕ, ◌∙◌, ◌≡◌, ◌≢◌}
 pub use Rattle.std.proofs.lemmas.Result.{err_from_is_err_and}
 pub use Rattle.std.specs.Prelude.{reverse}
-pub use Rattle.trace_reader.specs.TraceOfText.{TraceText}
 pub use Rattle.traces.specs.declared.header.Header.{Header}
+pub use Rattle.trace_reader.specs.TraceOfText.{TraceText}

@@ -13,7 +13,8 @@ ghost use Rattle.trace_record.specs.Premises.{ContextsFit};
 ghost use Rattle.trace_record.specs.Steps.{IfRefused};
 ghost use Rattle.ownership_rules.specs.declared.refusal.Refusal.TheVariants.{BadWithdraw};
 ghost use Rattle.driver_rows.specs.RingRows.RingSteps.{IsRingStep};
-ghost use Rattle.ownership_rules.specs.Withdrawals.{is_no_descriptor, is_passed, withdraws_badly};
+ghost use Rattle.ownership_rules.specs.Withdrawals.{is_passed};
+ghost use Rattle.ownership_rules.specs.BadWithdrawals.{is_no_descriptor, withdraws_badly};
 
 use crate::rings::stopped::stopped_ring;
 use guest_memory::WordMemory;

@@ -5,7 +5,7 @@ ghost use Rattle.traces.specs.declared.row.Row.TheVariants.{Write};
 ghost use Rattle.ring_knowledge.specs.Known.{Known};
 ghost use Rattle.ring_knowledge.specs.Learned.{learned};
 ghost use Rattle.ring_knowledge.specs.Writes.{command_given};
-ghost use Rattle.ownership_rules.specs.Rules.{lenient};
+ghost use Rattle.ownership_rules.specs.LenientRules.{lenient};
 ghost use Rattle.trace_record.specs.RingFinder.Finding.{IsFinder};
 ghost use Rattle.safety.specs.Keeps.{DriverKeeps};
 ghost use Rattle.trace_record.specs.DeviceSlots.Unfinished.{FollowsUnfinished};

@@ -7,7 +7,7 @@ use Rattle.traces.specs.declared.row.Row.{Row}
 use Rattle.traces.specs.Header.{shape_of}
 use Rattle.trace_reader.specs.TraceOfText.{TraceText}
 use Rattle.ring_knowledge.specs.declared.lease.Lease.{Lease}
-use Rattle.safety.specs.RingsKeep.{IsDriverRing}
+use Rattle.safety.specs.DriverRings.{IsDriverRing}
 use Rattle.ring_knowledge.specs.Histories.{header_now, known_now}
 use Rattle.safety.specs.Harmless.{DoNoHarm}
 use Rattle.ownership_rules.specs.Leases.{leases as leases_of}

@@ -6,7 +6,7 @@ ghost use Rattle.traces.specs.Rows.{is_ring_row};
 ghost use Rattle.traces.specs.declared.row.Row.TheVariants.{Bell, Write};
 ghost use Rattle.ring_knowledge.specs.Known.{Known};
 ghost use Rattle.trace_record.specs.RingFinder.Finding.{IsFinder};
-ghost use Rattle.ownership_rules.specs.Older.{writes_to_owned};
+ghost use Rattle.ownership_rules.specs.ByVersion.{writes_to_owned};
 ghost use Rattle.safety.specs.Keeps.{DriverKeeps};
 ghost use Rattle.trace_record.specs.FollowsTrace.{FollowsTrace};
 ghost use Rattle.trace_record.specs.Fresh.{IsWithin};

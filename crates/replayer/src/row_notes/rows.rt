@@ -7,7 +7,7 @@ ghost use Rattle.ring_knowledge.specs.Known.{Known};
 ghost use Rattle.ring_knowledge.specs.RegisterRecords.{FollowsRegisters};
 ghost use Rattle.trace_record.specs.RingFinder.Finding.{IsFinder};
 ghost use Rattle.trace_record.specs.DeviceSlots.Devices.{FollowsDevices};
-ghost use Rattle.ownership_rules.specs.Rules.{lenient};
+ghost use Rattle.ownership_rules.specs.LenientRules.{lenient};
 ghost use Rattle.safety.specs.Keeps.{DriverKeeps, IsTransferRing};
 ghost use Rattle.safety.specs.LazyRuns.Lazy.{is_first_halt};
 ghost use Rattle.replayer.specs.LazySteps.Notes.{floor_note, read_notes, row_notes};
