@@ -3,6 +3,7 @@ use Rattle.std.specs.Prelude.{◌≡◌, ℕ, List, [], ◌∷◌, ◌++◌, Boo
 use Rattle.std.specs.declared.io.ErrorKind.{ErrorKind}
 use Rattle.std.specs.declared.io.ErrorKind.TheVariants.{OutOfMemory as NoMemory}
 use Rattle.ownership_rules.specs.Refusal as rules
+use Rattle.ownership_rules.specs.RuleNames as rule_names
 use Rattle.ownership_rules.specs.declared.refusal.Refusal.{Refusal}
 use Rattle.rule_pages.specs.Subjects as subjects
 use Rattle.rule_pages.specs.declared.subject.Subject.{Subject}
@@ -90,7 +91,7 @@ range_text first last =
 
 -- a row that breaks a rule, and the rule
 abbrev pub refused_text : ℕ → Refusal → List ℕ
-refused_text row refusal = codes "row " ++ decimal row ++ codes ": " ++ decimal (rules.number_of refusal) ++ codes " " ++ rules.name_of refusal ++ 10 ∷ []
+refused_text row refusal = codes "row " ++ decimal row ++ codes ": " ++ decimal (rules.number_of refusal) ++ codes " " ++ rule_names.name_of refusal ++ 10 ∷ []
 
 -- the schedule of a run that does harm, or that none was found
 abbrev pub harm_text : Option FoundHarm → List ℕ

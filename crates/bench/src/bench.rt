@@ -1,6 +1,6 @@
 ghost use Rattle.std.specs.Prelude.{◌≡◌, ◌≤◌, ℕ, Bool, [], ◌∷◌, ◌++◌, true, false, List, Option, Some, None, Ok, Err, IfOk, IfSome, OnOk, length, nat_lt, reverse, ◌≢◌};
 ghost use Rattle.std.specs.Result.{result_err};
-ghost use Rattle.traces.specs.Header.{IsHeader};
+ghost use Rattle.traces.specs.AllowedHeaders.{IsHeader};
 ghost use Rattle.traces.specs.Limits.{most_streamed_lines};
 ghost use Rattle.traces.specs.Rows.{IsRow};
 ghost use Rattle.traces.specs.TraceRows.{IsTraceRow};

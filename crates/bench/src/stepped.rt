@@ -1,6 +1,6 @@
 ghost use Rattle.std.specs.Prelude.{◌≡◌, true, All, IfSome, [], ◌∷◌};
 ghost use Rattle.trb.specs.Block.{IsBlock};
-ghost use Rattle.traces.specs.Rows.{IsStep};
+ghost use Rattle.traces.specs.Steps.{IsStep};
 
 use traces::{Schedule, Step, Steps};
 use trb::Block;

@@ -39,15 +39,16 @@ pub use Rattle.std.specs.Io.KnownBytes.{Consumes}
 pub use Rattle.std.specs.Prelude.{IfErr, IfOk, IfSome, is_some}
 pub use Rattle.trace_reader.proofs.Streaming.Streams.{known_text}
 pub use Rattle.trace_reader.specs.Entries.{text_of}
-pub use Rattle.trace_reader.specs.Reading.{TraceText, trace_of}
+pub use Rattle.trace_reader.specs.Reading.{trace_of}
 pub use Rattle.trace_reader.specs.Schedules.{schedule_of}
 pub use Rattle.trace_reader.specs.Streaming.Streams.{IfBadLine, IsBadLine, OfStream}
+pub use Rattle.trace_reader.specs.TraceOfText.{TraceText}
 pub use Rattle.trace_reader.specs.declared.fault.LineFault.{LineFault}
 pub use Rattle.trace_reader.specs.declared.fault.ReadFault.{ReadFault}
 pub use Rattle.trace_reader.specs.declared.fault.ReadFault.TheVariants.{Memory as OutOfMemory}
 pub use Rattle.trace_reader.specs.declared.row_reader.fault.StreamFault.{StreamFault}
 pub use Rattle.trace_reader.specs.declared.row_reader.fault.StreamFault.TheVariants.{Device as NoDevice, Line, Memory as NoMemory}
-pub use Rattle.traces.specs.Header.{IsHeader}
+pub use Rattle.traces.specs.AllowedHeaders.{IsHeader}
 pub use Rattle.traces.specs.declared.header.Header.{Header}
 pub use Rattle.traces.specs.declared.schedule.Schedule.{Schedule}
 pub use Rattle.traces.specs.declared.version.Version.{Version}

@@ -1,6 +1,6 @@
 -- What is right to answer to the text of a trace, and to write where its certificate goes
 use Rattle.std.specs.Prelude.{◌≡◌, ◌⊎◌, ℕ, Bool, false, List, length, Option, None}
-use Rattle.trace_reader.specs.Reading.{TraceText}
+use Rattle.trace_reader.specs.TraceOfText.{TraceText}
 use Rattle.ring_knowledge.specs.declared.lease.Lease.{Lease}
 use Rattle.ownership_checker.specs.RingPasses.Accepted.{IsAccepted, IsSound}
 use Rattle.ownership_checker.specs.declared.fault.StreamCheckFault.{StreamCheckFault}

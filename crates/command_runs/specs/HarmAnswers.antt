@@ -3,7 +3,7 @@ use Rattle.std.specs.Prelude.{◌≡◌, ℕ, ◌+◌, ◌-◌, Bool, true, fals
 use Rattle.traces.specs.declared.step.Step.{Step}
 use Rattle.trace_reader.specs.Schedules.{schedule_of}
 use Rattle.trace_reader.specs.ScheduleSpelling.{printed_schedule}
-use Rattle.trace_reader.specs.Reading.{TraceText}
+use Rattle.trace_reader.specs.TraceOfText.{TraceText}
 use Rattle.ownership_rules.specs.Rules.{trace_verdict}
 use Rattle.replayer.specs.Schedules.Harmful.{DoesHarm}
 use Rattle.replayer.specs.Schedules.Tried.{IsNoRead, NoneDoesHarm}

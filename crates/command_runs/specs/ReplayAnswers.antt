@@ -1,11 +1,11 @@
 -- What is right to answer to the texts of a trace and of a schedule
 use Rattle.std.specs.Prelude.{true, ◌≡◌, ℕ, List, Option, Some, None, Ok, Err}
 use Rattle.traces.specs.declared.schedule.Schedule.{Schedule}
-use Rattle.trace_reader.specs.Reading.{TraceText}
+use Rattle.trace_reader.specs.TraceOfText.{TraceText}
 use Rattle.trace_reader.specs.Schedules.{schedule_of}
 use Rattle.trace_reader.specs.declared.fault.LineFault.{LineFault}
 use Rattle.controller_model.specs.Showing.{scene_replayed}
-use Rattle.world_state.specs.Steps.{Ending, NoHarm as EndsSafe, NotPossible as Stuck, Harmful as Harms}
+use Rattle.world_state.specs.Replays.{Ending, NoHarm as EndsSafe, NotPossible as Stuck, Harmful as Harms}
 use Rattle.answers.specs.declared.replay_lines.ReplayEnd.{ReplayEnd}
 use Rattle.answers.specs.declared.replay_lines.ReplayEnd.TheVariants.{NoHarm, Harmful, NotPossible}
 use Rattle.answers.specs.declared.answer.Answer.{Answer}

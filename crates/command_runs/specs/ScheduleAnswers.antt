@@ -1,10 +1,10 @@
 -- What is right to answer to the text of a trace whose lazy schedule is asked for
 use Rattle.std.specs.Prelude.{true, ◌≡◌, ℕ, List, reverse, Option, Some, Ok}
-use Rattle.trace_reader.specs.Reading.{TraceText}
+use Rattle.trace_reader.specs.TraceOfText.{TraceText}
 use Rattle.trace_reader.specs.Schedules.{schedule_of}
 use Rattle.trace_reader.specs.ScheduleSpelling.{printed_schedule}
 use Rattle.controller_model.specs.Showing.{scene_replayed}
-use Rattle.world_state.specs.Steps.{NoHarm}
+use Rattle.world_state.specs.Replays.{NoHarm}
 use Rattle.ownership_checker.specs.RingPasses.Clean.{AreClean}
 use Rattle.ownership_rules.specs.Rules.{trace_verdict}
 use Rattle.safety.specs.LazyRuns.LateEvents.{IsTimely}

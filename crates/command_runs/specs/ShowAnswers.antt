@@ -1,6 +1,6 @@
 -- What is right to answer to the text of a trace of which is asked who owns what before a row
 use Rattle.std.specs.Prelude.{false, ℕ, List, Option}
-use Rattle.trace_reader.specs.Reading.{TraceText}
+use Rattle.trace_reader.specs.TraceOfText.{TraceText}
 use Rattle.knowledge_page.specs.declared.shown.Shown.{Shown}
 use Rattle.knowledge_page.specs.Shown.{IsNoRow, IsShown}
 use Rattle.answers.specs.declared.answer.Answer.{Answer}

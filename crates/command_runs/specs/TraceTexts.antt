@@ -1,6 +1,7 @@
 -- What the text of a trace says, and what is right to answer to it
 use Rattle.std.specs.Prelude.{Bool, ◌≡◌, ◌⊎◌, ℕ, List, Option, Some, None, Ok, Err}
-use Rattle.trace_reader.specs.Reading.{TraceText, trace_of}
+use Rattle.trace_reader.specs.Reading.{trace_of}
+use Rattle.trace_reader.specs.TraceOfText.{TraceText}
 use Rattle.trace_reader.specs.declared.fault.LineFault.{LineFault}
 use Rattle.answers.specs.declared.answer.Answer.{Answer}
 use Rattle.answers.specs.declared.answer.Answer.TheVariants.{BadLine, Memory, Device}

@@ -1,6 +1,6 @@
 -- What is right to answer to the bytes of a certificate and the text of a trace
 use Rattle.std.specs.Prelude.{false, ◌≡◌, ◌≢◌, ◌⊎◌, ℕ, List, Option, Some, None, Ok, Err}
-use Rattle.trace_reader.specs.Reading.{TraceText}
+use Rattle.trace_reader.specs.TraceOfText.{TraceText}
 use Rattle.ring_knowledge.specs.declared.lease.Lease.{Lease}
 use Rattle.certificate.specs.Pieces.{IsUnread}
 use Rattle.certificate.specs.Spelling.{certificate_of}

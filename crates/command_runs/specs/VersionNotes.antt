@@ -2,7 +2,7 @@
 use Rattle.std.specs.Prelude.{ℕ, Bool, true, nat_lt, Option, None, Some}
 use Rattle.traces.specs.declared.header.Header.{Header}
 use Rattle.traces.specs.declared.version.Version.{Version}
-use Rattle.trace_reader.specs.Reading.{TraceText}
+use Rattle.trace_reader.specs.TraceOfText.{TraceText}
 use Rattle.ownership_rules.specs.declared.refusal.Refusal.{Refusal}
 use Rattle.ownership_rules.specs.Rules.{trace_verdict}
 

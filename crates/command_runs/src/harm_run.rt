@@ -3,7 +3,8 @@ ghost use Rattle.std.specs.Prelude.{Some, ◌≡◌, ◌+◌, ◌≤◌, length,
 ghost use Rattle.answers.specs.Telling.{IsNote};
 ghost use Rattle.command_runs.specs.CheckAnswers.{IsCheckAnswer, IsHindered};
 ghost use Rattle.trace_reader.specs.Entries.{text_of};
-ghost use Rattle.trace_reader.specs.Reading.{TraceText, trace_of};
+ghost use Rattle.trace_reader.specs.Reading.{trace_of};
+ghost use Rattle.trace_reader.specs.TraceOfText.{TraceText};
 ghost use Rattle.traces.specs.Limits.{most_lines};
 ghost use Rattle.ownership_rules.specs.Rules.{trace_verdict};
 ghost use Rattle.command_runs.specs.HarmAnswers.{IsHarmFound, IsRefusalTold};

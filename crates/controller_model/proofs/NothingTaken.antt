@@ -5,7 +5,8 @@ unfoldable use Rattle.world_state.specs.Harms.{is_out_of_order, has_other_words,
 unfoldable use Rattle.world_state.specs.Posts.{posted, reported, reported_on, report_code, report_success, report_error, report_stop, with_reported, stopped_with, other_posted}
 unfoldable use Rattle.world_state.specs.Bindings.{is_had_by_another, changed_by, changed_by_all, placed, placed_on, disabled, typed, in_state, inactive, effect}
 unfoldable use Rattle.world_state.specs.Finishes.{finished, finished_as, ended, ended_with, succeeded}
-unfoldable use Rattle.world_state.specs.Steps.{made, stepped, counted, halts, noting_post, scribbled, until_halted, while_running}
+unfoldable use Rattle.world_state.specs.Steps.{made, counted, halts, noting_post, scribbled, until_halted, while_running}
+unfoldable use Rattle.world_state.specs.Replays.{stepped}
 unfoldable use Rattle.world_state.specs.DriverRows.{activated, bell_row, command_placed, declared, endpoint_bell, event_read, register_row, reset, resets, row_done, run_or_stop, runs_again, runs_once, valued, with_command_ring, with_dequeue}
 unfoldable use Rattle.world_state.specs.RingRows.{without_descriptor}
 unfoldable use Rattle.traces.specs.Header.{shape_of, some_ring}

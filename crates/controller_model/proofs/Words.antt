@@ -103,11 +103,12 @@ unfoldable pub use Rattle.world_state.specs.Harms.{harm_of, harms, has_changed_c
 unfoldable pub use Rattle.world_state.specs.Looks.{command_begun, crossed, looked, looked_at, may_scribble, seen_by_look, taken, taken_on}
 pub use Rattle.world_state.specs.PlacingCommands.{HasRoom, places_from}
 unfoldable pub use Rattle.world_state.specs.Posts.{can_post, code_posted, is_last, other_posted, posted, report_code, report_error, report_stop, report_success, reported, reported_on, stopped_with, with_reported, with_stopped}
+pub use Rattle.world_state.specs.Replays.{Ending, Harmful, NoHarm, NotPossible, scene_ending}
+unfoldable pub use Rattle.world_state.specs.Replays.{stepped}
 pub use Rattle.world_state.specs.RingRows.{is_in_way}
 unfoldable pub use Rattle.world_state.specs.RingRows.{emptied, listed, may_come, resting, without_descriptor}
-pub use Rattle.world_state.specs.Scenes.{Scene, row_made, row_next, scene_ending, scene_reached, step_made, with_coming, with_left, with_world}
-pub use Rattle.world_state.specs.Steps.{Ending, Harmful, NoHarm, NotPossible}
-unfoldable pub use Rattle.world_state.specs.Steps.{counted, halts, is_scribbled, made, noting_post, scribbled, stepped, until_halted, while_running}
+pub use Rattle.world_state.specs.Scenes.{Scene, row_made, row_next, scene_reached, step_made, with_coming, with_left, with_world}
+unfoldable pub use Rattle.world_state.specs.Steps.{counted, halts, is_scribbled, made, noting_post, scribbled, until_halted, while_running}
 unfoldable pub use Rattle.world_state.specs.Takes.{declared_next, first_at, is_as_declared, is_place, next_take, takes_of, unreported, was_placed}
 pub use Rattle.world_state.specs.World.{Placed, RingEvent, Took, UnderWay, World}
 unfoldable pub use Rattle.world_state.specs.World.{opening, stored, stored_block}

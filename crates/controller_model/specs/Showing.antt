@@ -13,8 +13,8 @@ use Rattle.world_state.specs.World.{World}
 use Rattle.world_state.specs.Harms.{harm_of}
 use Rattle.controller_model.specs.declared.seen.Seen.{Seen}
 use Rattle.controller_model.specs.declared.seen.Seen.TheVariants as seen
-use Rattle.world_state.specs.Steps.{Ending}
-use Rattle.world_state.specs.Scenes.{Scene, scene_before, scene_ending, step_made}
+use Rattle.world_state.specs.Replays.{Ending, scene_ending}
+use Rattle.world_state.specs.Scenes.{Scene, scene_before, step_made}
 
 -- a look at a block: it waits where the Cycle bit isn't the ring's cycle state, else it follows a Link or takes the block
 unfoldable pub look_shows : World → ℕ → Block → Seen

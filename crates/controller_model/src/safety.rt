@@ -6,7 +6,7 @@ ghost use Rattle.traces.specs.Header.{event_size, shape_of, ring_with};
 ghost use Rattle.world_state.specs.World.{World};
 ghost use Rattle.world_state.specs.Harms.{harm_of, has_changed_context, has_other_words, is_inside_descriptor, is_out_of_order, waits};
 ghost use Rattle.traces.specs.declared.step.Step.TheVariants.{Look};
-ghost use Rattle.world_state.specs.Steps.{stepped};
+ghost use Rattle.world_state.specs.Replays.{stepped};
 ghost use Rattle.world_state.specs.Scenes.{Scene, step_made};
 ghost use Rattle.controller_model.specs.Following.{Follows, FollowsRing, ring_held};
 ghost use Rattle.controller_model.specs.RingHarms.{BringsNone, FollowsScene, HasRingHarms, TakesNothing, may_be_inside};

@@ -3,6 +3,7 @@ use Rattle.std.specs.Prelude.{◌≡◌, ℕ, ◌-◌, if◌then◌else◌, nat_
 use Rattle.std.specs.List.{flat_map, repeat}
 use Rattle.std.specs.declared.alloc.Global.{Global}
 use Rattle.ownership_rules.specs.Refusal as rules
+use Rattle.ownership_rules.specs.RuleNames as rule_names
 use Rattle.trace_reader.specs.Faults as faults
 use Rattle.world_state.specs.Harm as harms
 use Rattle.world_state.specs.declared.harm.Harm.{Harm as Harms}
@@ -18,7 +19,7 @@ use Rattle.diagnostics.specs.declared.diagnostic.Matter.TheVariants.{Rule, Fault
 
 -- what a diagnostic is about: a rule or a fault by number and name, a harm by number
 abbrev pub matter_text : Matter → List ℕ
-matter_text (Rule refusal) = decimal (rules.number_of refusal) ++ (codes " " ++ rules.name_of refusal)
+matter_text (Rule refusal) = decimal (rules.number_of refusal) ++ (codes " " ++ rule_names.name_of refusal)
 matter_text (Fault fault) = decimal (faults.fault_number fault) ++ (codes " " ++ faults.fault_name fault)
 matter_text (Harm harm) = codes "harm " ++ decimal (harms.number_of harm)
 matter_text NotPossible = codes "not possible"

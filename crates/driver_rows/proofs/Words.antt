@@ -24,13 +24,15 @@ pub use Rattle.driver_rows.specs.declared.bindings.context.Dequeue.{Dequeue}
 pub use Rattle.event_ring.proofs.Words.{place_at-Data}
 pub use Rattle.event_ring.specs.EventRing.{is_table_fault}
 pub use Rattle.guest_memory.specs.Memory.{long_at}
+unfoldable pub use Rattle.ownership_rules.specs.BadWithdrawals.{is_no_descriptor, withdraws_badly}
+unfoldable pub use Rattle.ownership_rules.specs.ByVersion.{has_busy_slot, has_left_out_endpoint, places_badly, writes_to_owned}
 unfoldable pub use Rattle.ownership_rules.specs.Commands.{adds_isochronous, adds_streams, has_bad_entry, is_bad_added, is_bad_device, is_busy, shares_slot, streams_in, takes_bad_device, type_in}
 unfoldable pub use Rattle.ownership_rules.specs.Moves.{binds_again, was_ring_bound}
-unfoldable pub use Rattle.ownership_rules.specs.Older.{has_busy_slot, has_left_out_endpoint, older, places_badly, stricter, writes_to_owned}
+unfoldable pub use Rattle.ownership_rules.specs.Older.{older, stricter}
 pub use Rattle.ownership_rules.specs.Registers.{has_gap, is_impossible_read, is_in_run, is_restored, is_used}
 unfoldable pub use Rattle.ownership_rules.specs.Registers.{is_bad_command_register, is_bad_size, is_bad_table, is_early_reset, is_written, is_wrong_size, read_tests}
 unfoldable pub use Rattle.ownership_rules.specs.Rings.{goes_badly, is_bad_kind, is_in_use}
-unfoldable pub use Rattle.ownership_rules.specs.Withdrawals.{is_no_descriptor, is_passed, withdraws_badly}
+unfoldable pub use Rattle.ownership_rules.specs.Withdrawals.{is_passed}
 pub use Rattle.ownership_rules.specs.declared.refusal.Refusal.TheVariants.{BadCommand, BadFree, BadMove, Busy, ImpossibleRead, LinkFault, NotAsSubmitted, NotWhole, WriteToOwned}
 pub use Rattle.ring_knowledge.proofs.GivenWords.{given_from}
 pub use Rattle.ring_knowledge.specs.Histories.{gone}

@@ -3,7 +3,8 @@ ghost use Rattle.std.specs.Prelude.{◌≡◌, ◌-◌, ◌%◌, ◌/◌, ◌*�
 ghost use Rattle.std.specs.List.{list_any};
 ghost use Rattle.segments.specs.Places.{address_of};
 ghost use Rattle.segments.specs.Shape.{IsShape};
-ghost use Rattle.traces.specs.Header.{IsHeader, event_ring, event_shape};
+ghost use Rattle.traces.specs.Header.{event_ring, event_shape};
+ghost use Rattle.traces.specs.AllowedHeaders.{IsHeader};
 ghost use Rattle.traces.specs.Versions.{is_lenient};
 ghost use Rattle.traces.specs.declared.header.Header.{Header};
 ghost use Rattle.traces.specs.declared.row.Row.TheVariants.{Reg};

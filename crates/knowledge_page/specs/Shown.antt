@@ -1,6 +1,6 @@
 -- What is shown of a trace, and which rows may be asked for
 use Rattle.std.specs.Prelude.{◌≡◌, ◌⊎◌, ℕ, ◌+◌, ◌-◌, ◌<◌, ◌≤◌, length, take, Option, Some, None}
-use Rattle.trace_reader.specs.Reading.{TraceText}
+use Rattle.trace_reader.specs.TraceOfText.{TraceText}
 use Rattle.ownership_rules.specs.declared.refusal.Refusal.{Refusal}
 use Rattle.ownership_rules.specs.Rules.{trace_verdict}
 use Rattle.knowledge_page.specs.Standing.{IsStanding}

@@ -5,8 +5,8 @@ use Rattle.traces.specs.declared.header.Header.{Header}
 use Rattle.traces.specs.declared.row.Row.{Row}
 use Rattle.trace_record.specs.FollowsTrace.{FollowsTrace}
 use Rattle.ring_knowledge.specs.Histories.{header_now, known_now}
-use Rattle.ownership_checker.specs.RingPasses.Accepted.{leases_of}
 use Rattle.ownership_checker.specs.RingPasses.Clean.{AreClean}
+use Rattle.ownership_rules.specs.Leases.{leases as leases_of}
 use Rattle.ownership_rules.specs.Rules.{trace_verdict}
 use Rattle.knowledge_page.specs.declared.standing.Standing.{Standing}
 

@@ -1,6 +1,6 @@
 //! A pass over rows none of which breaks a rule: what is known behind them, and what is lent.
 ghost use Rattle.std.specs.Prelude.{◌≡◌, ◌+◌, ◌≤◌, All, Some, length, IfOk, IfErr};
-ghost use Rattle.traces.specs.Header.{IsHeader};
+ghost use Rattle.traces.specs.AllowedHeaders.{IsHeader};
 ghost use Rattle.traces.specs.Limits.{most_streamed_lines};
 ghost use Rattle.traces.specs.TraceRows.{IsTraceRow};
 ghost use Rattle.ownership_rules.specs.Rules.{trace_verdict};

@@ -1,5 +1,5 @@
 //! What is known, and what is lent, behind rows.
-ghost use Rattle.traces.specs.Header.{IsHeader};
+ghost use Rattle.traces.specs.AllowedHeaders.{IsHeader};
 
 use guest_memory::SparseMemory;
 use ring_knowledge::Lease;

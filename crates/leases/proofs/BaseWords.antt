@@ -35,13 +35,13 @@ pub use Rattle.leases.specs.declared.log.certificate_log.CertificateLog.{Certifi
 pub use Rattle.leases.specs.declared.log.followed.FollowedList.{FollowedList}
 pub use Rattle.ownership_rules.proofs.Among.{among_is, both_ways, in_among, leased_is, leased_itself}
 unfoldable pub use Rattle.ownership_rules.specs.Leases.{as_lease, begun, comes_before, end_from, in_order, leases, leases_from, with_ends, with_lease, without_end}
+unfoldable pub use Rattle.ownership_rules.specs.LenientRules.{lenient}
 unfoldable pub use Rattle.ownership_rules.specs.Moves.{binding_in, binds, has_repeats, ring_bound}
 unfoldable pub use Rattle.ownership_rules.specs.OnLiterals.{rules_on_literals}
 pub use Rattle.ownership_rules.specs.OpenLeases.{Block, DeviceContext, EventSegment, InputContext, Leased, Link, Range, SegmentTable, SlotEntry, Use, same_leased}
 unfoldable pub use Rattle.ownership_rules.specs.OpenLeases.{is_among}
 unfoldable pub use Rattle.ownership_rules.specs.Registers.{is_bad_register, is_written}
 unfoldable pub use Rattle.ownership_rules.specs.Rings.{is_bad_free, is_bad_ring}
-unfoldable pub use Rattle.ownership_rules.specs.Rules.{lenient}
 pub use Rattle.ring_knowledge.proofs.DueNumbers.{link_of-crossed, same_due, same_due_crossing}
 pub use Rattle.ring_knowledge.proofs.Noted.{noted_past}
 pub use Rattle.ring_knowledge.proofs.Words.{Declares, FollowsRing, IsShape, Opens, Register, Segment, and_from, and_parts, crossed_link, crossing_positive, crossings_of, is_crossing_due, length-map, link_crossed, nat_tests, new_ring, or_left, positions_of, reset_bit, with_register}
@@ -50,7 +50,7 @@ unfoldable pub use Rattle.ring_knowledge.specs.Completions.{typed}
 pub use Rattle.ring_knowledge.specs.Histories.{header_now, known_after, known_now, restored}
 unfoldable pub use Rattle.ring_knowledge.specs.Histories.{forgotten, gone, restored_on, ring_moved, ring_restored}
 unfoldable pub use Rattle.ring_knowledge.specs.Learned.{event_read}
-pub use Rattle.ring_knowledge.specs.Resets.{learned_or_reset}
+pub use Rattle.ring_knowledge.specs.LearnedOrReset.{learned_or_reset}
 unfoldable pub use Rattle.ring_knowledge.specs.Resets.{given_up, held_at_given, reset, resets}
 pub use Rattle.ring_knowledge.specs.Rings.{Crossing, Given, Position}
 unfoldable pub use Rattle.ring_knowledge.specs.Rings.{code_told, spot_on}

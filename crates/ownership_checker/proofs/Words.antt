@@ -10,6 +10,7 @@ pub use Rattle.driver_rows.specs.RingRows.Withdrawing.{NamesTransfer}
 pub use Rattle.event_ring.specs.EventPlaceValue.{EventState}
 pub use Rattle.event_rows.proofs.TransferEvents.Reports.{left_out as left_out_transfer}
 pub use Rattle.leases.proofs.LeaseBooks.FirstBook.{first_list}
+pub use Rattle.leases.proofs.LeaseBooks.Growing.{leases_are}
 pub use Rattle.leases.proofs.LeaseRows.EntriesFit.{nothing_fits, tables_fit}
 pub use Rattle.leases.proofs.LeaseRows.OtherRows.{on_both, on_more}
 pub use Rattle.leases.proofs.RingLeases.FoundFree.{found_moved, found_restored, found_withdrawn}
@@ -29,7 +30,7 @@ pub use Rattle.line_text.specs.Lines.{TextLine, lines_of}
 pub use Rattle.ownership_checker.specs.Following.{EndsAt, IsToldBad, IsToldSoFar, told_behind, told_first, told_with}
 unfoldable pub use Rattle.ownership_checker.specs.Following.{told_as_it_comes}
 pub use Rattle.ownership_checker.specs.JudgedRows.Tracking.{IsLeastFrom, IsStepFrom, IsTracked}
-pub use Rattle.ownership_checker.specs.RingPasses.Accepted.{IsSound, WalksRead, leases_of}
+pub use Rattle.ownership_checker.specs.RingPasses.Accepted.{IsSound, WalksRead}
 pub use Rattle.ownership_checker.specs.RingPasses.Clean.{AreClean, IsLeastOfRow}
 pub use Rattle.ownership_checker.specs.RingPasses.KeptRows.{IsBehindAll}
 pub use Rattle.ownership_checker.specs.RingPasses.Passing.{IsRingLogged, IsRingPassed, NothingFree}
@@ -38,20 +39,24 @@ pub use Rattle.ownership_checker.specs.declared.lease_count.LeaseCount.{LeaseCou
 pub use Rattle.ownership_checker.specs.declared.pass.ring_pass.RingPass.{RingPass}
 pub use Rattle.ownership_rules.proofs.Among.{IsIn}
 pub use Rattle.ownership_rules.specs.Areas.{is_bad_area}
+unfoldable pub use Rattle.ownership_rules.specs.BadWithdrawals.{withdraws_badly}
 unfoldable pub use Rattle.ownership_rules.specs.Commands.{has_bad_context, is_bad_command}
 pub use Rattle.ownership_rules.specs.Doorbells.{is_bad_doorbell}
 unfoldable pub use Rattle.ownership_rules.specs.Doorbells.{doorbell_tests}
 pub use Rattle.ownership_rules.specs.Events.{is_impossible_completion, is_impossible_transfer, is_in_profile, is_past_room}
 unfoldable pub use Rattle.ownership_rules.specs.Events.{event_tests, is_impossible, is_impossible_by_kind}
+pub use Rattle.ownership_rules.specs.FirstBroken.{first_broken, first_of}
+pub use Rattle.ownership_rules.specs.Leases.{leases as leases_of}
 unfoldable pub use Rattle.ownership_rules.specs.Leases.{without_end}
+pub use Rattle.ownership_rules.specs.LenientRules.{lenient}
 unfoldable pub use Rattle.ownership_rules.specs.Older.{older, stricter}
 pub use Rattle.ownership_rules.specs.OpenLeases.{Leased, open_leases}
-pub use Rattle.ownership_rules.specs.Refusal.{broken_of, first_broken, first_of}
+pub use Rattle.ownership_rules.specs.Refusal.{broken_of}
 pub use Rattle.ownership_rules.specs.Rings.{is_bad_ring, is_transfer_ring}
 unfoldable pub use Rattle.ownership_rules.specs.Rings.{is_bad_free}
-pub use Rattle.ownership_rules.specs.Rules.{broken_restored, lenient, row_broken, trace_verdict}
+pub use Rattle.ownership_rules.specs.Rules.{broken_restored, row_broken, trace_verdict}
 unfoldable pub use Rattle.ownership_rules.specs.Rules.{broken, first_or, lenient_tests, tests, verdict_from}
-unfoldable pub use Rattle.ownership_rules.specs.Withdrawals.{is_bad_withdraw, is_left, some_flips, withdraws_badly}
+unfoldable pub use Rattle.ownership_rules.specs.Withdrawals.{is_bad_withdraw, is_left, some_flips}
 pub use Rattle.ownership_rules.specs.declared.refusal.Refusal.{Refusal}
 pub use Rattle.ownership_rules.specs.declared.refusal.Refusal.TheVariants.{AfterStop, BadDoorbell, BadFree, BadRing, BadWithdraw, ImpossibleEvent, NotInProfile, NotRestored, WriteToOwned}
 pub use Rattle.ring_knowledge.specs.Completions.{completed}
@@ -60,7 +65,8 @@ unfoldable pub use Rattle.ring_knowledge.specs.Histories.{forgotten, gone, resto
 pub use Rattle.ring_knowledge.specs.Known.{Known}
 unfoldable pub use Rattle.ring_knowledge.specs.Known.{nothing}
 unfoldable pub use Rattle.ring_knowledge.specs.Learned.{event_read, learned}
-pub use Rattle.ring_knowledge.specs.Resets.{learned_or_reset, resets}
+pub use Rattle.ring_knowledge.specs.LearnedOrReset.{learned_or_reset}
+pub use Rattle.ring_knowledge.specs.Resets.{resets}
 unfoldable pub use Rattle.ring_knowledge.specs.Resets.{given_up, held_at_given, reset}
 pub use Rattle.ring_knowledge.specs.RingRecords.{FollowsRing, positions_of}
 pub use Rattle.ring_knowledge.specs.Rings.{unfinished}
@@ -129,7 +135,7 @@ pub use Rattle.trace_reader.proofs.Streaming.LineEnds.{ended_if_read}
 pub use Rattle.trace_reader.proofs.Streaming.RowsFit.{answer_fits}
 pub use Rattle.trace_reader.proofs.Streaming.Streams.{end_read, line_read_bad, opened_read, row_numbered, row_read}
 pub use Rattle.trace_reader.specs.Entries.{text_of}
-pub use Rattle.trace_reader.specs.Reading.{State, TraceText}
+pub use Rattle.trace_reader.specs.Reading.{State}
 unfoldable pub use Rattle.trace_reader.specs.Reading.{trace_of}
 pub use Rattle.trace_reader.specs.Streaming.Ahead.{OfLater, OfText, ahead_of}
 pub use Rattle.trace_reader.specs.Streaming.Answers.{IsCall, has_ended}
@@ -138,6 +144,7 @@ pub use Rattle.trace_reader.specs.Streaming.RowByRow.{Call, Progress}
 unfoldable pub use Rattle.trace_reader.specs.Streaming.RowByRow.{next_row}
 pub use Rattle.trace_reader.specs.Streaming.Streams.{HasRead, IfBadLine, IsBadLine, OfStream}
 pub use Rattle.trace_reader.specs.Streaming.WholeTexts.{GivenRows, answered, joined_behind, rows_given}
+pub use Rattle.trace_reader.specs.TraceOfText.{TraceText}
 pub use Rattle.trace_reader.specs.declared.fault.LineFault.{LineFault}
 pub use Rattle.trace_reader.specs.declared.row_reader.fault.StreamFault.{StreamFault}
 pub use Rattle.trace_reader.specs.declared.row_reader.fault.StreamFault.TheVariants.{Device, Line}
@@ -157,7 +164,8 @@ pub use Rattle.trace_record.specs.declared.fault.StepFault.{StepFault}
 pub use Rattle.trace_record.specs.declared.fault.StepFault.TheVariants.{Memory, Refused, Refused as RefusedBy}
 pub use Rattle.trace_record.specs.declared.row_place.RowPlace.{RowPlace}
 pub use Rattle.trace_record.specs.declared.trace_record.TraceRecord.{TraceRecord}
-pub use Rattle.traces.specs.Header.{IsHeader, command_ring, event_ring, id_of, id_or_none, is_driver_kind, is_ring, is_transfer_kind, no_id, ring_with, shape_of}
+pub use Rattle.traces.specs.AllowedHeaders.{IsHeader}
+pub use Rattle.traces.specs.Header.{command_ring, event_ring, id_of, id_or_none, is_driver_kind, is_ring, is_transfer_kind, no_id, ring_with, shape_of}
 unfoldable pub use Rattle.traces.specs.Header.{command_id, event_shape, event_size}
 pub use Rattle.traces.specs.Limits.{most_streamed_lines}
 pub use Rattle.traces.specs.LivingRings.{header_after, without_ring}

@@ -2,8 +2,9 @@
 pub use Rattle.commands.specs.Command.{named_context}
 pub use Rattle.commands.specs.declared.command.Command.{Command}
 pub use Rattle.contexts.specs.declared.size.ContextSize.TheVariants.{Bytes32}
+unfoldable pub use Rattle.ownership_rules.specs.LeasedWords.{covers_at, words_bytes, words_from}
 pub use Rattle.ownership_rules.specs.Leases.{without_end}
-unfoldable pub use Rattle.ownership_rules.specs.Leases.{as_lease, begun, covers_at, end_from, in_order, leases, leases_from, with_ends, with_lease, words_bytes, words_from}
+unfoldable pub use Rattle.ownership_rules.specs.Leases.{as_lease, begun, end_from, in_order, leases, leases_from, with_ends, with_lease}
 unfoldable pub use Rattle.ownership_rules.specs.OnLiterals.{rules_on_literals}
 pub use Rattle.ownership_rules.specs.OpenLeases.{Block, Leased, Link, Range, Use, same_leased, same_use, slots}
 unfoldable pub use Rattle.ownership_rules.specs.OpenLeases.{context_ranges, covers, device_ranges, entry_ranges, is_among, is_leased, lease_bytes, lease_start, open_leases, open_on, open_ranges, range_of_command, range_of_context, range_of_device, range_of_entry, segment_ranges, table_range}

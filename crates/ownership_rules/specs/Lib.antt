@@ -1,4 +1,6 @@
+pub mod RuleNames
 pub mod Refusal
+pub mod FirstBroken
 pub mod OpenLeases
 pub mod Areas
 pub mod Declarations
@@ -10,7 +12,11 @@ pub mod Doorbells
 pub mod Events
 pub mod Rings
 pub mod Withdrawals
+pub mod BadWithdrawals
 pub mod Older
+pub mod ByVersion
 pub mod Rules
+pub mod LenientRules
+pub mod LeasedWords
 pub mod Leases
 pub mod OnLiterals

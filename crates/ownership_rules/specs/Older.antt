@@ -1,6 +1,5 @@
 -- What the versions before refuse besides: the rules that came first are stricter than any harm asks for
-use Rattle.std.specs.Prelude.{ℕ, ◌&&◌, ◌||◌, Bool, false, not}
-use Rattle.commands.specs.declared.command.Command.{Command}
+use Rattle.std.specs.Prelude.{◌&&◌, ◌||◌, Bool, false, not}
 use Rattle.traces.specs.declared.header.Header.{Header}
 use Rattle.traces.specs.declared.row.Row.{Row}
 use Rattle.traces.specs.declared.register.Register.TheVariants.{Erstsz, Erdp}
@@ -35,19 +34,3 @@ module _ (h : Header) where
   stricter k (NopRow r p) rule = is_passed h (shape_of h r) (k.ring r) p
   stricter k (FreeRow id) rule = not (is_transfer_ring (ring_with h id)) && not (has_runs h.version)
   stricter k row rule = older k row rule && not (is_lenient h.version)
-
-  -- the write breaks WriteToOwned, by the trace's version
-  unfoldable pub writes_to_owned : Known → ℕ → ℕ → Bool
-  writes_to_owned k a w = stricter k (Write a w) WriteToOwned || writes.changes_owned h k a w
-
-  -- of a command that is given: an unfinished command of its slot excludes it, or merely shares the slot where the version refuses that
-  unfoldable pub has_busy_slot : Known → Command → Bool
-  has_busy_slot k c = (commands.shares_slot h k c && not (is_lenient h.version)) || commands.is_busy h k c
-
-  -- of a command that is given: an endpoint that is added has streams, or is isochronous where the version refuses that
-  unfoldable pub has_left_out_endpoint : Known → Command → Bool
-  has_left_out_endpoint k c = (commands.adds_isochronous h k c && not (is_lenient h.version)) || commands.adds_streams h k c
-
-  -- of a command that is given: it binds or moves a ring where the version refuses that
-  unfoldable pub places_badly : Known → Command → Bool
-  places_badly k c = (moves.binds_again h k c && not (is_lenient h.version)) || moves.is_bad_binding h k c || moves.is_bad_move h k c

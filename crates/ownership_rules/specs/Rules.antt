@@ -39,10 +39,6 @@ module _ (h : Header) where
   unfoldable pub tests : Known → Row → List Test
   tests k row = map (λ t. (t.0, stricter h k row t.0 || t.1)) (lenient_tests k row)
 
-  -- the lenient rules that a row breaks, whatever the version
-  unfoldable pub lenient : Known → Row → List Refusal
-  lenient k row = if k.stopped then AfterStop ∷ [] else broken_of (lenient_tests k row)
-
   -- the rules for its kind that a row breaks; after the stop every row breaks one, and nothing else is tested
   unfoldable pub broken : Known → Row → List Refusal
   broken k row = if k.stopped then AfterStop ∷ [] else broken_of (tests k row)

@@ -16,10 +16,6 @@ use Rattle.traces.specs.Versions.{is_lenient}
 use Rattle.ring_knowledge.specs.Known.{Known}
 use Rattle.ownership_rules.specs.Doorbells.{is_touched}
 
--- no descriptor begins at p, or one of its blocks was withdrawn before
-unfoldable pub is_no_descriptor : RingView → ℕ → Bool
-is_no_descriptor v p = descriptor_length v p == 0 || list_any v.withdrawn (range_with_len p (descriptor_length v p))
-
 module _ (h : Header) where
   -- the endpoint has the ring, is Stopped, and no unfinished command touches it
   unfoldable pub rests_with : Known → ℕ → ℕ → ℕ → Bool
@@ -36,9 +32,6 @@ module _ (h : Header) where
   -- what the trace's version refuses besides: versions 1 and 2 a descriptor below the ceiling, version 3 one that the floor has passed
   unfoldable pub is_passed : Shape → RingView → ℕ → Bool
   is_passed shape v p = nat_lt p (if is_lenient h.version then floor_number v else ceiling shape v)
-
-  unfoldable pub withdraws_badly : Known → ℕ → ℕ → Bool
-  withdraws_badly k r p = is_passed (shape_of h r) (k.ring r) p || is_bad_withdraw k r p
 
   -- a block of it doesn't stand in memory as it is declared now
   unfoldable pub is_left : Known → Option ℕ → Bool

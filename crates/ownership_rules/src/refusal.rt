@@ -1,6 +1,7 @@
 ghost use Rattle.std.specs.Prelude.{◌≡◌, Some};
 ghost use Rattle.std.specs.Fmt.{padded};
-ghost use Rattle.ownership_rules.specs.Refusal.{number_of, name_of};
+ghost use Rattle.ownership_rules.specs.Refusal.{number_of};
+ghost use Rattle.ownership_rules.specs.RuleNames.{name_of};
 
 use std::error::Error;
 use std::fmt;

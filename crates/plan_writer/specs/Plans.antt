@@ -12,7 +12,7 @@ use Rattle.contexts.specs.declared.size.ContextSize.TheVariants.{Bytes32}
 use Rattle.traces.specs.declared.row.Row.{Row}
 use Rattle.traces.specs.declared.row.Row.TheVariants.{Sub as SubRow, Write}
 use Rattle.trace_reader.specs.Plans.{PlanText}
-use Rattle.trace_reader.specs.Reading.{TraceText}
+use Rattle.trace_reader.specs.TraceOfText.{TraceText}
 use Rattle.trace_reader.specs.Spelling.{printed_line, row_fields, size_fields, version_fields}
 use Rattle.plan_writer.specs.declared.fault.PlanRefusal.{PlanRefusal}
 use Rattle.plan_writer.specs.declared.fault.PlanRefusal.TheVariants.{NotDeclared, RingFull, NotGiven}

@@ -29,9 +29,9 @@ pub use Rattle.ownership_checker.specs.RingPasses.Clean.{AreClean, IsLeastOfRow}
 pub use Rattle.ownership_checker.specs.RingPasses.Passing.{IsRingPassed}
 pub use Rattle.ownership_checker.specs.declared.pass.ring_pass.RingPass.{RingPass}
 unfoldable pub use Rattle.ownership_rules.specs.Events.{is_impossible_by_kind, is_impossible_completion}
+unfoldable pub use Rattle.ownership_rules.specs.LenientRules.{lenient}
 unfoldable pub use Rattle.ownership_rules.specs.Moves.{binding_in, binds, has_repeats, is_among, ring_bound}
 pub use Rattle.ownership_rules.specs.Rules.{trace_verdict}
-unfoldable pub use Rattle.ownership_rules.specs.Rules.{lenient}
 pub use Rattle.ownership_rules.specs.declared.refusal.Refusal.{Refusal}
 pub use Rattle.replayer.specs.LazySteps.Headers.{KeepHeaders}
 pub use Rattle.replayer.specs.LazySteps.Law.{NeedsLaw, StepsLaw}
@@ -123,8 +123,9 @@ pub use Rattle.trace_record.specs.FollowsTrace.{FollowsTrace}
 pub use Rattle.trace_record.specs.RingFinder.Finding.{IsFinder}
 pub use Rattle.trace_record.specs.RingFinder.RecordsOfRings.{FollowsRings}
 pub use Rattle.trace_record.specs.declared.trace_record.TraceRecord.{TraceRecord}
+pub use Rattle.traces.specs.AllowedHeaders.{IsHeader, may_stand_together}
 pub use Rattle.traces.specs.Halts.{is_asked, is_done}
-pub use Rattle.traces.specs.Header.{IsHeader, is_command_kind, is_event_kind, is_transfer_kind, may_stand_together, no_shape, ring_with}
+pub use Rattle.traces.specs.Header.{is_command_kind, is_event_kind, is_transfer_kind, no_shape, ring_with}
 unfoldable pub use Rattle.traces.specs.Header.{command_id, command_ring, ring_having, shape_of}
 pub use Rattle.traces.specs.Limits.{most_lines, most_streamed_lines}
 pub use Rattle.traces.specs.LivingRings.{header_after}
@@ -149,8 +150,7 @@ pub use Rattle.trb.specs.declared.block.Block.{Block}
 pub use Rattle.trb.specs.declared.kind.BlockKind.{BlockKind}
 pub use Rattle.trb.specs.declared.kind.BlockKind.TheVariants.{CommandCompletion, TransferEvent}
 unfoldable pub use Rattle.world_state.specs.Harms.{harm_of}
+pub use Rattle.world_state.specs.Replays.{Harmful, Harmful as HarmfulAt, NoHarm}
+unfoldable pub use Rattle.world_state.specs.Replays.{judged, scene_ending_from}
 pub use Rattle.world_state.specs.Scenes.{Scene, scene_before, scene_reached, step_made}
-unfoldable pub use Rattle.world_state.specs.Scenes.{scene_ending_from}
-pub use Rattle.world_state.specs.Steps.{Harmful, Harmful as HarmfulAt, NoHarm}
-unfoldable pub use Rattle.world_state.specs.Steps.{judged}
 pub use Rattle.world_state.specs.declared.harm.Harm.{Harm}

@@ -2,7 +2,7 @@
 use Rattle.std.specs.Prelude.{◌≡◌, Result, Ok, Err}
 use Rattle.std.specs.declared.vec.Vec.{Vec}
 use Rattle.std.specs.declared.alloc.Global.{Global}
-use Rattle.world_state.specs.Steps.{NoHarm, NotPossible as NotPossibleAt, Harmful as HarmfulAt}
+use Rattle.world_state.specs.Replays.{NoHarm, NotPossible as NotPossibleAt, Harmful as HarmfulAt}
 use Rattle.controller_model.specs.Showing.{Replay}
 use Rattle.controller_model.specs.declared.seen.Seen.{Seen}
 use Rattle.replayer.specs.declared.fault.ReplayFault.{ReplayFault}

@@ -6,6 +6,7 @@ pub mod Transfers
 pub mod Completions
 pub mod Learned
 pub mod Resets
+pub mod LearnedOrReset
 pub mod Histories
 pub mod Marks
 pub mod SpotsAt

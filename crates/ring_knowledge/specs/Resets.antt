@@ -14,13 +14,10 @@ use Rattle.traces.specs.declared.header.Header.{Header}
 use Rattle.traces.specs.declared.halt.Halt.TheVariants.{Not}
 use Rattle.traces.specs.declared.register.Register.{Register}
 use Rattle.traces.specs.declared.register.Register.TheVariants.{Usbcmd}
-use Rattle.traces.specs.declared.row.Row.{Row}
-use Rattle.traces.specs.declared.row.Row.TheVariants.{Reg}
 use Rattle.traces.specs.Header.{command_ring, id_of, is_ring, shape_of}
 use Rattle.traces.specs.Halts.{is_done}
 use Rattle.traces.specs.Register.{reset_bit}
 use Rattle.ring_knowledge.specs.Known.{Known}
-use Rattle.ring_knowledge.specs.Learned.{learned}
 
 -- the spot behind the first n blocks
 unfoldable pub behind_blocks : Shape → ℕ → Spot
@@ -62,8 +59,3 @@ module _ (h : Header) where
     reads = 0;
     dequeue = 0;
   }
-
--- what is known behind a row by which no ring comes or goes and no descriptor is withdrawn, where the ring that it starts or moves is restored
-abbrev pub learned_or_reset : Header → Known → Row → Known
-learned_or_reset h k (Reg r v) = if resets k r v then reset h k else learned h k (Reg r v)
-learned_or_reset h k row = learned h k row

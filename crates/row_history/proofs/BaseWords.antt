@@ -7,6 +7,6 @@ pub use Rattle.std.proofs.lemmas.List.Folds.{list_any-append}
 pub use Rattle.std.specs.List.{list_all, list_any, remove}
 pub use Rattle.trace_record.specs.DeviceSlots.Devices.{FollowsDevices}
 pub use Rattle.trace_record.specs.RingFinder.Finding.{IsFinder}
-pub use Rattle.traces.specs.Header.{IsHeader, clash, may_stand_together}
+pub use Rattle.traces.specs.AllowedHeaders.{IsHeader, clash, may_stand_together}
 pub use Rattle.traces.specs.declared.header.Header.{Header}
 pub use Rattle.traces.specs.declared.ring.Ring.{Ring}

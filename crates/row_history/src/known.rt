@@ -1,6 +1,6 @@
 //! What is known before the refused row: memory, rings, slots and endpoints, as the rows tell of them.
 ghost use Rattle.std.specs.Prelude.{◌≡◌, ◌<◌, ◌%◌, OnOk};
-ghost use Rattle.traces.specs.Header.{IsHeader};
+ghost use Rattle.traces.specs.AllowedHeaders.{IsHeader};
 ghost use Rattle.trace_record.specs.RingFinder.Finding.{IsFinder};
 
 use crate::areas::{Area, areas};

@@ -1,7 +1,7 @@
 //! The rings that are there: one comes, or one goes.
 ghost use Rattle.std.specs.Prelude.{◌≡◌, ◌<◌, false, length, IfOk, OnOk};
 ghost use Rattle.std.specs.List.{list_any};
-ghost use Rattle.traces.specs.Header.{IsHeader, clash};
+ghost use Rattle.traces.specs.AllowedHeaders.{IsHeader, clash};
 ghost use Rattle.trace_record.specs.RingFinder.Finding.{IsFinder};
 
 use std::alloc::{AllocError, Global};

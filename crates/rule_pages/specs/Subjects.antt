@@ -2,6 +2,7 @@
 use Rattle.std.specs.Prelude.{ℕ, List, codes}
 use Rattle.certificate.specs.Spelling.{cert_fault_name, cert_fault_number}
 use Rattle.ownership_rules.specs.Refusal as rules
+use Rattle.ownership_rules.specs.RuleNames as rule_names
 use Rattle.plan_writer.specs.PlanRefusals.{refusal_name, refusal_number}
 use Rattle.trace_reader.specs.Faults.{fault_name, fault_number}
 use Rattle.world_state.specs.Harm as harms
@@ -39,7 +40,7 @@ harm_word InputContextChanged = codes "harm-6"
 
 -- the name that is printed behind the number; of a harm the words that are printed in place of both
 abbrev pub name_of : Subject → List ℕ
-name_of (Rule rule) = rules.name_of rule
+name_of (Rule rule) = rule_names.name_of rule
 name_of (Line fault) = fault_name fault
 name_of (Certificate fault) = cert_fault_name fault
 name_of (Plan refusal) = refusal_name refusal

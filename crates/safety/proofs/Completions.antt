@@ -1,6 +1,6 @@
 -- A Command Completion Event that may be read keeps what the rules keep of each ring, so long as it places endpoints where it may
 use Rattle.safety.proofs.MiddleLaws.{typed, [], ◌≡◌, ◌<◌, ◌≤◌, ◌==◌, ◌||◌, if◌then◌else◌, ◌∷◌, ℕ, not, nat_lt, Bool, false, List, Option, None, Some, arith, refl, sym, subst, ltb-true, eqb-true, true, rules, IsShownTo, RingsKept, changed, cond_both, or_parts, not-false, Block, code, slot, pointer, Spot, address_of, number, after, RingView, Reaches, Holds, floor_number, ceiling, target, is_reached, MayReach, holds_keeps, reaches_keeps, reaches_and_holds_keeps, reached_given, after_reached, number-after, move_reached, ceiling_held, ceiling_within, IsAhead, target_ahead, Command, is_off, Change, Places, Stops, changes, Header, IsHeader, shape_of, command_id, ring_having, Known, command_at, next_command, set_to, bound_to, moved_to, moved, pointed, disabled, in_state, held_at_ceiling, changed_by, changed_by_all, succeeded, stop_ended, finished, completed, may_be_taken, can_finish, is_impossible_completion, RingsKeep, EndpointsKeep, MayPoint, MayChange, MayChangeAll, MayFinish, shape_allowed, finish_elsewhere, stands, same_keeps, on_ring_keeps, on_ring_twice_keeps, passes_at, passes_held}
-use Rattle.safety.specs.RingsKeep.{IsDriverRing}
+use Rattle.safety.specs.DriverRings.{IsDriverRing}
 
 module _ (h : Header) (is : IsHeader h) (first : Known) where
   -- the pointer of a ring is set to a spot that it may reach

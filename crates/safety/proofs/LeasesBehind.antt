@@ -1,7 +1,7 @@
 -- An event begins no lease: behind it no word is under lease that wasn't before
 use Rattle.safety.proofs.MiddleLaws.{[], ◌≡◌, ◌+◌, ◌<◌, ◌≤◌, ◌⊎◌, ◌==◌, ◌&&◌, ◌∷◌, ◌++◌, ◌∙◌, ℕ, suc, zero, Bool, true, false, not, List, map, filter, Option, None, Some, arith, refl, sym, ap, subst, inl, inr, eq-eqb, is_handed_over, list_any, flat_map, range_with_len, false≢true, false_from_ne_true, and_parts, and_from, or_parts, Shape, place_count, is_crossing, RingView, floor_number, due_positions, due_crossings, leased_positions, leased_crossings, Header, Ring, Erstba, IsHeader, shape_of, command_id, driver_rings, is_driver_kind, clash, Known, command_at, unfinished_positions, entry_of, Leased, Range, SlotEntry, slots, covers, segment_ranges, table_range, range_of_command, context_ranges, range_of_entry, entry_ranges, range_of_device, device_ranges, open_ranges, open_on, open_leases, is_leased, IsIn, some_of, any_of, in_filter, from_filter, is_the_controllers, rules, HasRing, has_ring, found_in, header_parts, together, in_range, in_left, in_right, SameDriver, RingBehind}
 use Rattle.ownership_rules.specs.OpenLeases.{Block, Link}
-use Rattle.safety.specs.RingsKeep.{IsDriverRing}
+use Rattle.safety.specs.DriverRings.{IsDriverRing}
 use Rattle.safety.proofs.HeldFurther.{command_same}
 
 -- ---- lists

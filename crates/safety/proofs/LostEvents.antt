@@ -2,7 +2,8 @@
 use Rattle.safety.proofs.MiddleLaws.{◌&&◌, ◌||◌, not, ceiling, ceiling_within, given_count, is_crossing, is_step_given, is_way_given, rings_of, shape_allowed}
 use Rattle.safety.proofs.UpperLaws.{[], ◌≡◌, ◌≤◌, ◌⊎◌, ◌∷◌, ◌∙◌, ℕ, false, List, refl, sym, ap, inl, inr, arith, subst, Block, kind, RingView, floor_number, Header, Read, IsHeader, shape_of, Known, learned, lenient, DriverKeeps, ArePossible, all_read}
 use Rattle.safety.proofs.SameDriver.{SameGiven, event_same}
-use Rattle.safety.specs.RingsKeep.{IsDriverRing, PassesNoMore}
+use Rattle.safety.specs.RingsKeep.{PassesNoMore}
+use Rattle.safety.specs.DriverRings.{IsDriverRing}
 use Rattle.safety.proofs.Passing.{passes_both}
 use Rattle.safety.proofs.EventBehind.{behind_kept, event_on}
 use Rattle.safety.proofs.DriverHistories.{kept_driver}

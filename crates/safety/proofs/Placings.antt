@@ -1,6 +1,6 @@
 -- A command of which what was tested still holds places endpoints where it may
 use Rattle.safety.proofs.LowerLaws.{typed, typed_by_context, [], ◌≡◌, ◌≢◌, ◌<◌, ◌≤◌, ◌==◌, ◌&&◌, ◌||◌, if◌then◌else◌, ◌∷◌, ◌∙◌, ℕ, Bool, true, false, List, map, length, All, Option, Some, arith, refl, sym, ap, get_or, eq-eqb, ne_eqb, subst, rules, EndpointRestored, IsShape, IsShownTo, Shape, shown_where_restored, list_any, cases_option, none-some, same_Some, cond-true, cond-false, and_from, and_right, or_parts, or_left, not-false, false≢true, All-head, All-tail, list_any_at, length-map, get_or-map, put_pair, Spot, number, RingView, RingKeeps, is_placement, declared, floor_number, ceiling, target, is_move, is_reached, floor_given, given_count_declared, ceiling_within, move_target, added_endpoints, is_dropped, context_pointer, context_cycle, Command, AddressDevice, ConfigureEndpoint, SetTrDequeue, EndpointState, Off, Running, is_off, is_at_rest, Change, SlotGoesOn, Disables, Places, changes, placed_by_context, Header, IsHeader, shape_of, is_ring, ring_having, Known, on_ring, set_to, bound_to, moved_to, moved, pointed, disabled, in_state, changed_by, Binding, drops, is_placed, is_among, has_repeats, binding_in, binds, ring_bound, binds_ring, is_bad_dequeue, is_bad_move, RingsKeep, EndpointsKeep, MayPoint, MayChangeAll, StillHolds, each_fails, any_of_map, shape_allowed, having_transfer, target_here, target_placed}
-use Rattle.safety.specs.RingsKeep.{IsDriverRing}
+use Rattle.safety.specs.DriverRings.{IsDriverRing}
 use Rattle.safety.proofs.RingIds.{transfer_driver}
 use Rattle.safety.proofs.DriverRows.{ring_elsewhere}
 

@@ -1,6 +1,6 @@
 -- The command and transfer rings of a header, each found by its ID
 use Rattle.safety.proofs.Words.{[], ◌≡◌, ◌==◌, ◌&&◌, ◌++◌, ◌∷◌, ◌∙◌, ℕ, Bool, true, false, List, nat_lt, Option, Some, find, filter, sym, ap, inl, inr, eqb-true, rules, list_any, list_all, flat_map, cases_Bool, cond-true, cond-false, false≢true, and_parts, or_parts, none-some, same_Some, list_any-append, IsShape, is_shape, Header, Ring, IsHeader, may_stand_together, is_driver_kind, ring_with, shape_of, shape_or, driver_rings, is_driver_ring, arith}
-use Rattle.safety.specs.RingsKeep.{IsDriverRing}
+use Rattle.safety.specs.DriverRings.{IsDriverRing}
 
 -- what is found passes the test, and whatever each ring passes
 pub found_passes : (test : Ring → Bool) (rs : List Ring) (r : Ring) → find test rs ≡ Some r → test r ≡ true

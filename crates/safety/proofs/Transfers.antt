@@ -1,6 +1,6 @@
 -- A Transfer Event that may be read keeps what the rules keep of each ring
 use Rattle.safety.proofs.LowerLaws.{◌≡◌, ◌+◌, ◌<◌, ◌≤◌, ◌||◌, if◌then◌else◌, ◌∙◌, ℕ, not, Bool, true, false, Option, None, Some, arith, refl, sym, inl, inr, rules, RingsKept, changed, and_parts, and_cases, or_parts, not-false, false≢true, none-some, same_Some, put_pair, Block, pointer, slot, endpoint, is_success, is_halting, is_trb_error, is_stopping, Spot, number, after, Reaches, Holds, floor_number, ceiling, named, is_data_below, is_stop_spot, stopped_number, RingKeeps, reaches_keeps, reaches_and_holds_keeps, holds_and_reaches_keeps, after_reached, number-after, stop_spot_reached, stopped_within, ceiling_held, ceiling_within, below_is, IsAhead, named_ahead, EndpointState, Halted, Error, Header, IsHeader, shape_of, Known, RingSpot, on_ring, spot_on, event_at, passed, broken_off, stopped_at, transferred, transferred_at, transfer_read, is_in_profile, is_working, can_report, can_report_at, is_impossible_transfer, is_off, RingsKeep, is_open, is_running, IsRestored, shown_where_restored, shape_allowed, open_held, passes_at, passes_held, passes_restored, code_told, spot_told}
-use Rattle.safety.specs.RingsKeep.{IsDriverRing}
+use Rattle.safety.specs.DriverRings.{IsDriverRing}
 use Rattle.safety.proofs.DriverRows.{stands, same_keeps, on_ring_keeps, on_ring_twice_keeps}
 
 -- what each branch of a chain of two tests says

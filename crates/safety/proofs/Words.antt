@@ -23,6 +23,7 @@ unfoldable pub use Rattle.ownership_rules.specs.Commands.{adds_streams, has_bad_
 unfoldable pub use Rattle.ownership_rules.specs.Declarations.{declaration_tests, is_driver_ring}
 unfoldable pub use Rattle.ownership_rules.specs.Doorbells.{doorbell_tests, is_bad_bell, is_bad_doorbell, is_touched, touches_endpoint}
 unfoldable pub use Rattle.ownership_rules.specs.Events.{can_finish, can_report, can_report_at, event_tests, is_code_of_profile, is_impossible, is_impossible_by_kind, is_impossible_completion, is_impossible_transfer, is_in_profile, is_past_room, is_stopping_now, is_working, may_be_taken, was_stop_seen}
+unfoldable pub use Rattle.ownership_rules.specs.LenientRules.{lenient}
 pub use Rattle.ownership_rules.specs.Moves.{Binding}
 unfoldable pub use Rattle.ownership_rules.specs.Moves.{awaits_binding, binding_in, binds, binds_ring, drops, has_repeats, is_among, is_bad_binding, is_bad_dequeue, is_bad_move, is_bad_place, is_bad_stay, is_being_bound, is_being_moved, is_kept, is_placed, is_taken, moves_ring, ring_bound}
 pub use Rattle.ownership_rules.specs.Older.{stricter}
@@ -33,7 +34,7 @@ pub use Rattle.ownership_rules.specs.Refusal.{Test, broken_of}
 unfoldable pub use Rattle.ownership_rules.specs.Registers.{has_gap, is_bad_command_register, is_bad_crcr, is_bad_erdp, is_bad_register, is_early_reset, is_early_resume, is_early_start, is_impossible_read, is_impossible_status, is_late_reset, is_no_first_block, is_unwritten, is_wrong_start, may_pass, names_no_place, read_tests, register_tests}
 pub use Rattle.ownership_rules.specs.Rings.{is_transfer_ring}
 unfoldable pub use Rattle.ownership_rules.specs.Rings.{goes_badly, is_bad_free, is_bad_kind, is_bad_ring, is_bad_segment, is_had, is_in_use, shows_first_lap}
-unfoldable pub use Rattle.ownership_rules.specs.Rules.{broken, lenient, lenient_tests, tests}
+unfoldable pub use Rattle.ownership_rules.specs.Rules.{broken, lenient_tests, tests}
 unfoldable pub use Rattle.ownership_rules.specs.Withdrawals.{has_stopped, is_bad_withdraw, is_left, rests_with, some_flips}
 unfoldable pub use Rattle.ownership_rules.specs.Writes.{changes_owned, holds_of, on_crossing, on_position, some_command, some_crossed, some_given, write_tests}
 pub use Rattle.ownership_rules.specs.declared.refusal.Refusal.{Refusal}
@@ -126,12 +127,14 @@ pub use Rattle.std.proofs.lemmas.Nat.{mod_below}
 pub use Rattle.std.proofs.lemmas.Option.{cond_some, get_or_from_slice_get, none-some, same_Some, slice_get-get_or, slice_get_past, slice_get_within}
 pub use Rattle.std.specs.List.{cons_option, filter_map, flat_map, list_all, list_any, range_with_len}
 pub use Rattle.std.specs.Option.{option_map, option_or}
-pub use Rattle.traces.specs.Header.{IsHeader, clash, id_of, id_or_none, is_command_kind, is_driver_kind, is_event_kind, is_ring, is_transfer_kind, may_stand_together, ring_with, shape_or}
+pub use Rattle.traces.specs.AllowedHeaders.{IsHeader, clash, may_stand_together}
+pub use Rattle.traces.specs.Header.{id_of, id_or_none, is_command_kind, is_driver_kind, is_event_kind, is_ring, is_transfer_kind, ring_with, shape_or}
 unfoldable pub use Rattle.traces.specs.Header.{command_id, command_ring, driver_rings, event_ring, event_shape, event_size, ring_having, shape_of, touches_ring}
 pub use Rattle.traces.specs.LivingRings.{header_after}
 unfoldable pub use Rattle.traces.specs.LivingRings.{with_ring, without_ring}
 pub use Rattle.traces.specs.Register.{base_address, command_abort, command_stop, register_or_zero, reset_bit, ring_cycle_state, run_bit, same_register, with_register}
-pub use Rattle.traces.specs.Rows.{AreSteps, IsComing, IsRow, IsStep, is_ring_row}
+pub use Rattle.traces.specs.Rows.{AreSteps, IsComing, IsRow, is_ring_row}
+pub use Rattle.traces.specs.Steps.{IsStep}
 pub use Rattle.traces.specs.Versions.{has_isoch, profile_of, has_runs}
 pub use Rattle.traces.specs.declared.header.Header.{Header}
 pub use Rattle.traces.specs.declared.register.Register.{Register}
@@ -167,10 +170,10 @@ unfoldable pub use Rattle.world_state.specs.Harms.{harm_of, harms, has_changed_c
 unfoldable pub use Rattle.world_state.specs.Looks.{command_begun, crossed, looked, looked_at, may_scribble, seen_by_look, taken as looks_taken, taken_on}
 unfoldable pub use Rattle.world_state.specs.OnLiterals.{world_on_literals}
 unfoldable pub use Rattle.world_state.specs.Posts.{can_post, code_posted, is_last, is_stop_under_way, other_posted, posted, posted as posts_posted, report_code, report_error, report_stop, report_success, reported, reported_on, stopped_with, with_reported, with_stopped}
+pub use Rattle.world_state.specs.Replays.{NoHarm, scene_ending}
 pub use Rattle.world_state.specs.RingRows.{is_in_way}
 unfoldable pub use Rattle.world_state.specs.RingRows.{emptied, listed, may_come, resting, without_descriptor}
-pub use Rattle.world_state.specs.Scenes.{Scene, row_next, scene_ending, scene_reached, step_made, with_coming, with_left, with_world}
-pub use Rattle.world_state.specs.Steps.{NoHarm}
+pub use Rattle.world_state.specs.Scenes.{Scene, row_next, scene_reached, step_made, with_coming, with_left, with_world}
 unfoldable pub use Rattle.world_state.specs.Steps.{counted, halts, is_scribbled, made, made as steps_made, noting_post, scribbled, until_halted, while_running}
 unfoldable pub use Rattle.world_state.specs.Takes.{declared_next, first_at, is_as_declared, is_place, next_take, takes_of, unreported, was_placed}
 pub use Rattle.world_state.specs.World.{Placed, RingEvent, Took, UnderWay, World}

@@ -1,6 +1,6 @@
 -- A write that breaks no rule is one that each ring allows
 use Rattle.safety.proofs.Words.{[], ◌≡◌, ◌++◌, ◌∙◌, ℕ, Bool, false, List, map, All, sym, ap, ◌⊎◌, inl, inr, eqb-true, rules, MayCome, list_any, flat_map, or_parts, list_any-append, address_of, link_address, overlap, positions_given, crossings_given, leased_positions, leased_crossings, is_other_than_declared, is_not_declared, is_not_whole, leads_wrong, MayWrite, Header, Write, shape_of, driver_rings, Known, Given, Position, Crossing, given_of, given_by, covers, lease_start, lease_bytes, open_on, open_ranges, open_leases, is_leased, on_position, on_crossing, some_given, some_crossed, write_tests, lenient_tests, lenient, and_cases, not-false, is_the_controllers, changes_owned, IsHeader, RingKeeps}
-use Rattle.safety.specs.RingsKeep.{IsDriverRing}
+use Rattle.safety.specs.DriverRings.{IsDriverRing}
 use Rattle.safety.proofs.TestsPassed.{AllFail, tests_fail, each_fails, any_of_map}
 use Rattle.safety.proofs.RingsOfHeader.{HasRing, has_ring, none_of_ring, shape_allowed}
 use Rattle.safety.proofs.KeptWords.{KeepsCycles, free_keeps_cycles, same_keeps_cycles}

@@ -7,12 +7,13 @@ use Rattle.commands.specs.declared.state.EndpointState.TheVariants.{Running, Hal
 use Rattle.traces.specs.declared.header.Header.{Header}
 use Rattle.traces.specs.declared.row.Row.{Row}
 use Rattle.traces.specs.declared.row.Row.TheVariants.{Reg, Bell, Read}
-use Rattle.traces.specs.Header.{IsHeader, command_id}
+use Rattle.traces.specs.Header.{command_id}
+use Rattle.traces.specs.AllowedHeaders.{IsHeader}
 use Rattle.traces.specs.Rows.{IsRow}
 use Rattle.ring_knowledge.specs.Known.{Known}
 use Rattle.ring_knowledge.specs.Learned.{learned}
 use Rattle.ring_knowledge.specs.Resets.{resets}
-use Rattle.ownership_rules.specs.Rules.{lenient}
+use Rattle.ownership_rules.specs.LenientRules.{lenient}
 use Rattle.ownership_rules.specs.Doorbells.{is_touched}
 use Rattle.safety.specs.Restoring.{MayCome}
 use Rattle.safety.specs.Keeps.{DriverKeeps}

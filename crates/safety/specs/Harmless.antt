@@ -3,7 +3,7 @@ use Rattle.std.specs.Prelude.{◌≡◌, List, All, Some}
 use Rattle.traces.specs.declared.header.Header.{Header}
 use Rattle.traces.specs.declared.step.Step.{Step}
 use Rattle.traces.specs.declared.row.Row.{Row}
-use Rattle.traces.specs.Rows.{IsStep}
+use Rattle.traces.specs.Steps.{IsStep}
 use Rattle.world_state.specs.Harms.{IsSafe}
 use Rattle.world_state.specs.Scenes.{Scene, scene_reached}
 

@@ -2,7 +2,7 @@
 use Rattle.std.specs.Prelude.{List, All, reverse}
 use Rattle.traces.specs.declared.header.Header.{Header}
 use Rattle.traces.specs.declared.row.Row.{Row}
-use Rattle.traces.specs.Header.{IsHeader}
+use Rattle.traces.specs.AllowedHeaders.{IsHeader}
 use Rattle.safety.specs.Harmless.{DoNoHarm}
 use Rattle.safety.specs.RingChanges.Histories.{AreKept}
 use Rattle.traces.specs.Rows.{IsRow}

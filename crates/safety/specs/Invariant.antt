@@ -9,7 +9,7 @@ use Rattle.world_state.specs.World.{World}
 use Rattle.world_state.specs.Harms.{IsSafe}
 use Rattle.ring_knowledge.specs.Known.{Known}
 use Rattle.ring_knowledge.specs.Learned.{learned}
-use Rattle.ownership_rules.specs.Rules.{lenient}
+use Rattle.ownership_rules.specs.LenientRules.{lenient}
 use Rattle.safety.specs.Matches.{Agrees}
 
 module _ (h : Header) where

@@ -3,10 +3,10 @@ use Rattle.std.specs.Prelude.{◌≡◌, ℕ, false, [], Some}
 use Rattle.commands.specs.declared.command.Command.{Command}
 use Rattle.traces.specs.declared.header.Header.{Header}
 use Rattle.traces.specs.declared.row.Row.{Row}
-use Rattle.traces.specs.Header.{IsHeader}
+use Rattle.traces.specs.AllowedHeaders.{IsHeader}
 use Rattle.ring_knowledge.specs.Known.{Known}
 use Rattle.ring_knowledge.specs.Learned.{learned}
-use Rattle.ownership_rules.specs.Rules.{lenient}
+use Rattle.ownership_rules.specs.LenientRules.{lenient}
 use Rattle.safety.specs.Restoring.{MayCome}
 use Rattle.safety.specs.Keeps.{DeviceKeeps, IsUnfinished, CommandKeeps, DriverKeeps}
 

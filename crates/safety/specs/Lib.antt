@@ -1,3 +1,4 @@
+pub mod DriverRings
 pub mod RingsKeep
 pub mod Restoring
 pub mod EndpointsKeep

@@ -11,8 +11,8 @@ use Rattle.traces.specs.declared.row.Row.TheVariants.{Write, Bell}
 use Rattle.traces.specs.Header.{shape_of}
 use Rattle.ring_knowledge.specs.Known.{Known}
 use Rattle.ring_knowledge.specs.Writes.{command_given}
-use Rattle.ownership_rules.specs.Rules.{lenient}
-use Rattle.safety.specs.RingsKeep.{IsDriverRing}
+use Rattle.ownership_rules.specs.LenientRules.{lenient}
+use Rattle.safety.specs.DriverRings.{IsDriverRing}
 
 -- nothing is free of the ring of an endpoint
 abbrev pub EndpointRestored : Known → ℕ → ℕ → Type 0

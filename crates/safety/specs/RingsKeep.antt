@@ -5,9 +5,9 @@ use Rattle.segments.specs.RingView.{RingView}
 use Rattle.segments.specs.Ceiling.{ceiling}
 use Rattle.segments.specs.RingKeeps.{RingKeeps}
 use Rattle.traces.specs.declared.header.Header.{Header}
-use Rattle.traces.specs.Header.{ring_with, shape_of}
+use Rattle.traces.specs.Header.{shape_of}
 use Rattle.ring_knowledge.specs.Known.{Known}
-use Rattle.ownership_rules.specs.Declarations.{is_driver_ring}
+use Rattle.safety.specs.DriverRings.{IsDriverRing}
 
 -- nothing more is free than it was, and nothing more of it may be passed
 abbrev pub PassesNoMore : Shape → RingView → RingView → Type 0
@@ -19,14 +19,10 @@ pub record RingKept (shape : Shape) (memory : ℕ → ℕ) (v w : RingView) : Ty
   pub passes : PassesNoMore shape v w
 
 module _ (h : Header) where
-  -- the ID of a command or transfer ring
-  abbrev pub IsDriverRing : ℕ → Type 0
-  IsDriverRing r = is_driver_ring (ring_with h r) ≡ true
-
   -- of each of them what the rules keep of one ring
   abbrev pub RingsKeep : Known → Type 0
-  RingsKeep k = (r : ℕ) → IsDriverRing r → RingKeeps (shape_of h r) k.memory (k.ring r)
+  RingsKeep k = (r : ℕ) → IsDriverRing h r → RingKeeps (shape_of h r) k.memory (k.ring r)
 
   -- k is what was known before
   abbrev pub RingsKept : Known → Known → Type 0
-  RingsKept k l = (r : ℕ) → IsDriverRing r → RingKept (shape_of h r) l.memory (k.ring r) (l.ring r)
+  RingsKept k l = (r : ℕ) → IsDriverRing h r → RingKept (shape_of h r) l.memory (k.ring r) (l.ring r)

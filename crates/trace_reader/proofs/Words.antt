@@ -55,7 +55,7 @@ unfoldable pub use Rattle.trace_reader.specs.PlanSpelling.{plan_line_fields, pla
 pub use Rattle.trace_reader.specs.Plans.{PlanText, declares_too_much, plan_behind, plan_in, plan_line, plan_line_fault, plan_ring, plan_ring_fault, plan_sub_line, ret_line, ring_alone, with_ring}
 unfoldable pub use Rattle.trace_reader.specs.Plans.{is_plan_version, plan_form_of, plan_of, plan_value, ring_line_form, ring_value}
 pub use Rattle.trace_reader.specs.Printing.{in_a_row, spaced}
-pub use Rattle.trace_reader.specs.Reading.{State, TraceText, behind_row, go_on, has_no_shape, is_misplaced, is_too_much, most_of, next_number, start, whole, with_row, with_said}
+pub use Rattle.trace_reader.specs.Reading.{State, behind_row, go_on, has_no_shape, is_misplaced, is_too_much, most_of, next_number, start, whole, with_row, with_said}
 unfoldable pub use Rattle.trace_reader.specs.Reading.{after, form_in, is_bad_number, is_bad_row, is_bad_shape, is_past_limit, is_too_long, line_fault, read_line, read_lines, row_fault, said_in, size_of, trace_of, version_of}
 pub use Rattle.trace_reader.specs.RowsAhead.{BeginsWithRow}
 pub use Rattle.trace_reader.specs.ScheduleSpelling.{IsSchedule, schedule_version_fields}
@@ -74,6 +74,7 @@ pub use Rattle.trace_reader.specs.Streaming.Streams.{IsReadTo, OfStream, read_wi
 pub use Rattle.trace_reader.specs.Streaming.WholeTexts.{AreNumbered, AreOfLines, GivenRows, IsBehind, answered, joined, joined_behind, rows_given}
 pub use Rattle.trace_reader.specs.TraceLines.{Form, bell_line, comes_line, event_line, goes_line, reg_line, ring_line, sub_line, withdraws_line, write_line, reg_read_line, said_lines}
 unfoldable pub use Rattle.trace_reader.specs.TraceLines.{form_of, said_of}
+pub use Rattle.trace_reader.specs.TraceOfText.{TraceText}
 pub use Rattle.trace_reader.specs.Valid.{IsTrace}
 pub use Rattle.trace_reader.specs.Values.{Said, SaysRing, SaysRow, both, cons, event_of}
 unfoldable pub use Rattle.trace_reader.specs.Values.{block_of, blocks_of, register_value_of, segments_of, word_address_of}
@@ -88,12 +89,14 @@ pub use Rattle.trace_reader.specs.declared.row_reader.fault.StreamFault.{StreamF
 pub use Rattle.trace_reader.specs.declared.row_reader.fault.StreamFault.TheVariants.{Device, Line, Memory as NoMemory}
 pub use Rattle.trace_reader.specs.declared.row_reader.reader.RowReader.{RowReader}
 pub use Rattle.trace_reader.specs.declared.so_far.TraceSoFar.{TraceSoFar}
-pub use Rattle.traces.specs.Header.{IsHeader, clash, is_command_kind, is_event_kind, may_stand_together}
+pub use Rattle.traces.specs.AllowedHeaders.{IsHeader, clash, may_stand_together}
+pub use Rattle.traces.specs.Header.{is_command_kind, is_event_kind}
 pub use Rattle.traces.specs.Limits.{most_bytes, most_declared, most_lines, most_schedule_lines, most_streamed_lines}
 unfoldable pub use Rattle.traces.specs.Limits.{most_lines_of}
 pub use Rattle.traces.specs.PlanLines.{IsPlanLine}
 pub use Rattle.traces.specs.Register.{is_wide, register_name}
-pub use Rattle.traces.specs.Rows.{FitsLine, IsRow, IsStep, IsWordAddress}
+pub use Rattle.traces.specs.Rows.{FitsLine, IsRow}
+pub use Rattle.traces.specs.Steps.{IsStep, IsWordAddress}
 pub use Rattle.traces.specs.TraceRows.{IsTraceRow, begins_with_ring, has_used_id, have_new_ids, ids_with, is_of_version, AreRowsOf, IsRowOf}
 pub use Rattle.traces.specs.Versions.{has_runs}
 pub use Rattle.traces.specs.declared.header.Header.{Header}

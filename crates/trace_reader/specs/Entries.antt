@@ -32,7 +32,8 @@ use Rattle.trace_reader.specs.Grammar as grammar
 use Rattle.trace_reader.specs.TraceLines.{Form, form_of, said_of, sub_line, write_line, reg_line, bell_line, event_line, ring_line, comes_line, goes_line, withdraws_line, reg_read_line}
 use Rattle.trace_reader.specs.LineAnswers.{valued_by}
 use Rattle.traces.specs.Limits.{most_bytes}
-use Rattle.trace_reader.specs.Reading.{State, TraceText, behind_row, is_bad_row, is_past_limit, is_misplaced, is_too_long, read_line, said_in, with_said}
+use Rattle.trace_reader.specs.Reading.{State, behind_row, is_bad_row, is_past_limit, is_misplaced, is_too_long, read_line, said_in, with_said}
+use Rattle.trace_reader.specs.TraceOfText.{TraceText}
 use Rattle.trace_reader.specs.Values.{Said, SaysRow, SaysRing}
 
 -- a ring as its line says

@@ -3,6 +3,7 @@ pub mod Forms
 pub mod Values
 pub mod Grammar
 pub mod TraceLines
+pub mod TraceOfText
 pub mod Reading
 pub mod Spelling
 pub mod Entries

@@ -10,7 +10,6 @@ use Rattle.line_text.specs.Lines.{TextLine, lines_of}
 use Rattle.line_text.specs.Fields.{fields_of, has_empty_field}
 use Rattle.trace_reader.specs.declared.fault.LineFault.{LineFault}
 use Rattle.trace_reader.specs.declared.fault.LineFault.TheVariants.{Header as BadHeader, Row as BadRow, Number, Limit, Shape}
-use Rattle.traces.specs.declared.header.Header.{Header}
 use Rattle.traces.specs.declared.version.Version.{Version}
 use Rattle.traces.specs.declared.version.Version.TheVariants.{One, Two, Three, Four}
 use Rattle.traces.specs.declared.ring.Ring.{Ring}
@@ -18,9 +17,10 @@ use Rattle.traces.specs.declared.row.Row.{Row}
 use Rattle.traces.specs.declared.row.Row.TheVariants.{Ring as RingRow, Sub}
 use Rattle.traces.specs.TraceRows.{has_used_id, ids_with}
 use Rattle.trace_reader.specs.TraceLines.{Form, form_of, said_of}
-use Rattle.traces.specs.Header.{clash}
+use Rattle.traces.specs.AllowedHeaders.{clash}
 use Rattle.traces.specs.Limits.{most_lines_of, most_bytes, most_declared}
 use Rattle.trace_reader.specs.Values.{Said, SaysRow, SaysRing}
+use Rattle.trace_reader.specs.TraceOfText.{TraceText}
 
 -- what was read so far
 pub record State : Type 0 where
@@ -162,13 +162,6 @@ go_on number (Err fault) rest = Err (number, fault)
 unfoldable pub read_lines : State → List TextLine → Result (State × List Row) (ℕ × LineFault)
 read_lines st [] = Ok (st, [])
 read_lines st (line ∷ lines) = go_on (next_number st) (read_line st line) (λ after. read_lines after lines)
-
--- what a text of a trace says
-pub record TraceText : Type 0 where
-  pub header : Header
-  -- the number of the first row's line
-  pub first : ℕ
-  pub rows : List Row
 
 -- a text ends behind its header at the earliest: the line that isn't there is a bad one
 abbrev pub whole : Result (State × List Row) (ℕ × LineFault) → Result TraceText (ℕ × LineFault)

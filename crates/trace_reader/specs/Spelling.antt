@@ -17,7 +17,7 @@ use Rattle.traces.specs.declared.row.Row.TheVariants.{Sub, Write, Reg, Bell, Rea
 use Rattle.traces.specs.Register.{register_name}
 use Rattle.traces.specs.declared.version.Version.{Version}
 use Rattle.traces.specs.declared.version.Version.TheVariants.{One, Two, Three, Four}
-use Rattle.trace_reader.specs.Reading.{TraceText}
+use Rattle.trace_reader.specs.TraceOfText.{TraceText}
 
 -- a word stands as it is; the letters of a number's digits may be of either case, and are lower case where it is printed
 pub data Field : Type 0 where

@@ -1,9 +1,9 @@
 -- Which traces have a text: the limits, the shapes and the IDs that reading keeps
 use Rattle.std.specs.Prelude.{◌≡◌, ◌+◌, ◌≤◌, Bool, [], true, false, length}
-use Rattle.traces.specs.Header.{IsHeader}
+use Rattle.traces.specs.AllowedHeaders.{IsHeader}
 use Rattle.traces.specs.Limits.{most_lines_of}
 use Rattle.traces.specs.TraceRows.{AreRowsOf, begins_with_ring, have_new_ids}
-use Rattle.trace_reader.specs.Reading.{TraceText}
+use Rattle.trace_reader.specs.TraceOfText.{TraceText}
 
 -- of one whose rows are all kept or not, by which it may have more lines
 pub record IsTrace (keeps : Bool) (trace : TraceText) : Type 0 where

@@ -1,6 +1,7 @@
 ghost use Rattle.std.specs.Prelude.{◌≡◌, ◌||◌};
 ghost use Rattle.std.specs.List.{list_any};
-ghost use Rattle.traces.specs.Header.{clash, is_command_kind, is_event_kind};
+ghost use Rattle.traces.specs.Header.{is_command_kind, is_event_kind};
+ghost use Rattle.traces.specs.AllowedHeaders.{clash};
 ghost use Rattle.trace_reader.specs.SegmentsApart.{AreSegmentsOf, is_second};
 
 use crate::segments_so_far::SegmentsSoFar;

@@ -1,10 +1,11 @@
 ghost use Rattle.std.specs.Prelude.{ℕ, List, ◌≡◌, ◌≤◌, ◌+◌, Bool, Ok, Err, length, IsTrue, OnOk, IfOk, IfErr, true, false, None};
 ghost use Rattle.std.specs.Str.{str_to_ascii_lowercase};
 ghost use Rattle.trace_reader.specs.Entries.{IfBadLine, IfFault, at_line, placed, ring_of, row_of, state_of, text_of, took_in};
-ghost use Rattle.trace_reader.specs.Reading.{TraceText, read_line, start, trace_of, whole};
+ghost use Rattle.trace_reader.specs.Reading.{read_line, start, trace_of, whole};
+ghost use Rattle.trace_reader.specs.TraceOfText.{TraceText};
 ghost use Rattle.trace_reader.specs.Spelling.{printed_trace, spells};
 ghost use Rattle.trace_reader.specs.Valid.{IsTrace};
-ghost use Rattle.traces.specs.Header.{IsHeader};
+ghost use Rattle.traces.specs.AllowedHeaders.{IsHeader};
 ghost use Rattle.traces.specs.Limits.{most_lines, most_lines_of};
 ghost use Rattle.trace_reader.specs.Values.{SaysRing, SaysRow};
 

@@ -1,6 +1,6 @@
 ghost use Rattle.std.specs.Prelude.{◌≡◌, ◌≤◌, true};
 ghost use Rattle.trace_reader.specs.SegmentsApart.{AreSegmentsOf};
-ghost use Rattle.traces.specs.Header.{IsHeader};
+ghost use Rattle.traces.specs.AllowedHeaders.{IsHeader};
 ghost use Rattle.traces.specs.Limits.{most_lines_of, most_streamed_lines};
 
 use crate::segments_so_far::SegmentsSoFar;

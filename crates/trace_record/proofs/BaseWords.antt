@@ -15,10 +15,12 @@ pub use Rattle.event_ring.proofs.Words.{Data, EventCounts, EventState, Link}
 pub use Rattle.event_ring.specs.EventRing.{table_bytes}
 pub use Rattle.guest_memory.specs.Memory.{put_pair}
 pub use Rattle.ownership_rules.proofs.Among.{IsIn}
+unfoldable pub use Rattle.ownership_rules.specs.ByVersion.{writes_to_owned}
+pub use Rattle.ownership_rules.specs.FirstBroken.{first_broken, first_of}
 unfoldable pub use Rattle.ownership_rules.specs.Moves.{binding_in, binds, binds_ring, is_being_bound}
-unfoldable pub use Rattle.ownership_rules.specs.Older.{older, stricter, writes_to_owned}
+unfoldable pub use Rattle.ownership_rules.specs.Older.{older, stricter}
 unfoldable pub use Rattle.ownership_rules.specs.OpenLeases.{covers, is_the_controllers, lease_bytes, lease_start, slots, table_range}
-pub use Rattle.ownership_rules.specs.Refusal.{Test, broken_of, first_broken, first_of}
+pub use Rattle.ownership_rules.specs.Refusal.{Test, broken_of}
 unfoldable pub use Rattle.ownership_rules.specs.Writes.{changes_owned}
 pub use Rattle.ownership_rules.specs.declared.refusal.Refusal.{Refusal}
 pub use Rattle.ring_knowledge.proofs.GivenWords.{given_from}
@@ -93,7 +95,8 @@ pub use Rattle.trace_record.specs.declared.ring_finder.finder.Finder.{Finder}
 pub use Rattle.trace_record.specs.declared.ring_finder.finder.Start.{Start}
 pub use Rattle.trace_record.specs.declared.row_place.RowPlace.{RowPlace}
 pub use Rattle.trace_record.specs.declared.trace_record.TraceRecord.{TraceRecord}
-pub use Rattle.traces.specs.Header.{IsHeader, clash, id_of, id_or_none, is_command_kind, is_driver_kind, is_event_kind, is_ring, is_transfer_kind, may_stand_together, ring_with, shape_or}
+pub use Rattle.traces.specs.AllowedHeaders.{IsHeader, clash, may_stand_together}
+pub use Rattle.traces.specs.Header.{id_of, id_or_none, is_command_kind, is_driver_kind, is_event_kind, is_ring, is_transfer_kind, ring_with, shape_or}
 unfoldable pub use Rattle.traces.specs.Header.{command_id, command_ring, driver_rings, event_ring, event_shape, ring_having, shape_of, touches_ring}
 pub use Rattle.traces.specs.Register.{base_address, register_or_zero}
 pub use Rattle.traces.specs.Versions.{is_lenient}

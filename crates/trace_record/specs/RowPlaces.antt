@@ -15,7 +15,7 @@ use Rattle.ring_knowledge.specs.Known.{Known}
 use Rattle.ring_knowledge.specs.RingRecords.{positions_of, crossings_of}
 use Rattle.ring_knowledge.specs.Rings.{command_at, next_command}
 use Rattle.ring_knowledge.specs.Writes.{command_given}
-use Rattle.ownership_rules.specs.Older.{writes_to_owned}
+use Rattle.ownership_rules.specs.ByVersion.{writes_to_owned}
 use Rattle.trace_record.specs.declared.row_place.RowPlace.{RowPlace}
 use Rattle.trace_record.specs.Owned.{rings_have}
 use Rattle.trace_record.specs.RingCommands.{command_on}

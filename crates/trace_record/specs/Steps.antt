@@ -3,9 +3,9 @@ use Rattle.std.specs.Prelude.{◌≡◌, ℕ, [], Some}
 use Rattle.traces.specs.declared.header.Header.{Header}
 use Rattle.traces.specs.declared.row.Row.{Row}
 use Rattle.ring_knowledge.specs.Known.{Known}
-use Rattle.ring_knowledge.specs.Resets.{learned_or_reset}
+use Rattle.ring_knowledge.specs.LearnedOrReset.{learned_or_reset}
 use Rattle.ownership_rules.specs.declared.refusal.Refusal.{Refusal}
-use Rattle.ownership_rules.specs.Refusal.{first_of}
+use Rattle.ownership_rules.specs.FirstBroken.{first_of}
 use Rattle.ownership_rules.specs.Rules.{broken}
 use Rattle.trace_record.specs.declared.fault.StepFault.{StepFault}
 use Rattle.trace_record.specs.declared.fault.StepFault.TheVariants.{Refused, Memory}

@@ -1,5 +1,5 @@
 ghost use Rattle.std.specs.Prelude.{◌≡◌, IfOk};
-ghost use Rattle.traces.specs.Header.{IsHeader};
+ghost use Rattle.traces.specs.AllowedHeaders.{IsHeader};
 ghost use Rattle.ring_knowledge.specs.Known.{nothing};
 ghost use Rattle.trace_record.specs.FollowsTrace.{FollowsEvents};
 ghost use Rattle.trace_record.specs.Fresh.{AreFresh, IsWithin};

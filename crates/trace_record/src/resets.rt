@@ -2,7 +2,8 @@
 ghost use Rattle.std.specs.Prelude.{◌≡◌, ◌≤◌, ◌<◌, ℕ, false, true, if◌then◌else◌, length, OnOk, OnErr};
 ghost use Rattle.segments.specs.RingView.{RingView, declared};
 ghost use Rattle.segments.specs.Ceiling.{given_count};
-ghost use Rattle.traces.specs.Header.{IsHeader, is_command_kind};
+ghost use Rattle.traces.specs.Header.{is_command_kind};
+ghost use Rattle.traces.specs.AllowedHeaders.{IsHeader};
 ghost use Rattle.ring_knowledge.specs.Known.{Known};
 ghost use Rattle.ring_knowledge.specs.Resets.{given_up, held_at_given, reset};
 ghost use Rattle.ring_knowledge.specs.RingRecords.{FollowsRing};

@@ -2,7 +2,8 @@
 ghost use Rattle.std.specs.Prelude.{◌≡◌, ◌&&◌, ◌||◌, ℕ, None, false, if◌then◌else◌, not, true};
 ghost use Rattle.trb.specs.declared.ring_kind.RingKind.TheVariants.{Cmd, Evt};
 ghost use Rattle.traces.specs.Halts.{is_asked, is_done};
-ghost use Rattle.traces.specs.Header.{IsHeader, command_ring, event_ring, is_command_kind, is_event_kind};
+ghost use Rattle.traces.specs.Header.{command_ring, event_ring, is_command_kind, is_event_kind};
+ghost use Rattle.traces.specs.AllowedHeaders.{IsHeader};
 ghost use Rattle.traces.specs.declared.header.Header.{Header as HeaderValue};
 ghost use Rattle.ring_knowledge.specs.Known.{Known};
 ghost use Rattle.ring_knowledge.specs.RegisterRecords.{FollowsRegisters};

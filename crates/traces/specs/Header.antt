@@ -1,11 +1,10 @@
--- The rings of a trace, and which of them may stand together
-use Rattle.std.specs.Prelude.{ℕ, ◌==◌, ◌&&◌, ◌||◌, Bool, true, false, not, List, [], ◌∷◌, nat_lt, Option, Some, None, find, filter, IsTrue}
-use Rattle.std.specs.List.{list_any, list_all}
+-- The rings of a trace, by their kinds, IDs and addresses
+use Rattle.std.specs.Prelude.{ℕ, ◌==◌, ◌&&◌, Bool, true, false, not, List, [], Option, Some, None, find, filter}
+use Rattle.std.specs.List.{list_any}
 use Rattle.trb.specs.declared.ring_kind.RingKind.{RingKind}
 use Rattle.trb.specs.declared.ring_kind.RingKind.TheVariants.{Cmd, Evt, Xfer}
 use Rattle.segments.specs.ShapeValue.{Shape}
 use Rattle.segments.specs.Places.{place_count, is_inside, touches}
-use Rattle.segments.specs.Shape.{is_shape, rings_overlap}
 use Rattle.traces.specs.declared.ring.Ring.{Ring}
 use Rattle.traces.specs.declared.header.Header.{Header}
 
@@ -27,23 +26,6 @@ is_transfer_kind Xfer = true
 -- a command or transfer ring, of which the driver declares blocks
 abbrev pub is_driver_kind : RingKind → Bool
 is_driver_kind kind = not (is_event_kind kind)
-
--- both have the ID, or a segment of one overlaps one of the other, or both are the command ring, or the event ring
-abbrev pub clash : Ring → Ring → Bool
-clash r q =
-    r.id == q.id || rings_overlap r.shape q.shape
-    || (is_command_kind r.shape.kind && is_command_kind q.shape.kind) || (is_event_kind r.shape.kind && is_event_kind q.shape.kind)
-
-abbrev pub may_stand_together : List Ring → Bool
-may_stand_together [] = true
-may_stand_together (r ∷ rest) = not (list_any (clash r) rest) && may_stand_together rest
-
--- each ring has an allowed shape, and they may stand together
-abbrev pub is_header : Header → Bool
-is_header h = list_all (λ r. nat_lt r.id 256 && is_shape r.shape) h.rings && may_stand_together h.rings
-
-abbrev pub IsHeader : Header → Type 0
-IsHeader h = IsTrue (is_header h)
 
 abbrev pub ring_with : Header → ℕ → Option Ring
 ring_with h id = find (λ r. r.id == id) h.rings

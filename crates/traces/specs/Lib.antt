@@ -3,6 +3,8 @@ pub mod Versions
 pub mod Register
 pub mod Halts
 pub mod Header
+pub mod AllowedHeaders
+pub mod Steps
 pub mod Rows
 pub mod TraceRows
 pub mod LivingRings

@@ -1,5 +1,5 @@
 -- Rows and steps whose numbers fit the fields of their types
-use Rattle.std.specs.Prelude.{◌≡◌, ◌≢◌, ℕ, ◌%◌, ◌<◌, ◌≤◌, ◌^◌, Bool, true, false, All, List, length}
+use Rattle.std.specs.Prelude.{◌≢◌, ◌<◌, ◌≤◌, ◌^◌, Bool, true, false, All, List, length}
 use Rattle.std.proofs.Props.{props}
 use Rattle.trb.specs.Block.{IsBlock}
 use Rattle.segments.specs.Shape.{IsShape}
@@ -10,10 +10,7 @@ use Rattle.traces.specs.declared.row.Row.{Row}
 use Rattle.traces.specs.declared.row.Row.TheVariants.{Sub, Write, Reg, Bell, Read, Ring as RingRow, Free as FreeRow, Nop as NopRow, RegRead}
 use Rattle.traces.specs.declared.step.Step.{Step}
 use Rattle.traces.specs.declared.step.Step.TheVariants.{NextRow, Look, Report, Finish, Other, Scribble, Halt}
-
--- the address of a word
-abbrev pub IsWordAddress : ℕ → Type 0
-IsWordAddress a = (a % 4 ≡ 0) × (a < 2 ^ 64)
+use Rattle.traces.specs.Steps.{IsStep, IsWordAddress}
 
 -- a ring that may come, by its line alone
 pub record IsComing (r : Ring) : Type 0 where
@@ -53,15 +50,6 @@ row_is_fact row = hlevel props
 pub line_is_fact : (row : Row) → IsProp (FitsLine row)
 line_is_fact (Sub ring blocks) = hlevel props
 line_is_fact row = hlevel props
-
-abbrev pub IsStep : Step → Type 0
-IsStep NextRow = Unit {0}
-IsStep (Look ring) = ring < 256
-IsStep (Report event) = IsBlock event
-IsStep (Finish event) = IsBlock event
-IsStep (Other event) = IsBlock event
-IsStep (Scribble at word) = IsWordAddress at × (word < 2 ^ 32)
-IsStep Halt = Unit {0}
 
 -- each is one fact
 pub step_is_fact : (step : Step) → IsProp (IsStep step)

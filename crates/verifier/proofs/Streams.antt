@@ -1,5 +1,5 @@
 -- What a pass over the rows of a trace says of a list of leases
-use Rattle.verifier.proofs.Words.{rules, ◌≡◌, ◌≢◌, ℕ, Bool, true, false, List, Some, refl, subst, map, reverse, Header, TraceText, Lease, Refusal, Lent, lease_of, CertificateLog, FollowsCertificate, header_now, lents, Passed, Whole, Refused, IsVerified, IfRefusedRow, IfWhole, IsWholeLog, trace_verdict}
+use Rattle.verifier.proofs.Words.{◌∙◌, ◌≡◌, ◌≢◌, ℕ, Bool, true, false, List, Some, refl, subst, map, reverse, Header, TraceText, Lease, Refusal, Lent, lease_of, CertificateLog, FollowsCertificate, header_now, lents, Passed, Whole, Refused, IsVerified, IfRefusedRow, IfWhole, IsWholeLog, leases_lent, sound_so, trace_verdict}
 
 -- what a pass has answered
 pub is_whole : {B : Type 0} (P : B → Type 0) (passed : Passed B) (log : B) → passed ≡ Whole log → IfWhole passed P → P log
@@ -14,10 +14,12 @@ module _ (trace : TraceText) (leases : List Lease) where
       ((list : List Lease) (h : Header) (ts : List Lent) → FollowsCertificate list h ts log → whole ≡ true → list ≡ map lease_of ts) →
       ((list : List Lease) (h : Header) (ts : List Lent) → FollowsCertificate list h ts log → whole ≡ false → list ≢ map lease_of ts) →
       IsWholeLog (FollowsCertificate leases) trace log → IsVerified trace leases whole
-  verified log true listed unlisted w = search rules
+  verified log true listed unlisted w =
+      let past = reverse trace.rows in
+      sound_so (FollowsCertificate leases) trace log w leases (listed leases (header_now trace.header past) (lents trace.header trace.first past) w.kept refl)
   verified log false listed unlisted w = λ is.
       let past = reverse trace.rows in
-      unlisted leases (header_now trace.header past) (lents trace.header trace.first past) w.kept refl is.certified
+      unlisted leases (header_now trace.header past) (lents trace.header trace.first past) w.kept refl (is.certified ∙ leases_lent trace.header trace.first trace.rows w.room)
 
   -- where one was, no
   pub unverified : (row : ℕ) (c : Refusal) → trace_verdict trace.header trace.first trace.rows ≡ Some (row, c) → IsVerified trace leases false

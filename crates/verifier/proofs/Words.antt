@@ -3,7 +3,7 @@ pub use Rattle.leases.specs.CertificateLogs.Logs.{FollowsCertificate}
 pub use Rattle.leases.specs.LeaseBooks.Lents.{Lent}
 unfoldable pub use Rattle.leases.specs.LeaseBooks.Lents.{lease_of, lents}
 pub use Rattle.leases.specs.declared.log.certificate_log.CertificateLog.{CertificateLog}
-pub use Rattle.ownership_checker.proofs.Streams.{kept_whole, opened_bad}
+pub use Rattle.ownership_checker.proofs.Streams.{kept_whole, leases_lent, opened_bad, sound_so}
 pub use Rattle.ownership_checker.specs.RingPasses.Accepted.{IsVerified}
 pub use Rattle.ownership_checker.specs.RingPasses.Reading.{IfRefusedRow, IfWhole, IsWholeLog}
 pub use Rattle.ownership_rules.specs.Rules.{trace_verdict}
@@ -12,8 +12,8 @@ pub use Rattle.ownership_checker.specs.declared.pass.reading.Passed.TheVariants.
 pub use Rattle.ownership_rules.specs.declared.refusal.Refusal.{Refusal}
 pub use Rattle.ring_knowledge.specs.declared.lease.Lease.{Lease}
 pub use Rattle.ring_knowledge.specs.Histories.{header_now}
-pub use Rattle.std.proofs.Common.{Bool, List, Some, false, map, refl, rules, subst, true, ℕ, ◌≡◌, ◌≢◌}
+pub use Rattle.std.proofs.Common.{Bool, List, Some, false, map, refl, rules, subst, true, ℕ, ◌∙◌, ◌≡◌, ◌≢◌}
 pub use Rattle.std.proofs.lemmas.Result.{err_from_is_err_and}
 pub use Rattle.std.specs.Prelude.{reverse}
-pub use Rattle.trace_reader.specs.Reading.{TraceText}
 pub use Rattle.traces.specs.declared.header.Header.{Header}
+pub use Rattle.trace_reader.specs.TraceOfText.{TraceText}

@@ -11,4 +11,5 @@ pub mod Finishes
 pub mod Steps
 pub mod RingRows
 pub mod Scenes
+pub mod Replays
 pub mod OnLiterals

@@ -1,6 +1,6 @@
 -- Runs beside rows between which rings come and go. That a ring goes ends its life, and nothing else: from then on a look at it is outside and
 -- no pointer names it; what an endpoint has, what is active and what was taken stays, and harm is asked of it as of any other: xHCI 4.9
-use Rattle.std.specs.Prelude.{ℕ, ◌+◌, if◌then◌else◌, List, [], ◌∷◌, Option, Some, None, option_and_then, option_map}
+use Rattle.std.specs.Prelude.{if◌then◌else◌, List, [], ◌∷◌, Option, Some, None, option_and_then, option_map}
 use Rattle.traces.specs.declared.header.Header.{Header}
 use Rattle.traces.specs.declared.step.Step.{Step}
 use Rattle.traces.specs.declared.step.Step.TheVariants.{NextRow}
@@ -8,11 +8,10 @@ use Rattle.traces.specs.declared.ring.Ring.{Ring}
 use Rattle.traces.specs.declared.row.Row.{Row}
 use Rattle.traces.specs.declared.row.Row.TheVariants.{Ring as RingRow, Free as FreeRow, Nop as NopRow}
 use Rattle.world_state.specs.World.{World, opening}
-use Rattle.world_state.specs.Harms.{harm_of}
 use Rattle.world_state.specs.DriverRows.{row_done}
 use Rattle.traces.specs.LivingRings.{with_ring, without_ring}
 use Rattle.world_state.specs.RingRows.{listed, may_come, resting, without_descriptor}
-use Rattle.world_state.specs.Steps.{Ending, NoHarm, NotPossible, judged, counted, made}
+use Rattle.world_state.specs.Steps.{counted, made}
 
 -- the rings that were declared, those of them that live, the rows still to come, and the world
 pub record Scene : Type 0 where
@@ -57,13 +56,3 @@ module _ (h : Header) where
   abbrev pub scene_reached : List Row → List Step → Option Scene
   scene_reached rows [] = Some (scene_before h rows)
   scene_reached rows (s ∷ older) = option_and_then (λ x. step_made x s) (scene_reached rows older)
-
--- ---- how the replay of a schedule ends
-
-unfoldable pub scene_ending_from : ℕ → Option Scene → List Step → Ending
-scene_ending_from n None steps = NotPossible n
-scene_ending_from n (Some x) [] = judged n (harm_of x.header x.world) NoHarm
-scene_ending_from n (Some x) (s ∷ steps) = judged n (harm_of x.header x.world) (scene_ending_from (n + 1) (step_made x s) steps)
-
-abbrev pub scene_ending : Header → List Row → List Step → Ending
-scene_ending h rows steps = scene_ending_from 0 (Some (scene_before h rows)) steps

@@ -1,33 +1,19 @@
 -- Steps, and the worlds that runs lead to
-use Rattle.std.specs.Prelude.{ℕ, ◌+◌, ◌&&◌, ◌||◌, if◌then◌else◌, Bool, true, not, List, [], ◌∷◌, Option, Some, None, is_none, option_and_then, option_map}
+use Rattle.std.specs.Prelude.{ℕ, ◌+◌, ◌&&◌, ◌||◌, if◌then◌else◌, Bool, true, not, Option, Some, None, is_none, option_map}
 use Rattle.std.specs.List.{list_any, range_with_len}
 use Rattle.segments.specs.Places.{is_in}
 use Rattle.contexts.specs.Contexts.{device_context, device_context_bytes}
 use Rattle.traces.specs.declared.header.Header.{Header}
-use Rattle.traces.specs.declared.row.Row.{Row}
 use Rattle.traces.specs.declared.step.Step.{Step}
 use Rattle.traces.specs.declared.step.Step.TheVariants.{NextRow, Look, Report, Finish, Other, Scribble, Halt}
 use Rattle.traces.specs.declared.register.Register.TheVariants.{Dcbaap}
 use Rattle.traces.specs.Header.{event_ring}
 use Rattle.traces.specs.Register.{register_or_zero}
 use Rattle.traces.specs.Versions.{has_runs}
-use Rattle.world_state.specs.declared.harm.Harm.{Harm}
-use Rattle.world_state.specs.World.{World, opening, stored}
-use Rattle.world_state.specs.Harms.{harm_of}
-use Rattle.world_state.specs.DriverRows as driver
+use Rattle.world_state.specs.World.{World, stored}
 use Rattle.world_state.specs.Looks as looks
 use Rattle.world_state.specs.Posts as posts
 use Rattle.world_state.specs.Finishes as finishes
-
--- how the replay of a schedule ends: without harm, at a step that isn't possible, or at the first harm, told after its step
-pub data Ending : Type 0 where
-  NoHarm : Ending
-  NotPossible : (step : ℕ) → Ending
-  Harmful : (step : ℕ) (harm : Harm) → Ending
-
-unfoldable pub judged : ℕ → Option Harm → Ending → Ending
-judged n None later = later
-judged n (Some kind) later = Harmful n kind
 
 module _ (h : Header) where
   -- the word belongs to the device context that DCBAA names for a slot, and the controller may write that
@@ -68,7 +54,3 @@ module _ (h live : Header) where
   made w (Other b) = until_halted h w (option_map (noting_post live) (posts.other_posted h w b))
   made w (Scribble a x) = while_running h w (scribbled h w a x)
   made w Halt = while_running h w (halts h w)
-
-  -- the world after a step; None where the step isn't possible
-  unfoldable pub stepped : World → Step → Option World
-  stepped w s = option_map (counted h) (made w s)

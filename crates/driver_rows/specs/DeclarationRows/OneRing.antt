@@ -9,7 +9,8 @@ use Rattle.segments.specs.RingView.{RingView, Declares, changed}
 use Rattle.segments.specs.Givings.{has_no_room}
 use Rattle.ring_knowledge.specs.declared.ring_record.RingRecord.{RingRecord}
 use Rattle.ring_knowledge.specs.RingRecords.{FollowsRing}
-use Rattle.ownership_rules.specs.Refusal.{Test, first_broken}
+use Rattle.ownership_rules.specs.Refusal.{Test}
+use Rattle.ownership_rules.specs.FirstBroken.{first_broken}
 use Rattle.ownership_rules.specs.declared.refusal.Refusal.TheVariants.{RingFull, BadDescriptor, NotInProfile}
 
 -- of the form of a descriptor, by a profile

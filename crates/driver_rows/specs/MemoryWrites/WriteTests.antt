@@ -14,7 +14,7 @@ use Rattle.ring_knowledge.specs.declared.ring_record.RingGiving.{RingGiving}
 use Rattle.ring_knowledge.specs.declared.ring_record.RingGiving.TheVariants.{Position, Crossing}
 use Rattle.ownership_rules.specs.Commands as commands
 use Rattle.ownership_rules.specs.Moves as moves
-use Rattle.ownership_rules.specs.Older.{has_busy_slot, has_left_out_endpoint, places_badly}
+use Rattle.ownership_rules.specs.ByVersion.{has_busy_slot, has_left_out_endpoint, places_badly}
 use Rattle.ownership_rules.specs.Refusal.{Test}
 use Rattle.ownership_rules.specs.declared.refusal.Refusal.TheVariants.{NotAsSubmitted, NotDeclared, NotWhole, LinkFault, BadCommand, Busy, NotInProfile, BadMove}
 

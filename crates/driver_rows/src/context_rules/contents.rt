@@ -1,7 +1,7 @@
 ghost use Rattle.std.specs.Prelude.{◌≡◌, ◌+◌, ◌%◌, ◌^◌, ◌<◌, ◌≤◌, ◌==◌, ◌&&◌, ◌||◌, not};
 ghost use Rattle.contexts.specs.Contexts.{has_flag, input_context_bytes};
 ghost use Rattle.commands.specs.States.{is_off};
-ghost use Rattle.traces.specs.Header.{IsHeader};
+ghost use Rattle.traces.specs.AllowedHeaders.{IsHeader};
 ghost use Rattle.ring_knowledge.specs.Known.{Known};
 ghost use Rattle.trace_record.specs.DeviceSlots.Devices.{FollowsDevices};
 ghost use Rattle.trace_record.specs.RingFinder.Finding.{IsFinder};

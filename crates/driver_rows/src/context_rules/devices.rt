@@ -1,7 +1,7 @@
 ghost use Rattle.std.specs.Prelude.{◌≡◌, ◌+◌, ◌%◌, ◌^◌, ◌≤◌, ◌==◌, ◌||◌, not, ℕ, None, IfSome};
 ghost use Rattle.guest_memory.specs.Memory.{long_at};
 ghost use Rattle.contexts.specs.Contexts.{slot_entry};
-ghost use Rattle.traces.specs.Header.{IsHeader};
+ghost use Rattle.traces.specs.AllowedHeaders.{IsHeader};
 ghost use Rattle.ring_knowledge.specs.Known.{Known};
 ghost use Rattle.ring_knowledge.specs.Writes.{entry_of};
 ghost use Rattle.trace_record.specs.RingFinder.Finding.{IsFinder};

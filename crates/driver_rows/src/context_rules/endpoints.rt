@@ -1,7 +1,7 @@
 ghost use Rattle.std.specs.Prelude.{◌≡◌, ◌+◌, ◌%◌, ◌^◌, ◌<◌, ◌≤◌, ◌&&◌, ◌||◌, ℕ, nat_lt, not};
 ghost use Rattle.contexts.specs.Contexts.{input_context_bytes, is_isochronous};
 ghost use Rattle.ring_knowledge.specs.Known.{Known};
-ghost use Rattle.ownership_rules.specs.Older.{has_left_out_endpoint};
+ghost use Rattle.ownership_rules.specs.ByVersion.{has_left_out_endpoint};
 ghost use Rattle.traces.specs.Versions.{is_lenient};
 ghost use Rattle.trace_record.specs.Premises.{FitsMemory};
 ghost use Rattle.driver_rows.specs.ContextRules.Contents.{adds_left_out, is_left_out_by, is_left_out_in};

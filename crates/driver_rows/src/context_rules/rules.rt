@@ -1,5 +1,5 @@
 ghost use Rattle.std.specs.Prelude.{◌≡◌, false, ℕ};
-ghost use Rattle.traces.specs.Header.{IsHeader};
+ghost use Rattle.traces.specs.AllowedHeaders.{IsHeader};
 ghost use Rattle.commands.specs.Command.{named_context, named_endpoint, named_slot};
 ghost use Rattle.ring_knowledge.specs.Known.{Known};
 ghost use Rattle.trace_record.specs.DeviceSlots.Devices.{FollowsDevices};

@@ -1,7 +1,7 @@
 ghost use Rattle.std.specs.Prelude.{◌≡◌, ◌<◌, ◌≤◌, Some, length, IfErr, IfNone, OnOk};
 ghost use Rattle.segments.specs.RingView.{RingView};
 ghost use Rattle.ring_knowledge.specs.RingRecords.{FollowsRing};
-ghost use Rattle.ownership_rules.specs.Refusal.{first_broken};
+ghost use Rattle.ownership_rules.specs.FirstBroken.{first_broken};
 ghost use Rattle.trace_record.specs.Steps.{IfRefused};
 ghost use Rattle.driver_rows.specs.DeclarationRows.OneRing.{IsDeclared, form_tests, room_tests};
 

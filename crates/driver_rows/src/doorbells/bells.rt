@@ -1,7 +1,7 @@
 //! A row of a doorbell: xHCI 4.7, 4.8.3, 5.6.
 ghost use Rattle.std.specs.Prelude.{◌≡◌, ◌==◌, ◌||◌, ◌<◌, not, ℕ, nat_lt, Option};
 ghost use Rattle.commands.specs.States.{is_running, is_stopped};
-ghost use Rattle.traces.specs.Header.{IsHeader};
+ghost use Rattle.traces.specs.AllowedHeaders.{IsHeader};
 ghost use Rattle.traces.specs.declared.header.Header.{Header as HeaderValue};
 ghost use Rattle.traces.specs.declared.row.Row.TheVariants.{Bell};
 ghost use Rattle.ring_knowledge.specs.Known.{Known};

@@ -1,7 +1,7 @@
 //! The rings of endpoints and their records.
 ghost use Rattle.std.specs.Prelude.{◌≡◌, ◌<◌, ℕ, List, None, Some, length, slice_get, IfSome};
 ghost use Rattle.segments.specs.RingView.{Opens};
-ghost use Rattle.traces.specs.Header.{IsHeader};
+ghost use Rattle.traces.specs.AllowedHeaders.{IsHeader};
 ghost use Rattle.traces.specs.declared.header.Header.{Header as HeaderValue};
 ghost use Rattle.traces.specs.declared.ring.Ring.{Ring as RingValue};
 ghost use Rattle.ring_knowledge.specs.Known.{Known};

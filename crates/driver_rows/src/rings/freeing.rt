@@ -1,5 +1,6 @@
 ghost use Rattle.std.specs.Prelude.{◌≡◌, ◌<◌, ◌&&◌, ◌||◌, ℕ, true, false, not, length, IfNone, IfSome};
-ghost use Rattle.traces.specs.Header.{IsHeader, is_transfer_kind, ring_with};
+ghost use Rattle.traces.specs.Header.{is_transfer_kind, ring_with};
+ghost use Rattle.traces.specs.AllowedHeaders.{IsHeader};
 ghost use Rattle.traces.specs.Versions.{has_runs};
 ghost use Rattle.traces.specs.declared.header.Header.{Header as HeaderValue};
 ghost use Rattle.trb.specs.declared.ring_kind.RingKind.TheVariants.{Xfer};

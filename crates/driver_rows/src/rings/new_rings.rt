@@ -1,6 +1,7 @@
 ghost use Rattle.std.specs.Prelude.{◌≡◌, ◌+◌, ◌*◌, ◌%◌, ◌^◌, ◌≤◌, false, is_some};
 ghost use Rattle.segments.specs.Shape.{IsShape};
-ghost use Rattle.traces.specs.Header.{IsHeader, ring_with, touches_ring};
+ghost use Rattle.traces.specs.Header.{ring_with, touches_ring};
+ghost use Rattle.traces.specs.AllowedHeaders.{IsHeader};
 ghost use Rattle.ring_knowledge.specs.Known.{Known};
 ghost use Rattle.trace_record.specs.RingFinder.Finding.{IsFinder};
 ghost use Rattle.trace_record.specs.FollowsTrace.{FollowsTrace};

@@ -1,6 +1,6 @@
 //! The ring that a row starts or moves, and writes that flip the Cycle bit of what is free (xHCI 4.6.9, 4.6.10, 4.7).
 ghost use Rattle.std.specs.Prelude.{◌≡◌, ℕ};
-ghost use Rattle.traces.specs.Header.{IsHeader};
+ghost use Rattle.traces.specs.AllowedHeaders.{IsHeader};
 ghost use Rattle.traces.specs.declared.header.Header.{Header as HeaderValue};
 ghost use Rattle.ring_knowledge.specs.Known.{Known};
 ghost use Rattle.ring_knowledge.specs.Writes.{command_given};

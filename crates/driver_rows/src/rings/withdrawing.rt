@@ -2,7 +2,7 @@ ghost use Rattle.std.specs.Prelude.{◌≡◌, ◌≤◌, ◌⊎◌, ℕ, true, 
 ghost use Rattle.segments.specs.Ceiling.{ceiling};
 ghost use Rattle.segments.specs.RingView.{RingView, changed, floor_number, Withdraws as WithdrawsAt};
 ghost use Rattle.segments.specs.ShapeValue.{Shape};
-ghost use Rattle.traces.specs.Header.{IsHeader};
+ghost use Rattle.traces.specs.AllowedHeaders.{IsHeader};
 ghost use Rattle.traces.specs.declared.row.Row.TheVariants.{Nop as NopRow};
 ghost use Rattle.ring_knowledge.specs.Known.{Known};
 ghost use Rattle.ring_knowledge.specs.RingRecords.{FollowsRing};
@@ -13,7 +13,8 @@ ghost use Rattle.trace_record.specs.Premises.{ContextsFit};
 ghost use Rattle.trace_record.specs.Steps.{IfRefused};
 ghost use Rattle.ownership_rules.specs.declared.refusal.Refusal.TheVariants.{BadWithdraw};
 ghost use Rattle.driver_rows.specs.RingRows.RingSteps.{IsRingStep};
-ghost use Rattle.ownership_rules.specs.Withdrawals.{is_no_descriptor, is_passed, withdraws_badly};
+ghost use Rattle.ownership_rules.specs.Withdrawals.{is_passed};
+ghost use Rattle.ownership_rules.specs.BadWithdrawals.{is_no_descriptor, withdraws_badly};
 
 use crate::rings::stopped::stopped_ring;
 use guest_memory::WordMemory;

@@ -1,11 +1,11 @@
 ghost use Rattle.std.specs.Prelude.{◌≡◌, ◌||◌, ℕ, List, [], ◌∷◌, false, None, IfSome, OnOk};
 ghost use Rattle.commands.specs.declared.command.Command.{Command as CommandValue};
-ghost use Rattle.traces.specs.Header.{IsHeader};
+ghost use Rattle.traces.specs.AllowedHeaders.{IsHeader};
 ghost use Rattle.traces.specs.declared.row.Row.TheVariants.{Write};
 ghost use Rattle.ring_knowledge.specs.Known.{Known};
 ghost use Rattle.ring_knowledge.specs.Learned.{learned};
 ghost use Rattle.ring_knowledge.specs.Writes.{command_given};
-ghost use Rattle.ownership_rules.specs.Rules.{lenient};
+ghost use Rattle.ownership_rules.specs.LenientRules.{lenient};
 ghost use Rattle.trace_record.specs.RingFinder.Finding.{IsFinder};
 ghost use Rattle.safety.specs.Keeps.{DriverKeeps};
 ghost use Rattle.trace_record.specs.DeviceSlots.Unfinished.{FollowsUnfinished};

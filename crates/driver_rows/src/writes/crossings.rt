@@ -5,7 +5,7 @@ ghost use Rattle.trb.specs.Block.{word};
 ghost use Rattle.trb.specs.Kind.{is_link};
 ghost use Rattle.segments.specs.Places.{links};
 ghost use Rattle.segments.specs.Givings.{is_wrong_link, link_of, same};
-ghost use Rattle.ownership_rules.specs.Refusal.{first_broken};
+ghost use Rattle.ownership_rules.specs.FirstBroken.{first_broken};
 ghost use Rattle.driver_rows.specs.MemoryWrites.WriteTests.{IsDriver, crossing_tests};
 
 use crate::writes::blocks::block_after;

@@ -2,14 +2,15 @@
 ghost use Rattle.std.specs.Prelude.{◌≡◌, ◌&&◌, ℕ, not, if◌then◌else◌, None, IfNone, IfSome};
 ghost use Rattle.trb.specs.declared.ring_kind.RingKind.{RingKind};
 ghost use Rattle.segments.specs.RingView.{RingView};
-ghost use Rattle.traces.specs.Header.{IsHeader, is_command_kind};
+ghost use Rattle.traces.specs.Header.{is_command_kind};
+ghost use Rattle.traces.specs.AllowedHeaders.{IsHeader};
 ghost use Rattle.ring_knowledge.specs.Known.{Known};
 ghost use Rattle.ring_knowledge.specs.RingRecords.{positions_of};
 ghost use Rattle.trace_record.specs.RingFinder.Finding.{IsFinder};
 ghost use Rattle.traces.specs.Versions.{is_lenient};
 ghost use Rattle.ownership_rules.specs.Moves.{binds_again};
-ghost use Rattle.ownership_rules.specs.Older.{has_busy_slot, places_badly};
-ghost use Rattle.ownership_rules.specs.Refusal.{first_broken};
+ghost use Rattle.ownership_rules.specs.ByVersion.{has_busy_slot, places_badly};
+ghost use Rattle.ownership_rules.specs.FirstBroken.{first_broken};
 ghost use Rattle.safety.specs.Keeps.{DriverKeeps};
 ghost use Rattle.trace_record.specs.FollowsTrace.{FollowsTrace};
 ghost use Rattle.trace_record.specs.Premises.{ContextsFit, FitsMemory};

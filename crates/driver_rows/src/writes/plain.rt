@@ -1,9 +1,9 @@
 //! A write that gives nothing of any ring, as most writes.
 ghost use Rattle.std.specs.Prelude.{◌≡◌, ℕ, false, None, IfSome, IfNone};
-ghost use Rattle.traces.specs.Header.{IsHeader};
+ghost use Rattle.traces.specs.AllowedHeaders.{IsHeader};
 ghost use Rattle.traces.specs.declared.row.Row.TheVariants.{Write};
 ghost use Rattle.ring_knowledge.specs.Known.{Known};
-ghost use Rattle.ownership_rules.specs.Older.{writes_to_owned};
+ghost use Rattle.ownership_rules.specs.ByVersion.{writes_to_owned};
 ghost use Rattle.safety.specs.Keeps.{DriverKeeps};
 ghost use Rattle.trace_record.specs.declared.trace_record.TraceRecord.{TraceRecord};
 ghost use Rattle.trace_record.specs.FollowsTrace.{FollowsTrace};

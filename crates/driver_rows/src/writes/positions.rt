@@ -4,7 +4,7 @@ ghost use Rattle.trb.specs.Block.{same_words};
 ghost use Rattle.segments.specs.RingView.{RingView, floor_number};
 ghost use Rattle.segments.specs.Shape.{IsShape};
 ghost use Rattle.ring_knowledge.specs.RingRecords.{FollowsRing};
-ghost use Rattle.ownership_rules.specs.Refusal.{first_broken};
+ghost use Rattle.ownership_rules.specs.FirstBroken.{first_broken};
 ghost use Rattle.driver_rows.specs.MemoryWrites.WriteTests.{position_tests};
 
 use crate::writes::blocks::block_after;

@@ -1,7 +1,7 @@
 //! Which Command Completion Events no controller can have posted (xHCI 4.6, 4.5.3, 4.8.3).
 ghost use Rattle.std.specs.Prelude.{◌≡◌, ℕ};
 ghost use Rattle.segments.specs.RingView.{RingView, floor_number};
-ghost use Rattle.traces.specs.Header.{IsHeader};
+ghost use Rattle.traces.specs.AllowedHeaders.{IsHeader};
 ghost use Rattle.ring_knowledge.specs.Known.{Known};
 ghost use Rattle.ring_knowledge.specs.RegisterRecords.{FollowsRegisters};
 ghost use Rattle.ring_knowledge.specs.RingRecords.{FollowsRing};

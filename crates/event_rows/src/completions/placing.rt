@@ -3,7 +3,7 @@ ghost use Rattle.std.specs.Prelude.{◌≡◌, ◌+◌, ◌<◌, ◌≤◌};
 ghost use Rattle.commands.specs.declared.command.Command.{Command};
 ghost use Rattle.commands.specs.declared.state.EndpointState.TheVariants.{Stopped};
 ghost use Rattle.commands.specs.Changes.{Places, placed_by_context};
-ghost use Rattle.traces.specs.Header.{IsHeader};
+ghost use Rattle.traces.specs.AllowedHeaders.{IsHeader};
 ghost use Rattle.world_state.specs.PlacingCommands.{places_from};
 ghost use Rattle.ring_knowledge.specs.Completions.{changed_by, changed_by_all};
 ghost use Rattle.ring_knowledge.specs.Known.{Known};

@@ -4,7 +4,7 @@ ghost use Rattle.contexts.specs.Contexts.{input_context_bytes};
 ghost use Rattle.commands.specs.declared.command.Command.{Command as CommandValue};
 ghost use Rattle.commands.specs.Changes.{DeviceLeft, Disables, SlotGoesOn, Stops, changes, is_above_control};
 ghost use Rattle.traces.specs.declared.header.Header.{Header as HeaderValue};
-ghost use Rattle.traces.specs.Header.{IsHeader};
+ghost use Rattle.traces.specs.AllowedHeaders.{IsHeader};
 ghost use Rattle.world_state.specs.PlacingCommands.{HasRoom, IsWell};
 ghost use Rattle.ring_knowledge.specs.Completions.{changed_by, changed_by_all, succeeded};
 ghost use Rattle.ring_knowledge.specs.Known.{Known};

@@ -10,7 +10,8 @@ ghost use Rattle.segments.specs.Ceiling.{ceiling, is_data_below, is_open, is_sto
 ghost use Rattle.segments.specs.RingView.{RingView, floor_number};
 ghost use Rattle.commands.specs.Command.{command_of, is_stop_of};
 ghost use Rattle.commands.specs.States.{is_off, is_running};
-ghost use Rattle.traces.specs.Header.{IsHeader, shape_of};
+ghost use Rattle.traces.specs.Header.{shape_of};
+ghost use Rattle.traces.specs.AllowedHeaders.{IsHeader};
 ghost use Rattle.traces.specs.declared.header.Header.{Header as HeaderValue};
 ghost use Rattle.ring_knowledge.specs.Known.{Known};
 ghost use Rattle.ring_knowledge.specs.Transfers.{transfer_read, transferred};

@@ -1,7 +1,7 @@
 //! The spot of a ring that a Transfer Event names: xHCI 4.9.2, 6.4.2.1.
 ghost use Rattle.std.specs.Prelude.{◌≡◌, ◌<◌, ◌^◌, ℕ, length, IfSome};
 ghost use Rattle.segments.specs.Spots.{number};
-ghost use Rattle.traces.specs.Header.{IsHeader};
+ghost use Rattle.traces.specs.AllowedHeaders.{IsHeader};
 ghost use Rattle.ring_knowledge.specs.Known.{Known};
 ghost use Rattle.safety.specs.Keeps.{DriverKeeps};
 ghost use Rattle.trace_record.specs.RingFinder.Finding.{IsFinder};

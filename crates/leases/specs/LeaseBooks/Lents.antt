@@ -10,7 +10,7 @@ use Rattle.traces.specs.Header.{shape_of}
 use Rattle.ring_knowledge.specs.declared.lease.Lease.{Lease}
 use Rattle.ring_knowledge.specs.Known.{Known}
 use Rattle.ring_knowledge.specs.Histories.{header_now, known_now}
-use Rattle.ring_knowledge.specs.Resets.{learned_or_reset}
+use Rattle.ring_knowledge.specs.LearnedOrReset.{learned_or_reset}
 use Rattle.ownership_rules.specs.OpenLeases.{Leased, Block, Link, Range, is_among, open_leases}
 use Rattle.ownership_rules.specs.Leases.{as_lease, comes_before, without_end}
 

@@ -4,7 +4,7 @@ use Rattle.traces.specs.declared.header.Header.{Header}
 use Rattle.traces.specs.declared.row.Row.{Row}
 use Rattle.traces.specs.declared.row.Row.TheVariants.{Write, Read}
 use Rattle.ring_knowledge.specs.Known.{Known}
-use Rattle.ownership_rules.specs.Rules.{lenient}
+use Rattle.ownership_rules.specs.LenientRules.{lenient}
 use Rattle.leases.specs.LeaseBooks.InStep.{IsInStep}
 use Rattle.leases.specs.declared.book.ranges.RangeIndexes.{RangeIndexes}
 use Rattle.leases.specs.LeaseBooks.Lents.{Lent}

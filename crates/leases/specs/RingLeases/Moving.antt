@@ -5,7 +5,8 @@ use Rattle.segments.specs.RingView.{positions_given}
 use Rattle.traces.specs.declared.header.Header.{Header}
 use Rattle.traces.specs.declared.ring.Ring.{Ring}
 use Rattle.traces.specs.declared.row.Row.TheVariants.{Write}
-use Rattle.traces.specs.Header.{IsHeader, command_id, is_driver_kind, is_transfer_kind, ring_with, shape_of}
+use Rattle.traces.specs.Header.{command_id, is_driver_kind, is_transfer_kind, ring_with, shape_of}
+use Rattle.traces.specs.AllowedHeaders.{IsHeader}
 use Rattle.ring_knowledge.specs.Known.{Known}
 use Rattle.leases.specs.LeaseBooks.InStep.{AreOpen, FreeWasGiven}
 use Rattle.leases.specs.LeaseBooks.Lents.{Lent}

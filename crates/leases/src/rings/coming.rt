@@ -1,6 +1,6 @@
 //! Rings that come (xHCI 4.9).
 ghost use Rattle.std.specs.Prelude.{◌≡◌, ℕ, List, OnOk};
-ghost use Rattle.traces.specs.Header.{IsHeader};
+ghost use Rattle.traces.specs.AllowedHeaders.{IsHeader};
 ghost use Rattle.traces.specs.LivingRings.{with_ring};
 ghost use Rattle.traces.specs.Rows.{IsComing};
 ghost use Rattle.traces.specs.declared.header.Header.{Header};

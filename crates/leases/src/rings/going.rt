@@ -1,6 +1,7 @@
 //! Rings that go (xHCI 4.9).
 ghost use Rattle.std.specs.Prelude.{◌≡◌, ◌<◌, ℕ, List, map, OnOk};
-ghost use Rattle.traces.specs.Header.{IsHeader, shape_of};
+ghost use Rattle.traces.specs.Header.{shape_of};
+ghost use Rattle.traces.specs.AllowedHeaders.{IsHeader};
 ghost use Rattle.traces.specs.LivingRings.{without_ring};
 ghost use Rattle.traces.specs.declared.header.Header.{Header};
 ghost use Rattle.traces.specs.declared.row.Row.TheVariants.{Free as FreeRow};

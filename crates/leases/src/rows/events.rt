@@ -6,7 +6,7 @@ ghost use Rattle.trb.specs.declared.kind.BlockKind.TheVariants.{CommandCompletio
 ghost use Rattle.trb.specs.Block.{kind};
 ghost use Rattle.trb.specs.Kind.{is_transfer_event};
 ghost use Rattle.segments.specs.Spots.{number};
-ghost use Rattle.traces.specs.Header.{IsHeader};
+ghost use Rattle.traces.specs.AllowedHeaders.{IsHeader};
 ghost use Rattle.traces.specs.declared.row.Row.TheVariants.{Read};
 ghost use Rattle.leases.specs.LeaseBooks.Coming.{come_to};
 ghost use Rattle.leases.specs.declared.book.ranges.RangeIndexes.{RangeIndexes};

@@ -1,7 +1,8 @@
 //! What the completion of a command leaves behind: ranges, and the blocks and Links of a ring that it moves (xHCI 4.6.4, 4.6.10).
 ghost use Rattle.ring_knowledge.specs.declared.lease.Lease.{Lease};
 ghost use Rattle.std.specs.Prelude.{◌≡◌, ◌==◌, ℕ, Bool, List, Some, map};
-ghost use Rattle.traces.specs.Header.{IsHeader, command_id, shape_of};
+ghost use Rattle.traces.specs.Header.{command_id, shape_of};
+ghost use Rattle.traces.specs.AllowedHeaders.{IsHeader};
 ghost use Rattle.ring_knowledge.specs.Known.{Known};
 ghost use Rattle.ownership_rules.specs.OpenLeases.{is_among, range_of_command};
 ghost use Rattle.leases.specs.LeaseBooks.Lents.{Lent, ended_where};

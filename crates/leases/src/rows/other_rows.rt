@@ -1,7 +1,7 @@
 //! Declarations, doorbells and registers: a lease begins with the first write of ERSTBA (xHCI 5.5.2.3.2, 6.5), and some end with a reset.
 ghost use Rattle.ring_knowledge.specs.declared.lease.Lease.{Lease};
 ghost use Rattle.std.specs.Prelude.{◌≡◌, ℕ, List, OnOk};
-ghost use Rattle.traces.specs.Header.{IsHeader};
+ghost use Rattle.traces.specs.AllowedHeaders.{IsHeader};
 ghost use Rattle.traces.specs.declared.register.Register.TheVariants.{Erstba, Usbcmd};
 ghost use Rattle.traces.specs.declared.row.Row.TheVariants.{Reg};
 ghost use Rattle.ring_knowledge.specs.Known.{Known};

@@ -1,6 +1,6 @@
 //! A reset of the controller: what it had of slots, of its segment table and of the Command Ring is let go (xHCI 4.2, 5.4.1).
 ghost use Rattle.std.specs.Prelude.{◌≡◌, ℕ, List, map, true};
-ghost use Rattle.traces.specs.Header.{IsHeader};
+ghost use Rattle.traces.specs.AllowedHeaders.{IsHeader};
 ghost use Rattle.traces.specs.declared.register.Register.TheVariants.{Erstba, Usbcmd};
 ghost use Rattle.traces.specs.declared.row.Row.TheVariants.{Reg};
 ghost use Rattle.ring_knowledge.specs.Known.{Known};

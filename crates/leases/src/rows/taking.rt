@@ -5,7 +5,8 @@ ghost use Rattle.std.specs.Prelude.{◌≡◌, ◌+◌, ◌%◌, ◌^◌, ◌≤
 ghost use Rattle.guest_memory.specs.Memory.{long_at};
 ghost use Rattle.contexts.specs.Contexts.{device_context_bytes, input_context_bytes};
 ghost use Rattle.event_ring.specs.EventRing.{table_bytes};
-ghost use Rattle.traces.specs.Header.{IsHeader, command_id, event_shape, shape_of};
+ghost use Rattle.traces.specs.Header.{command_id, event_shape, shape_of};
+ghost use Rattle.traces.specs.AllowedHeaders.{IsHeader};
 ghost use Rattle.ring_knowledge.specs.Known.{Known};
 ghost use Rattle.ring_knowledge.specs.RegisterRecords.{FollowsRegisters};
 ghost use Rattle.ring_knowledge.specs.Writes.{entry_of, taken_device};

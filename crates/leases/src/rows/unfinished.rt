@@ -1,7 +1,8 @@
 //! The input contexts of unfinished commands: their leases end with the Command Ring, and with a reset (xHCI 4.2, 4.6).
 ghost use Rattle.std.specs.Prelude.{◌≡◌, ◌≤◌, ℕ, List, map};
 ghost use Rattle.segments.specs.RingView.{floor_number};
-ghost use Rattle.traces.specs.Header.{IsHeader, command_id, shape_of};
+ghost use Rattle.traces.specs.Header.{command_id, shape_of};
+ghost use Rattle.traces.specs.AllowedHeaders.{IsHeader};
 ghost use Rattle.ring_knowledge.specs.Known.{Known};
 ghost use Rattle.ring_knowledge.specs.RingRecords.{FollowsRing};
 ghost use Rattle.ring_knowledge.specs.Rings.{command_at};

@@ -1,7 +1,7 @@
 //! Writes of memory: what they give comes under lease (xHCI 4.9.2, 4.6.5).
 ghost use Rattle.ring_knowledge.specs.declared.lease.Lease.{Lease};
 ghost use Rattle.std.specs.Prelude.{◌≡◌, ℕ, List, OnOk};
-ghost use Rattle.traces.specs.Header.{IsHeader};
+ghost use Rattle.traces.specs.AllowedHeaders.{IsHeader};
 ghost use Rattle.traces.specs.declared.row.Row.TheVariants.{Write};
 ghost use Rattle.ring_knowledge.specs.Known.{Known};
 ghost use Rattle.trace_record.specs.RowPlaces.{IsPlacedSo};

@@ -64,8 +64,9 @@ module _ {B M : Type 0} (words : M → ℕ → ℕ) (holds : List Lease → Head
           ap (trace_verdict h first) (sym whole) ∙ row_refused h first (reverse (take i rows)) (drop (i + 1) rows) row c p.passed.clean (so h (reverse (take i rows)) p.passed)
           ∙ ap (λ n. Some (n, c)) (sym number_so)
 
-    pub ended : i ≡ length rows → All IsTraceRow rows → IsBehindAll words holds h first rows log pass
-    ended all are =
+    pub ended : i ≡ length rows → first + length rows ≤ most_streamed_lines + 1 → All IsTraceRow rows → IsBehindAll words holds h first rows log pass
+    unfolding without_end
+    ended all within are =
         let whole : take i rows ≡ rows = ap (λ n. take n rows) all ∙ all_taken rows in
         let passed = subst (λ (xs : List Row). IsRingPassed words h (reverse xs) pass) whole p.passed in
         let fit = all_reversed rows (All-weaker IsTraceRow IsRow fits rows are) in
@@ -73,6 +74,7 @@ module _ {B M : Type 0} (words : M → ℕ → ℕ) (holds : List Lease → Head
           verdict = ap (trace_verdict h first) (sym (reversed_twice rows)) ∙ none_refused h first (reverse rows) passed.clean;
           walk = rw (reversed_twice rows) at (walks h passed.opening (reverse rows) fit passed.clean);
           harmless = rw (reversed_twice rows) at (no_harm words h (reverse rows) pass passed fit);
+          room = omega (arith, within);
           passed = passed;
           logged = λ list kept. subst (λ (xs : List Row). IsRingLogged (holds list) h first (reverse xs) pass) whole (p.logged list kept);
         }

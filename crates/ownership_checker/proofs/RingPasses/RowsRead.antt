@@ -1,5 +1,5 @@
 -- How far the rows of a trace were read and passed, between which rings come and go, and what that says of the whole text
-use Rattle.ownership_checker.proofs.LowerLaws.{◌≡◌, ℕ, Bool, ◌+◌, ◌-◌, ◌<◌, List, [], ◌∷◌, ◌++◌, ◌∙◌, true, false, Option, Some, None, Result, Ok, Err, All, refl, ap, sym, subst, arith, length, append-nil, append_assoc, add-zero, reverse, All-cons, All-nil, most_streamed_lines, Header, Row, LineFault, trace_of, RowReader, StreamFault, Line, ahead_of, IsCall, has_ended, IsOpened, IsSameTrace, progress_of, HasRead, IfBadLine, IsBadLine, OfStream, Lease, Refusal, without_end, Lent, lents, IsRow, header_now, known_now, IsLeastOfRow, DoNoHarm, IsRingLogged, IsRingPassed, Begins, IsWholeLog, OfTrace, with_rows, trace_verdict, RingPass, end_read, line_read_bad, opened_read, row_numbered, row_read, StepFault, RefusedBy, IfRefused, row_fits, none_refused, one_more, reversed_more, reversed_twice, row_refused, rules, EndsAt, IsToldBad, IsToldTo, bad_followed, opened_told, refused_followed, row_followed}
+use Rattle.ownership_checker.proofs.LowerLaws.{◌≡◌, ℕ, Bool, ◌+◌, ◌-◌, ◌<◌, ◌≤◌, List, [], ◌∷◌, ◌++◌, ◌∙◌, true, false, Option, Some, None, Result, Ok, Err, All, refl, ap, sym, subst, arith, length, append-nil, append_assoc, add-zero, common_steps, reverse, All-cons, All-nil, most_streamed_lines, Header, Row, LineFault, trace_of, RowReader, StreamFault, Line, ahead_of, IsCall, has_ended, IsOpened, IsSameTrace, progress_of, HasRead, IfBadLine, IsBadLine, OfStream, Lease, Refusal, without_end, Lent, lents, IsRow, header_now, known_now, IsLeastOfRow, DoNoHarm, IsRingLogged, IsRingPassed, Begins, IsWholeLog, OfTrace, with_rows, trace_verdict, RingPass, end_read, line_read_bad, opened_read, row_numbered, row_read, StepFault, RefusedBy, IfRefused, row_fits, none_refused, one_more, reversed_more, reversed_twice, row_refused, rules, EndsAt, IsToldBad, IsToldTo, bad_followed, opened_told, refused_followed, row_followed}
 use Rattle.ownership_checker.proofs.RingPasses.Walks.{walks}
 
 -- a call between two readers answered so
@@ -127,6 +127,10 @@ module _ {B M : Type 0} {words : M → ℕ → ℕ} {holds : List Lease → Head
     )
     bad_so held'' r' _ headed over call = search rules
 
+    room_left : start.lines + 1 + length (reverse u.past) ≤ without_end
+    unfolding without_end
+    room_left = let n : length (reverse u.past) ≡ length u.past = grind (arith, common_steps) in omega (arith, n, u.numbered, r.within)
+
     -- no row is left
     pub whole_so : {held'' : Option (List ℕ)} {r' : RowReader} → IsOver held' held'' r r' → (r.ended ≡ true → held'' ≡ held') →
         (kept : B) → ((h : Header) (past : List Row) → IsRingPassed words h past pass → All IsRow past → DoNoHarm h (reverse past)) →
@@ -141,6 +145,7 @@ module _ {B M : Type 0} {words : M → ℕ → ℕ} {holds : List Lease → Head
             verdict = none_refused start.header first u.past u.passed.clean;
             walk = walks start.header u.passed.opening u.past u.fitting u.passed.clean;
             harmless = harmless start.header u.past u.passed u.fitting;
+            room = room_left;
             kept = rw (reversed_twice u.past) (logs list start.header first u.past (u.logged list begins));
           },
         )

@@ -1,21 +1,17 @@
 -- What an accepted trace is, between the rows of which rings may come and go, and descriptors be withdrawn
-use Rattle.std.specs.Prelude.{◌≡◌, ◌≤◌, ℕ, Bool, true, false, List, None, length, map, reverse, take}
+use Rattle.std.specs.Prelude.{◌≡◌, ◌≤◌, ℕ, Bool, true, false, List, None, length, reverse, take}
 use Rattle.segments.specs.RingKeeps.{IsRestored}
 use Rattle.segments.specs.Walk.{WalkReads}
 use Rattle.traces.specs.declared.header.Header.{Header}
 use Rattle.traces.specs.declared.row.Row.{Row}
 use Rattle.traces.specs.Header.{shape_of}
-use Rattle.trace_reader.specs.Reading.{TraceText}
+use Rattle.trace_reader.specs.TraceOfText.{TraceText}
 use Rattle.ring_knowledge.specs.declared.lease.Lease.{Lease}
-use Rattle.safety.specs.RingsKeep.{IsDriverRing}
-use Rattle.leases.specs.LeaseBooks.Lents.{lease_of, lents}
+use Rattle.safety.specs.DriverRings.{IsDriverRing}
 use Rattle.ring_knowledge.specs.Histories.{header_now, known_now}
 use Rattle.safety.specs.Harmless.{DoNoHarm}
+use Rattle.ownership_rules.specs.Leases.{leases as leases_of}
 use Rattle.ownership_rules.specs.Rules.{trace_verdict}
-
--- the leases of the rows, as they begin: by their first row, then kind, ring and position; first is the number of the first row
-abbrev pub leases_of : Header → ℕ → List Row → List Lease
-leases_of h first rows = map lease_of (lents h first (reverse rows))
 
 -- behind any number of rows, of each command and transfer ring that is there then, and of which nothing that was withdrawn is the driver's still:
 -- the walk through memory from the floor's spot reads whole descriptors as they were declared, up to one border, and waits there; it reads no

@@ -3,7 +3,7 @@ use Rattle.std.specs.Prelude.{◌≡◌, ℕ, false, List, length}
 use Rattle.segments.specs.RingKeeps.{IsRestored}
 use Rattle.traces.specs.declared.header.Header.{Header}
 use Rattle.traces.specs.declared.row.Row.{Row}
-use Rattle.traces.specs.Header.{IsHeader}
+use Rattle.traces.specs.AllowedHeaders.{IsHeader}
 use Rattle.ring_knowledge.specs.Known.{Known}
 use Rattle.trace_record.specs.RingFinder.Finding.{IsFinder}
 use Rattle.ring_knowledge.specs.Histories.{header_now, known_now}

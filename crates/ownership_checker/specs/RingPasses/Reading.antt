@@ -1,8 +1,9 @@
 -- What a pass over the rows of a trace comes to, between which rings come and go, and descriptors are withdrawn
-use Rattle.std.specs.Prelude.{◌≡◌, ℕ, Bool, List, [], Option, None, Ok, reverse}
+use Rattle.std.specs.Prelude.{◌≡◌, ◌≤◌, ℕ, ◌+◌, Bool, List, [], Option, None, Ok, length, reverse}
 use Rattle.traces.specs.declared.header.Header.{Header}
 use Rattle.traces.specs.declared.row.Row.{Row}
-use Rattle.trace_reader.specs.Reading.{TraceText, trace_of}
+use Rattle.trace_reader.specs.Reading.{trace_of}
+use Rattle.trace_reader.specs.TraceOfText.{TraceText}
 use Rattle.trace_reader.specs.Streaming.Streams.{OfStream}
 use Rattle.trace_reader.specs.declared.row_reader.reader.RowReader.{RowReader}
 use Rattle.ownership_rules.specs.declared.refusal.Refusal.{Refusal}
@@ -10,6 +11,7 @@ use Rattle.leases.specs.LeaseBooks.Lents.{Lent, lents}
 use Rattle.ring_knowledge.specs.Histories.{header_now}
 use Rattle.ownership_checker.specs.RingPasses.Accepted.{WalksRead}
 use Rattle.safety.specs.Harmless.{DoNoHarm}
+use Rattle.ownership_rules.specs.Leases.{without_end}
 use Rattle.ownership_rules.specs.Rules.{trace_verdict}
 use Rattle.ownership_checker.specs.declared.pass.reading.Passed.{Passed}
 use Rattle.ownership_checker.specs.declared.pass.reading.Passed.TheVariants.{Whole, Refused}
@@ -22,12 +24,13 @@ OfTrace keeps held held' P = (trace : TraceText) × OfStream held held' (λ text
 abbrev pub Begins : {B : Type 0} → (Header → List Lent → B → Type 0) → RowReader → B → Type 0
 Begins Holds reader log = (first : ℕ) → Holds reader.header (lents reader.header first []) log
 
--- no row of the trace breaks a rule, a walk behind any of them reads what was declared, no run beside them does harm, and the log keeps their
--- leases
+-- no row of the trace breaks a rule, a walk behind any of them reads what was declared, no run beside them does harm, no row has the number of
+-- none, and the log keeps their leases
 pub record IsWholeLog {B : Type 0} (Holds : Header → List Lent → B → Type 0) (trace : TraceText) (log : B) : Type 0 where
   pub verdict : trace_verdict trace.header trace.first trace.rows ≡ None
   pub walk : WalksRead trace.header trace.rows
   pub harmless : DoNoHarm trace.header trace.rows
+  pub room : trace.first + length trace.rows ≤ without_end
   pub kept : Holds (header_now trace.header (reverse trace.rows)) (lents trace.header trace.first (reverse trace.rows)) log
 
 -- a trace that was passed whole

@@ -1,6 +1,6 @@
 //! A pass over rows between which rings come and go, and descriptors are withdrawn.
 ghost use Rattle.std.specs.Prelude.{◌≡◌, ◌+◌, ◌<◌, ◌≤◌, ℕ, true, false, [], ◌∷◌, List, All, length, reverse, IfErr, IfOk, OnOk};
-ghost use Rattle.traces.specs.Header.{IsHeader};
+ghost use Rattle.traces.specs.AllowedHeaders.{IsHeader};
 ghost use Rattle.traces.specs.Limits.{most_streamed_lines};
 ghost use Rattle.traces.specs.declared.header.Header.{Header};
 ghost use Rattle.traces.specs.declared.row.Row.TheVariants.{Read, Ring as RingRow, Free as FreeRow};

@@ -1,6 +1,6 @@
 -- A run whose worlds are all safe is replayed without harm
 use Rattle.replayer.proofs.Words.{append-nil, ◌≡◌, ℕ, ◌+◌, List, [], ◌∷◌, Option, Some, refl, sym, ◌∙◌, ap, subst, arith, ◌++◌, reverse, option_and_then, All, common_steps, All-cons, All-head, All-nil, All-tail, Header, Step, Row, NoHarm, judged, Scene, scene_before, scene_ending_from, scene_reached, scene_replayed, step_made, ContainsAll, DoNoHarm}
-use Rattle.traces.specs.Rows.{IsStep}
+use Rattle.traces.specs.Steps.{IsStep}
 
 pub turned : (s : Step) (steps past : List Step) → reverse (s ∷ steps) ++ past ≡ reverse steps ++ s ∷ past
 turned s steps past = grind (arith, common_steps)

@@ -2,7 +2,7 @@
 use Rattle.std.specs.Prelude.{List, [], ◌∷◌}
 use Rattle.traces.specs.declared.header.Header.{Header}
 use Rattle.traces.specs.declared.row.Row.{Row}
-use Rattle.traces.specs.Header.{IsHeader}
+use Rattle.traces.specs.AllowedHeaders.{IsHeader}
 use Rattle.traces.specs.LivingRings.{header_after}
 
 abbrev pub KeepHeaders : Header → List Row → Type 0

@@ -7,7 +7,7 @@ use Rattle.traces.specs.declared.row.Row.{Row}
 use Rattle.traces.specs.declared.row.Row.TheVariants.{Read}
 use Rattle.ring_knowledge.specs.Known.{Known}
 use Rattle.ring_knowledge.specs.Histories.{known_after}
-use Rattle.ownership_rules.specs.Rules.{lenient}
+use Rattle.ownership_rules.specs.LenientRules.{lenient}
 use Rattle.safety.specs.Keeps.{IsTransferRing}
 use Rattle.replayer.specs.declared.lazy_steps.note.Note.{Note}
 use Rattle.replayer.specs.LazySteps.Notes.{floor_note, row_notes}

@@ -8,7 +8,7 @@ use Rattle.world_state.specs.declared.harm.Harm.{Harm}
 use Rattle.world_state.specs.Harms.{harm_of}
 use Rattle.world_state.specs.Scenes.{Scene, scene_reached}
 use Rattle.controller_model.specs.Showing.{scene_replayed}
-use Rattle.world_state.specs.Steps.{Harmful}
+use Rattle.world_state.specs.Replays.{Harmful}
 
 abbrev pub makes_row : Step → Bool
 makes_row NextRow = true

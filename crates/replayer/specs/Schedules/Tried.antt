@@ -7,7 +7,7 @@ use Rattle.traces.specs.declared.step.Step.{Step}
 use Rattle.traces.specs.declared.step.Step.TheVariants.{NextRow}
 use Rattle.ring_knowledge.specs.Histories.{header_now}
 use Rattle.world_state.specs.declared.harm.Harm.{Harm}
-use Rattle.world_state.specs.Steps.{Harmful}
+use Rattle.world_state.specs.Replays.{Harmful}
 use Rattle.controller_model.specs.Showing.{scene_replayed}
 use Rattle.ownership_checker.specs.RingPasses.Clean.{AreClean}
 use Rattle.safety.specs.LazyRuns.Lazy.{lazy_steps}

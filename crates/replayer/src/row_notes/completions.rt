@@ -2,7 +2,8 @@
 ghost use Rattle.std.specs.Prelude.{◌≡◌, ◌+◌, ◌==◌, ◌++◌, ◌∷◌, [], ℕ, Some, false, true, if◌then◌else◌, is_some, map, OnOk, IfOk, IfSome};
 ghost use Rattle.trb.specs.Block.{code, slot};
 ghost use Rattle.traces.specs.declared.header.Header.{Header as HeaderValue};
-ghost use Rattle.traces.specs.Header.{IsHeader, command_id, command_ring};
+ghost use Rattle.traces.specs.Header.{command_id, command_ring};
+ghost use Rattle.traces.specs.AllowedHeaders.{IsHeader};
 ghost use Rattle.traces.specs.declared.step.Step.TheVariants.{Finish};
 ghost use Rattle.world_state.specs.PlacingCommands.{IsWell};
 ghost use Rattle.ring_knowledge.specs.Known.{Known};

@@ -3,7 +3,7 @@ ghost use Rattle.std.specs.Prelude.{◌≡◌, ◌+◌, ◌<◌, ◌≤◌, ◌%
 ghost use Rattle.contexts.specs.Contexts.{input_context_bytes};
 ghost use Rattle.commands.specs.declared.state.EndpointState.{EndpointState as StateValue};
 ghost use Rattle.commands.specs.Changes.{Places, changes, placed_by_context};
-ghost use Rattle.traces.specs.Header.{IsHeader};
+ghost use Rattle.traces.specs.AllowedHeaders.{IsHeader};
 ghost use Rattle.world_state.specs.PlacingCommands.{HasRoom, IsWell};
 ghost use Rattle.ring_knowledge.specs.Known.{Known};
 ghost use Rattle.trace_record.specs.RingFinder.Finding.{IsFinder};

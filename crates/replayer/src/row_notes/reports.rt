@@ -3,7 +3,7 @@ ghost use Rattle.std.specs.Prelude.{◌≡◌, ◌+◌, ◌<◌, ◌^◌, ◌++�
 ghost use Rattle.trb.specs.CompletionCode.{is_success};
 ghost use Rattle.trb.specs.declared.kind.BlockKind.TheVariants.{TransferEvent};
 ghost use Rattle.segments.specs.Spots.{number};
-ghost use Rattle.traces.specs.Header.{IsHeader};
+ghost use Rattle.traces.specs.AllowedHeaders.{IsHeader};
 ghost use Rattle.ring_knowledge.specs.Known.{Known};
 ghost use Rattle.ring_knowledge.specs.Rings.{code_told, event_at};
 ghost use Rattle.trace_record.specs.RingFinder.Finding.{IsFinder};

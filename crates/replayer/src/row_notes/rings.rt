@@ -2,7 +2,8 @@
 ghost use Rattle.std.specs.Prelude.{◌≡◌, ◌+◌, ℕ, Some, true, is_some};
 ghost use Rattle.segments.specs.Ceiling.{is_open};
 ghost use Rattle.traces.specs.declared.header.Header.{Header as HeaderValue};
-ghost use Rattle.traces.specs.Header.{IsHeader, command_id, command_ring};
+ghost use Rattle.traces.specs.Header.{command_id, command_ring};
+ghost use Rattle.traces.specs.AllowedHeaders.{IsHeader};
 ghost use Rattle.ring_knowledge.specs.Known.{Known};
 ghost use Rattle.ring_knowledge.specs.Rings.{next_command};
 ghost use Rattle.trace_record.specs.RingFinder.Finding.{IsFinder};

@@ -1,13 +1,13 @@
 //! The notes of one row: those that come before it is noted in the record, and those that come behind that.
 ghost use Rattle.std.specs.Prelude.{◌≡◌, ◌++◌, ℕ, [], map, All, IfOk, OnOk};
-ghost use Rattle.traces.specs.Header.{IsHeader};
+ghost use Rattle.traces.specs.AllowedHeaders.{IsHeader};
 ghost use Rattle.traces.specs.declared.header.Header.{Header as HeaderValue};
 ghost use Rattle.traces.specs.declared.row.Row.TheVariants.{Bell, Read};
 ghost use Rattle.ring_knowledge.specs.Known.{Known};
 ghost use Rattle.ring_knowledge.specs.RegisterRecords.{FollowsRegisters};
 ghost use Rattle.trace_record.specs.RingFinder.Finding.{IsFinder};
 ghost use Rattle.trace_record.specs.DeviceSlots.Devices.{FollowsDevices};
-ghost use Rattle.ownership_rules.specs.Rules.{lenient};
+ghost use Rattle.ownership_rules.specs.LenientRules.{lenient};
 ghost use Rattle.safety.specs.Keeps.{DriverKeeps, IsTransferRing};
 ghost use Rattle.safety.specs.LazyRuns.Lazy.{is_first_halt};
 ghost use Rattle.replayer.specs.LazySteps.Notes.{floor_note, read_notes, row_notes};

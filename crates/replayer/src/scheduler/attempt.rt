@@ -1,7 +1,8 @@
 //! Schedules that are made step by step, as the controller's model shows what each step does.
 ghost use Rattle.std.specs.Prelude.{◌≡◌, ◌+◌, ◌≤◌, ◌++◌, ◌∷◌, [], length, OnOk};
 ghost use Rattle.traces.specs.Limits.{most_schedule_lines};
-ghost use Rattle.traces.specs.Rows.{AreSteps, IsRow, IsStep, steps_are_fact};
+ghost use Rattle.traces.specs.Rows.{AreSteps, IsRow, steps_are_fact};
+ghost use Rattle.traces.specs.Steps.{IsStep};
 ghost use Rattle.traces.specs.TraceRows.{IsTraceRow};
 ghost use Rattle.trb.specs.Block.{IsBlock, kind};
 ghost use Rattle.replayer.specs.Schedules.Making.{is_waited, post_by_kind, rings_at, tells_halt};

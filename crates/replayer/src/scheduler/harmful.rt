@@ -12,7 +12,7 @@ ghost use Rattle.replayer.specs.Schedules.Eager.{eager_row, eager_schedule, late
 ghost use Rattle.replayer.specs.Schedules.Tried.{IsNoRead, IsTame, NoneDoesHarm, lazy_behind};
 ghost use Rattle.traces.specs.TraceRows.{IsTraceRow};
 ghost use Rattle.world_state.specs.declared.harm.Harm.{Harm as HarmValue};
-ghost use Rattle.world_state.specs.Steps.{Harmful};
+ghost use Rattle.world_state.specs.Replays.{Harmful};
 ghost use Rattle.controller_model.specs.Showing.{scene_replayed};
 ghost use Rattle.replayer.specs.Schedules.Harmful.{DoesHarm, rows_made};
 

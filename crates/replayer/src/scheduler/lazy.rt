@@ -1,8 +1,8 @@
 ghost use Rattle.std.specs.Prelude.{◌≡◌, ◌≤◌, ◌+◌, ◌*◌, ℕ, All, Some, length, reverse, IfErr, IfOk, OnOk};
-ghost use Rattle.traces.specs.Header.{IsHeader};
+ghost use Rattle.traces.specs.AllowedHeaders.{IsHeader};
 ghost use Rattle.traces.specs.Limits.{most_lines};
 ghost use Rattle.traces.specs.TraceRows.{IsTraceRow};
-ghost use Rattle.world_state.specs.Steps.{NoHarm};
+ghost use Rattle.world_state.specs.Replays.{NoHarm};
 ghost use Rattle.controller_model.specs.Showing.{scene_replayed};
 ghost use Rattle.ownership_checker.specs.RingPasses.Clean.{AreClean};
 ghost use Rattle.ownership_rules.specs.Rules.{trace_verdict};

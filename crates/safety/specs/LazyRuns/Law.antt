@@ -4,7 +4,8 @@ use Rattle.segments.specs.Spots.{spot_address, spot_cycle}
 use Rattle.traces.specs.declared.header.Header.{Header}
 use Rattle.traces.specs.declared.step.Step.{Step}
 use Rattle.traces.specs.declared.row.Row.{Row}
-use Rattle.traces.specs.Header.{IsHeader, shape_of}
+use Rattle.traces.specs.Header.{shape_of}
+use Rattle.traces.specs.AllowedHeaders.{IsHeader}
 use Rattle.world_state.specs.World.{World}
 use Rattle.world_state.specs.Scenes.{Scene, scene_reached}
 use Rattle.ring_knowledge.specs.Known.{Known}

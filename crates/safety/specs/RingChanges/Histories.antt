@@ -4,7 +4,7 @@ use Rattle.traces.specs.declared.header.Header.{Header}
 use Rattle.traces.specs.declared.row.Row.{Row}
 use Rattle.ring_knowledge.specs.Histories.{header_now, known_now, restored, ring_restored}
 use Rattle.ring_knowledge.specs.Known.{Known}
-use Rattle.ownership_rules.specs.Rules.{lenient}
+use Rattle.ownership_rules.specs.LenientRules.{lenient}
 use Rattle.ownership_rules.specs.Withdrawals.{is_left, some_flips}
 
 -- no lenient rule is broken; behind a stop no row may come. The ring that a row starts or moves stands as declared; the row is judged where

@@ -4,7 +4,8 @@ use Rattle.line_text.specs.Lines.{lines_of}
 use Rattle.traces.specs.declared.header.Header.{Header}
 use Rattle.traces.specs.declared.row.Row.{Row}
 use Rattle.trace_reader.specs.declared.fault.LineFault.{LineFault}
-use Rattle.trace_reader.specs.Reading.{TraceText, trace_of}
+use Rattle.trace_reader.specs.Reading.{trace_of}
+use Rattle.trace_reader.specs.TraceOfText.{TraceText}
 use Rattle.trace_reader.specs.declared.row_reader.fault.StreamFault.{StreamFault}
 use Rattle.trace_reader.specs.declared.row_reader.fault.StreamFault.TheVariants.{Line, Device, Memory}
 use Rattle.trace_reader.specs.declared.row_reader.reader.RowReader.{RowReader}

@@ -3,7 +3,8 @@ use Rattle.std.specs.Prelude.{◌≡◌, ℕ, Bool, ◌+◌, List, [], ◌∷◌
 use Rattle.line_text.specs.Lines.{TextLine, lines_of}
 use Rattle.traces.specs.declared.row.Row.{Row}
 use Rattle.trace_reader.specs.declared.fault.LineFault.{LineFault}
-use Rattle.trace_reader.specs.Reading.{State, TraceText, next_number, read_lines}
+use Rattle.trace_reader.specs.Reading.{State, next_number, read_lines}
+use Rattle.trace_reader.specs.TraceOfText.{TraceText}
 use Rattle.trace_reader.specs.Streaming.RowByRow.{Progress, next_row, opened}
 
 -- rows with the numbers of their lines; and the bad line behind them, where one is why no more came

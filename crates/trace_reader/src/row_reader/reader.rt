@@ -1,5 +1,5 @@
 ghost use Rattle.std.specs.Prelude.{◌≤◌};
-ghost use Rattle.traces.specs.Header.{IsHeader};
+ghost use Rattle.traces.specs.AllowedHeaders.{IsHeader};
 ghost use Rattle.traces.specs.Limits.{most_streamed_lines};
 
 use crate::row_reader::ahead::Ahead;

@@ -2,7 +2,8 @@ ghost use Rattle.std.specs.Prelude.{◌≡◌, ◌==◌, ◌+◌, ◌<◌, ◌�
 ghost use Rattle.std.specs.Bool.{OnTrue};
 ghost use Rattle.std.specs.List.{Contains};
 ghost use Rattle.segments.specs.Places.{touches};
-ghost use Rattle.traces.specs.Header.{IsHeader, is_command_kind, is_event_kind, may_stand_together, ring_having};
+ghost use Rattle.traces.specs.Header.{is_command_kind, is_event_kind, ring_having};
+ghost use Rattle.traces.specs.AllowedHeaders.{IsHeader, may_stand_together};
 ghost use Rattle.traces.specs.declared.ring.Ring.{Ring};
 ghost use Rattle.trace_record.specs.RingFinder.Finding.{AreHints, AreNumbers, IsFinder, IsRingBefore, slot_of, start_of, starts_from};
 ghost use Rattle.trace_record.specs.declared.ring_finder.finder.Start.{Start as StartValue};

@@ -1,5 +1,6 @@
 ghost use Rattle.std.specs.Prelude.{◌≡◌, ◌+◌};
-ghost use Rattle.traces.specs.Header.{IsHeader, touches_ring};
+ghost use Rattle.traces.specs.Header.{touches_ring};
+ghost use Rattle.traces.specs.AllowedHeaders.{IsHeader};
 ghost use Rattle.traces.specs.declared.header.Header.{Header};
 ghost use Rattle.trace_record.specs.RingFinder.Finding.{IsFinder};
 

@@ -1,5 +1,5 @@
 use Rattle.bench.proofs.Words.{All, drop}
-use Rattle.traces.specs.Rows.{IsStep}
+use Rattle.traces.specs.Steps.{IsStep}
 use Rattle.bench.proofs.stepped.are_steps.Given as goal
 
 -- where the steps that are left can be said, all can

@@ -1,4 +1,4 @@
-use Rattle.knowledge_page.proofs.BaseWords.{[], sym, subst, reverse, IsHeader, header_now, lents}
+use Rattle.knowledge_page.proofs.BaseWords.{[], ◌∙◌, sym, subst, reverse, IsHeader, header_now, leases_lent, lents}
 use Rattle.knowledge_page.proofs.behind.standing_behind.Goals as goal
 
 pub pass_kept-requires-clause-headed : goal.pass_kept-requires-clause-headed
@@ -25,5 +25,5 @@ returns-in-Whole-clause-standing c =
       verdict = whole.verdict;
       header = behind.header;
       followed = behind.followed;
-      leased = c.into_leases.ensures (header_now h past) (lents h first past) kept;
+      leased = c.into_leases.ensures (header_now h past) (lents h first past) kept ∙ sym (leases_lent h first c.args.rows.now whole.room);
     })

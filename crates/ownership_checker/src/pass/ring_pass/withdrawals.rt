@@ -2,7 +2,8 @@
 //! (xHCI 4.6.9, 4.6.10).
 ghost use Rattle.std.specs.Prelude.{◌≡◌, ◌+◌, ◌<◌, ◌≤◌, ℕ, true, false, [], ◌∷◌, List, None, Some, length, IfErr, OnOk};
 ghost use Rattle.segments.specs.RingView.{Restores, Withdraws as WithdrawsAt, floor_number};
-ghost use Rattle.traces.specs.Header.{IsHeader, ring_with};
+ghost use Rattle.traces.specs.Header.{ring_with};
+ghost use Rattle.traces.specs.AllowedHeaders.{IsHeader};
 ghost use Rattle.traces.specs.declared.header.Header.{Header};
 ghost use Rattle.traces.specs.Limits.{most_streamed_lines};
 ghost use Rattle.traces.specs.declared.row.Row.TheVariants.{Write, Nop as NopRow};
@@ -15,8 +16,9 @@ ghost use Rattle.ring_knowledge.specs.Rings.{on_ring};
 ghost use Rattle.trace_record.specs.RingFinder.Finding.{IsFinder};
 ghost use Rattle.ownership_rules.specs.Leases.{without_end};
 ghost use Rattle.ownership_rules.specs.OpenLeases.{open_leases};
-ghost use Rattle.ownership_rules.specs.Refusal.{first_of};
-ghost use Rattle.ownership_rules.specs.Rules.{lenient, broken_restored};
+ghost use Rattle.ownership_rules.specs.FirstBroken.{first_of};
+ghost use Rattle.ownership_rules.specs.Rules.{broken_restored};
+ghost use Rattle.ownership_rules.specs.LenientRules.{lenient};
 ghost use Rattle.ownership_rules.specs.Rings.{is_transfer_ring};
 ghost use Rattle.safety.specs.Keeps.{DriverKeeps};
 ghost use Rattle.leases.specs.LeaseBooks.InStep.{AreOpen};

@@ -27,4 +27,4 @@ returns-clause-whole g c =
     let ends = c.loop-row.auto.row-index-end in
     let past = c.loop-row-test.false in
     ended g.M.WordMemory.words g.B.LeaseLog.holds c.args.header c.args.first c.args.rows.now c.args.log c.loop-row.row-index c.loop-row.number c.loop-row.pass c.loop-row.invariant
-    (omega arith) c.requires.fitting
+    (omega arith) c.requires.within c.requires.fitting
