@@ -5,7 +5,7 @@ use row_history::{
     Case, Shown, is_handed_over, last_register, line_of, mark_reset, mark_run, note_running,
     note_unfinished, register_name, ring_known, ring_of_kind, trb_named,
 };
-use traces::{Register, Ring};
+use traces::{Halt, Register, Ring, Row};
 use trb::RingKind;
 
 /// The registers that are set up before the start.
@@ -250,17 +250,29 @@ fn note_unrestored(case: &mut Case) {
         "the controller is to run again with a state that it saved and has not restored",
         &[],
     );
-    let controller = &case.known.controller;
-    case.mark(controller.save, "CSS is 1 here", &[]);
-    case.mark(controller.restore, "CRS is 1 here", &[]);
-    case.say(if controller.restore.is_some() {
-        "USBSTS wasn't read since with RSS (bit 9) and SRE (bit 10) 0 (xHCI 4.23.2, 5.4.2)"
+    let saving = last_saving(case.before);
+    if case.known.controller.registers.halt() == Halt::Restoring {
+        case.mark(saving, "CRS is 1 here", &[]);
+        case.say(
+            "USBSTS wasn't read since with RSS (bit 9) and SRE (bit 10) 0 (xHCI 4.23.2, 5.4.2)",
+        );
     } else {
-        "CRS (bit 9) wasn't 1 since: what lost its power has lost its state (xHCI 4.23.2)"
-    });
+        case.mark(saving, "CSS is 1 here", &[]);
+        case.say(
+            "CRS (bit 9) wasn't 1 since: what lost its power has lost its state (xHCI 4.23.2)",
+        );
+    }
     case.advise(
         "set the registers up again, write CRS, and read USBSTS until RSS is 0 (`rd usbsts`), before Run/Stop 1; where SRE is 1, reset the controller (HCRST)",
     );
+}
+
+/// The last of the rows that has the controller save its state or restore it.
+fn last_saving(rows: &[Row]) -> Option<usize> {
+    rows.iter().rposition(|row| match row {
+        Row::Reg { register, value } => { *register == Register::Usbcmd && value / 256 % 4 != 0 }
+        _ => false,
+    })
 }
 
 /// Run/Stop 1 where CRCR doesn't name the Command Ring that is there.

@@ -1,6 +1,6 @@
 //! The registers, and whether the controller runs.
-use crate::words::register_name;
 use ring_knowledge::RegisterRecord;
+use row_history::register_name;
 use std::alloc::AllocError;
 use traces::{Halt, Register};
 

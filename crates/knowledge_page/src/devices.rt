@@ -1,8 +1,8 @@
 //! Slots, unfinished commands, and ranges of memory under lease.
 use crate::leased::Piece;
-use crate::words::{command_name, slot_state_name};
 use commands::{Command, SlotState};
 use ring_knowledge::{Lease, RingRecord};
+use row_history::{command_name, slot_state_name};
 use std::alloc::AllocError;
 use trace_record::{DeviceRecord, TraceRecord};
 use traces::{Header, Register, Ring};

@@ -13,7 +13,6 @@ mod waiting;
 mod waiting_rings;
 mod waiting_words;
 mod withdrawn;
-mod words;
 
 pub use page::page_of;
 pub use rings::{RingFacts, ring_facts};

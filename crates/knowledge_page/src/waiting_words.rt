@@ -1,7 +1,7 @@
 //! What waits, in words.
 use crate::waiting::{Due, Group, Kept, Taker, Waiting};
-use crate::words::{command_name, endpoint_state_name};
 use commands::{Command, EndpointState};
+use row_history::{command_name, endpoint_state_name};
 use std::alloc::{AllocError, Global};
 
 /// What waits, a line for each: this stands before it.

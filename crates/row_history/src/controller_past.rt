@@ -15,9 +15,6 @@ pub struct ControllerPast {
     pub stop: Option<usize>,
     /// The row that saw that it has halted since.
     pub halt: Option<usize>,
-    /// The row by which it saved its state since (CSS), and the one behind that by which it was to restore it (CRS).
-    pub save: Option<usize>,
-    pub restore: Option<usize>,
     /// The last row that reset it behind a halt.
     pub reset: Option<usize>,
 }
@@ -31,8 +28,6 @@ impl ControllerPast {
             run: None,
             stop: None,
             halt: None,
-            save: None,
-            restore: None,
             reset: None,
         }
     }
@@ -57,7 +52,6 @@ impl ControllerPast {
             self.run = self.start;
         }
         self.note_stop(row, before);
-        self.note_saving(row, before, value);
         false
     }
 
@@ -70,20 +64,6 @@ impl ControllerPast {
             self.run = Some(row);
             self.stop = None;
             self.halt = None;
-            self.save = None;
-            self.restore = None;
-        }
-    }
-
-    /// Notes whether its state is saved or restored by this row, which may be one of USBCMD.
-    fn note_saving(&mut self, row: usize, before: Halt, value: u64) {
-        match self.registers.halt() {
-            Halt::Saved if before != Halt::Saved || value / 256 % 2 == 1 => {
-                self.save = Some(row);
-                self.restore = None;
-            }
-            Halt::Restoring if before != Halt::Restoring => self.restore = Some(row),
-            _ => {}
         }
     }
 
