@@ -10,6 +10,7 @@ pub mod LinePieces
 pub mod SpelledFields
 pub mod SpelledValues
 pub mod FixedPlaces
+pub mod PlacedBlocks
 pub mod SpelledSegments
 pub mod SpelledWords
 pub mod Grammar

@@ -57,7 +57,7 @@ unfoldable pub use Rattle.trace_reader.specs.Plans.{is_plan_version, plan_form_o
 pub use Rattle.trace_reader.specs.Printing.{in_a_row, spaced}
 pub use Rattle.trace_reader.specs.Reading.{State, behind_row, go_on, has_no_shape, is_misplaced, is_too_much, most_of, next_number, start, whole, with_row, with_said}
 unfoldable pub use Rattle.trace_reader.specs.Reading.{after, form_in, is_bad_number, is_bad_row, is_bad_shape, is_past_limit, is_too_long, line_fault, read_line, read_lines, row_fault, said_in, size_of, trace_of, version_of}
-pub use Rattle.trace_reader.specs.RowsAhead.{BeginsWithRow}
+pub use Rattle.trace_reader.specs.RowsAhead.{AreBlocks, BeginsWithBlock, BeginsWithRow}
 pub use Rattle.trace_reader.specs.ScheduleSpelling.{IsSchedule, schedule_version_fields}
 unfoldable pub use Rattle.trace_reader.specs.ScheduleSpelling.{printed_schedule, schedule_lines, spells_schedule, step_fields}
 pub use Rattle.trace_reader.specs.Schedules.{finish_line, look_line, other_line, report_line, row_line, schedule_in, scrib_line, step_fault, step_line, step_lines, halt_line}

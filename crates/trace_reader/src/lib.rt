@@ -2,6 +2,7 @@
 #![tactic(auto)]
 
 mod clashes;
+mod declarations;
 mod entry;
 mod fault;
 mod later;
@@ -18,6 +19,7 @@ mod segments_so_far;
 mod so_far;
 mod step_line;
 
+pub use declarations::declarations_ahead;
 pub use entry::block_of;
 pub use fault::{LineError, LineFault, ReadFault};
 pub use later::note_id;

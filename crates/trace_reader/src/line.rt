@@ -126,7 +126,7 @@ fn entry_alone(
 ) -> Result<Entry, LineError>
     ensures { Answers result (said_alone version begun line.now) }
 {
-    if let Some(row) = quick_row(line) {
+    if let Some(row) = quick_row(alloc, line) {
         return Ok(Entry::Row(RowEntry::Plain(row)));
     }
     let content = content_of(line)?;

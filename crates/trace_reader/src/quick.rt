@@ -6,15 +6,17 @@ ghost use Rattle.traces.specs.Register.{register_name};
 ghost use Rattle.traces.specs.declared.row.Row.{Row};
 ghost use Rattle.traces.specs.declared.version.Version.{Version};
 
+use crate::declarations::{block_at, quick_declarations};
 use crate::entry::{block_of, register_value_of, word_address_of};
 use crate::plain_row::PlainRow;
 use guest_memory::Addr;
 use line_text::{Line, u8_of, u32_of};
+use std::alloc::Global;
 use traces::{Register, Row};
 use trb::{Block, Blocks};
 
 /// The row of a line of a frequent form, by the places of its fields. Where it answers none, the line may still say one.
-pub fn quick_row(line: &Line) -> Option<PlainRow>
+pub fn quick_row(alloc: Global, line: &Line) -> Option<PlainRow>
     ensures { IfSome result (λ plain. (version : Version) (begun : Bool) → said_alone version begun line.now ≡ Ok (SaysRow plain.row)) }
 {
     if !line.is_ended() {
@@ -27,7 +29,7 @@ pub fn quick_row(line: &Line) -> Option<PlainRow>
         8 => bell_of(content),
         25 | 27 => register_of(content),
         42 => declaration_of(content),
-        _ => None,
+        _ => declarations_of(alloc, content),
     }
 }
 
@@ -216,6 +218,15 @@ fn declaration_of(content: &[u8]) -> Option<PlainRow>
     Some(PlainRow { row })
 }
 
+/// `sub`, a ring and the words of any number of blocks.
+fn declarations_of(alloc: Global, content: &[u8]) -> Option<PlainRow>
+    ensures { IfSome result (λ plain. SaysAlone plain.row content.now) }
+{
+    let (ring, blocks) = quick_declarations(alloc, content)?;
+    let row = Row::Sub { ring, blocks };
+    Some(PlainRow { row })
+}
+
 /// The ring and the block of a `sub` line.
 #[inline(always)]
 fn quick_declaration(content: &[u8]) -> Option<(u8, Block)>
@@ -225,15 +236,7 @@ fn quick_declaration(content: &[u8]) -> Option<(u8, Block)>
     if content[0] != b's' || content[1] != b'u' || content[2] != b'b' || content[3] != b' ' {
         return None;
     }
-    if content[6] != b' ' || content[15] != b' ' || content[24] != b' ' || content[33] != b' ' {
-        return None;
-    }
     let ring = u8_of(&content[4..6])?;
-    let block = block_of(
-        &content[7..15],
-        &content[16..24],
-        &content[25..33],
-        &content[34..42],
-    )?;
+    let block = block_at(&content[6..])?;
     Some((ring, block))
 }

@@ -14,8 +14,8 @@ use crate::row_reader::fault::{StreamFault, fault_of};
 use crate::row_reader::reader::RowReader;
 use crate::row_reader::source::Source;
 use crate::{
-    MOST_LINES, bell_ahead, declaration_ahead, event_ahead, most_lines_of, note_id, register_ahead,
-    row_in, write_ahead,
+    MOST_LINES, bell_ahead, declaration_ahead, declarations_ahead, event_ahead, most_lines_of,
+    note_id, register_ahead, row_in, write_ahead,
 };
 use line_text::first_line;
 use std::alloc::Global;
@@ -105,6 +105,12 @@ impl RowReader {
             self.ahead.skip(count);
             self.lines += 1;
             let row = Row::Reg { register, value };
+            return Ok(Some((self.lines, row)));
+        }
+        if let Some((ring, blocks, count)) = declarations_ahead(self.alloc, self.ahead.as_slice()) {
+            self.ahead.skip(count);
+            self.lines += 1;
+            let row = Row::Sub { ring, blocks };
             return Ok(Some((self.lines, row)));
         }
         self.searched_row(source)
