@@ -1,5 +1,5 @@
 -- Lines whose fields stand at fixed places
-use Rattle.trace_reader.proofs.LowerLaws.{rules, ◌≡◌, ◌+◌, ◌≤◌, ◌<◌, ◌∷◌, ◌++◌, ◌∙◌, ℕ, suc, Bool, true, false, List, [], length, slice_index, take, drop, nat_lt, Some, Ok, All, refl, ap, sym, subst, arith, codes, w8, w32, w64, digits_without_space, take-append-drop, slice_split_at, slice_split_none, SaysAlone, HasBytes, Width, byte_len, bytes_of_8, bytes_of_32, bytes_of_64, length-digits_of, number_of, said, fields_of, has_empty_field, is_empty, is_space, All-cons, All-nil, All-head, All-tail, nat_tests, common_steps, slice_split, str_to_ascii_lowercase, to_ascii_lowercase, content_fault, said_by_fields, most_bytes, form_of, said_of, block_of, word_address_of, Block, register_value_of, Row, Write, Bell, Read, Reg, Register, register_name, append_assoc, bytes_eq, SaysRow, Version, drop-cons, drop-drop, get_or-drop, length-drop, then_there, words_there}
+use Rattle.trace_reader.proofs.LowerLaws.{rules, ◌≡◌, ◌+◌, ◌≤◌, ◌<◌, ◌∷◌, ◌++◌, ◌∙◌, ℕ, suc, Bool, true, false, List, [], length, slice_index, take, drop, nat_lt, Some, Ok, All, refl, ap, sym, subst, arith, codes, w8, w32, w64, digits_without_space, take-append-drop, slice_split_at, slice_split_none, SaysAlone, HasBytes, Width, byte_len, bytes_of_8, bytes_of_32, bytes_of_64, length-digits_of, number_of, said, fields_of, has_empty_field, is_empty, is_space, All-cons, All-nil, All-head, All-tail, nat_tests, common_steps, slice_split, str_to_ascii_lowercase, to_ascii_lowercase, content_fault, said_by_fields, most_bytes, form_of, said_of, block_of, word_address_of, Block, blocks_of, register_value_of, Row, Sub, Write, Bell, Read, Reg, Register, register_name, append_assoc, bytes_eq, SaysRow, Version, drop-cons, drop-drop, get_or-drop, length-drop, then_there, words_there}
 use Rattle.trace_reader.proofs.SpelledWords.{value_there, word_register}
 
 -- ---- a number is a field
@@ -139,3 +139,15 @@ event_says content event long first second s2 s11 s20 s29 says =
     let p = words_then content 3 11 20 29 event [] refl refl refl (omega (arith, long)) s11 s20 s29 says (last_from content 30 8 (sym long)) in
     by_name content (codes "ev") 2 words (Read event) (rw long refl) (omega (arith, long)) (first_bytes content 101 118 (omega (arith, long)) first second)
     (search (rules, All-cons, All-nil)) s2 p.0 p.1 (λ version begun. rw says refl)
+
+pub sub_says : (content : List ℕ) (ring : ℕ) (block : Block) → length content ≡ 42 → slice_index content 0 ≡ 115 → slice_index content 1 ≡ 117 → slice_index content 2 ≡ 98 → slice_index content 3 ≡ 32 →
+    slice_index content 6 ≡ 32 → slice_index content 15 ≡ 32 → slice_index content 24 ≡ 32 → slice_index content 33 ≡ 32 → number_of w8 (take 2 (drop 4 content)) ≡ Some ring →
+    block_of (take 8 (drop 7 content)) (take 8 (drop 16 content)) (take 8 (drop 25 content)) (take 8 (drop 34 content)) ≡ Some block → SaysAlone (Sub ring (block ∷ [])) content
+unfolding said_by_fields form_of said_of blocks_of
+sub_says content ring block long first second third s3 s6 s15 s24 s33 hi says =
+    let id = take 2 (drop 4 content) in
+    let words = take 8 (drop 7 content) ∷ take 8 (drop 16 content) ∷ take 8 (drop 25 content) ∷ take 8 (drop 34 content) ∷ [] in
+    let p = words_then content 7 15 24 33 block [] refl refl refl (omega (arith, long)) s15 s24 s33 says (last_from content 34 8 (sym long)) in
+    by_name content (codes "sub") 3 (id ∷ words) (Sub ring (block ∷ [])) (rw long refl) (omega (arith, long)) (search rules)
+    (search (rules, All-cons, All-nil)) s3 (field_from content 4 2 6 refl (omega (arith, long)) s6 (byte_field id ring hi).spaceless ∙ ap (λ fields. id ∷ fields) p.0)
+    (rw (byte_field id ring hi).some p.1) (λ version begun. rw (hi, says) refl)

@@ -1,6 +1,6 @@
 -- Words and lemmas, passed on to the files above them
-pub use Rattle.trace_reader.proofs.PlacedBlocks.{blocks_within, sub_says, subs_say}
-pub use Rattle.trace_reader.proofs.FixedPlaces.{bell_says, event_says, register_says, write_says}
+pub use Rattle.trace_reader.proofs.PlacedBlocks.{blocks_within, subs_say}
+pub use Rattle.trace_reader.proofs.FixedPlaces.{bell_says, event_says, register_says, sub_says, write_says}
 pub use Rattle.trace_reader.proofs.Grammar.{AreLines, IsSaid, table_read, table_written}
 pub use Rattle.trace_reader.proofs.LineSteps.{at_start, bad_line_there, content_faulty, content_whole, faulted, lines_ended, one_line_more, passed_by, prepended, unfaulted}
 pub use Rattle.trace_reader.proofs.LowerLaws.{AllSound, AreLeft, AreSpelled, IsCut, IsSpelling, NoFeed, added, all_with, alone, are_same_bytes, behind, behind_header, clashes, come_behind, cut, dropped, ended, ended_behind, ended_left, ended_lines, header_there, kept, last_met, line_entry, line_error, line_of, line_read, line_spells, lines_read, lines_spell, long_line, lowered, moved, no_feed_in, no_ring_taken, no_second, no_size, no_text, no_version, no_word, none_met, none_overlapped, not_limited, nothing_before, nothing_behind, one_less, only, passed_on, past_limit, plain_fields, prepend, ring_taken, said_behind, same_bytes, same_most, size_read, some_came, some_lines, stopped, then_are, too_much, unended_whole, version_read, version_there, whole_schedule, whole_text, written_as_printed}

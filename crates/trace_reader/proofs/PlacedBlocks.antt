@@ -1,5 +1,4 @@
 -- Declarations of any number of blocks, by the places of their words
-use Rattle.std.proofs.lemmas.List.{drop_all}
 use Rattle.trace_reader.proofs.LowerLaws.{rules, ◌≡◌, ◌*◌, ◌≤◌, ◌<◌, ◌∷◌, ◌∙◌, ℕ, false, List, [], length, slice_index, take, drop, Some, All, refl, ap, sym, arith, nat_tests, w8, SaysAlone, number_of, fields_of, has_empty_field, is_space, All-cons, All-nil, codes, said_by_fields, form_of, said_of, blocks_of, Block, Sub, drop-cons, get_or-drop, length-drop, AreBlocks, BeginsWithBlock}
 use Rattle.trace_reader.proofs.SpelledValues.{blocks_written}
 use Rattle.trace_reader.proofs.SpelledWords.{four_for_each}
@@ -56,8 +55,3 @@ subs_say content ring (block ∷ blocks) some short first second third s3 hi are
     let fields = field_from content 4 2 6 refl some (sym (get_or-drop 6 content 0 0) ∙ are.0.s0) p.spaceless ∙ ap (λ rest. id ∷ rest) (sym (ap behind_space (drop-cons content 6 0 some))) in
     by_name content (codes "sub") 3 (id ∷ words) (Sub ring (block ∷ blocks)) (grind (arith, nat_tests, short)) (omega (arith, some)) (search rules) (search (rules, All-cons, All-nil)) s3 fields
     (rw (p.some, there.full) refl) (λ version begun. rw (known, hi, there.says) refl)
-
-pub sub_says : (content : List ℕ) (ring : ℕ) (block : Block) → length content ≡ 42 → slice_index content 0 ≡ 115 → slice_index content 1 ≡ 117 → slice_index content 2 ≡ 98 →
-    slice_index content 3 ≡ 32 → number_of w8 (take 2 (drop 4 content)) ≡ Some ring → BeginsWithBlock block (drop 6 content) → SaysAlone (Sub ring (block ∷ [])) content
-sub_says content ring block long first second third s3 hi is =
-    subs_say content ring (block ∷ []) (omega (arith, long)) (omega (arith, long)) first second third s3 hi (is, drop_all 36 (drop 6 content) (omega (arith, long, length-drop 6 content)))

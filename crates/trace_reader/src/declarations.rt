@@ -81,7 +81,7 @@ fn blocks_at(alloc: Global, words: &[u8]) -> Option<Vec<Block>>
 
 /// The block whose words stand first there, each behind a space.
 #[inline(always)]
-pub fn block_at(words: &[u8]) -> Option<Block>
+fn block_at(words: &[u8]) -> Option<Block>
     ensures { IfSome result (λ block. BeginsWithBlock block words.now) }
 {
     if words.len() < BLOCK {

@@ -26,7 +26,9 @@ pub use later::note_id;
 pub use line::{MOST_BYTES, MOST_LINES, MOST_STREAMED_LINES, most_lines_of, row_in};
 pub use plans::read_plan;
 pub use print::{print_trace, with_ring, with_row, with_sub, with_write};
-pub use quick::{bell_ahead, declaration_ahead, event_ahead, register_ahead, write_ahead};
+pub use quick::{
+    bell_ahead, declaration_ahead, erdp_ahead, event_ahead, register_ahead, write_ahead,
+};
 pub use read::{read_long_trace, read_trace};
 pub use row_reader::{Counted, Failed, RowReader, Source, StreamFault};
 pub use schedules::{print_schedule, read_schedule};

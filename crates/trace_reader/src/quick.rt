@@ -3,10 +3,11 @@ ghost use Rattle.trace_reader.specs.Entries.{SaysAlone, said_alone};
 ghost use Rattle.trace_reader.specs.RowsAhead.{BeginsWithRow};
 ghost use Rattle.trace_reader.specs.Values.{SaysRow};
 ghost use Rattle.traces.specs.Register.{register_name};
+ghost use Rattle.traces.specs.declared.register.Register.TheVariants.{Erdp};
 ghost use Rattle.traces.specs.declared.row.Row.{Row};
 ghost use Rattle.traces.specs.declared.version.Version.{Version};
 
-use crate::declarations::{block_at, quick_declarations};
+use crate::declarations::quick_declarations;
 use crate::entry::{block_of, register_value_of, word_address_of};
 use crate::plain_row::PlainRow;
 use guest_memory::Addr;
@@ -58,9 +59,16 @@ pub fn bell_ahead(text: &[u8]) -> Option<(u8, u8)>
     quick_bell(content_ahead(text, 8)?)
 }
 
+/// The value of a text's first line, where that is `reg erdp` and a value: it takes 26 bytes.
+#[inline(always)]
+pub fn erdp_ahead(text: &[u8]) -> Option<u64>
+    ensures { IfSome result (λ value. BeginsWithRow (Row.Reg Erdp value) 26 text.now) }
+{
+    quick_erdp(content_ahead(text, 25)?)
+}
+
 /// The register and the value of a text's first line, where that is `reg` and these, and the register is ERDP, IMAN, USBSTS or USBCMD; and
 /// how many bytes it takes.
-#[inline(always)]
 pub fn register_ahead(text: &[u8]) -> Option<(Register, u64, usize)>
     ensures { IfSome result (λ said. BeginsWithRow (Row.Reg said.0 said.1) said.2 text.now) }
 {
@@ -169,6 +177,15 @@ fn quick_bell(content: &[u8]) -> Option<(u8, u8)>
     Some((slot, target))
 }
 
+/// The value of a `reg erdp` line.
+#[inline(always)]
+fn quick_erdp(content: &[u8]) -> Option<u64>
+    requires { length content.now ≡ 25 }
+    ensures { IfSome result (λ value. SaysAlone (Row.Reg Erdp value) content.now) }
+{
+    register_value_of(Register::Erdp, content.strip_prefix(b"reg erdp ")?)
+}
+
 /// `reg`, a register and a value.
 fn register_of(content: &[u8]) -> Option<PlainRow>
     requires { length content.now ≤ 27 }
@@ -179,8 +196,7 @@ fn register_of(content: &[u8]) -> Option<PlainRow>
     Some(PlainRow { row })
 }
 
-/// What such a line says.
-#[inline(always)]
+/// What such a line says, where the register is ERDP, IMAN, USBSTS or USBCMD.
 fn quick_register(content: &[u8]) -> Option<(Register, u64)>
     requires { length content.now ≤ 27 }
     ensures { IfSome result (λ said. SaysAlone (Row.Reg said.0 said.1) content.now) }
@@ -191,7 +207,6 @@ fn quick_register(content: &[u8]) -> Option<(Register, u64)>
 }
 
 /// The register of such a line, and the field of its value.
-#[inline(always)]
 fn register_field(content: &[u8]) -> Option<(Register, &[u8])>
     ensures { IfSome result (λ said. content.now ≡ (codes "reg " ++ register_name said.0 ++ 32 ∷ []) ++ said.1.now) }
 {
@@ -236,7 +251,15 @@ fn quick_declaration(content: &[u8]) -> Option<(u8, Block)>
     if content[0] != b's' || content[1] != b'u' || content[2] != b'b' || content[3] != b' ' {
         return None;
     }
+    if content[6] != b' ' || content[15] != b' ' || content[24] != b' ' || content[33] != b' ' {
+        return None;
+    }
     let ring = u8_of(&content[4..6])?;
-    let block = block_at(&content[6..])?;
+    let block = block_of(
+        &content[7..15],
+        &content[16..24],
+        &content[25..33],
+        &content[34..42],
+    )?;
     Some((ring, block))
 }

@@ -14,12 +14,12 @@ use crate::row_reader::fault::{StreamFault, fault_of};
 use crate::row_reader::reader::RowReader;
 use crate::row_reader::source::Source;
 use crate::{
-    MOST_LINES, bell_ahead, declaration_ahead, declarations_ahead, event_ahead, most_lines_of,
-    note_id, register_ahead, row_in, write_ahead,
+    MOST_LINES, bell_ahead, declaration_ahead, declarations_ahead, erdp_ahead, event_ahead,
+    most_lines_of, note_id, register_ahead, row_in, write_ahead,
 };
 use line_text::first_line;
 use std::alloc::Global;
-use traces::{Header, Row};
+use traces::{Header, Register, Row};
 use trb::Blocks;
 
 impl RowReader {
@@ -101,6 +101,30 @@ impl RowReader {
             let row = Row::Bell { slot, target };
             return Ok(Some((self.lines, row)));
         }
+        if let Some(value) = erdp_ahead(self.ahead.as_slice()) {
+            self.ahead.skip(26);
+            self.lines += 1;
+            let row = Row::Reg {
+                register: Register::Erdp,
+                value,
+            };
+            return Ok(Some((self.lines, row)));
+        }
+        self.rarer_row(source)
+    }
+
+    /// The next row, where it isn't known to be of a form before: of a rarer one, or of one whose line feed is looked for. What stands here makes
+    /// no row before it slower.
+    #[inline(never)]
+    fn rarer_row<S: Source>(&mut self, source: &mut S) -> Result<Option<(u32, Row)>, StreamFault>
+        requires going { self.now.ended ≡ false }
+        requires limit { self.now.lines + 1 ≤ most_lines_of self.now.keeps self.now.header.version }
+        requires counted { self.now.lines + 1 ≤ most_streamed_lines }
+        ensures answer { IsCall (progress_of self.old) (progress_of self.new) (S.held source.old) (S.held source.new) (ahead_of self.old.ahead) (ahead_of self.new.ahead) result }
+        ensures over { self.new.ended ≡ has_ended result }
+        ensures failures { S.failed source.new ≡ told_failures (S.failed source.old) result }
+        ensures same { IsSameTrace self.old self.new }
+    {
         if let Some((register, value, count)) = register_ahead(self.ahead.as_slice()) {
             self.ahead.skip(count);
             self.lines += 1;

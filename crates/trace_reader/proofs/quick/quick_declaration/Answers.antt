@@ -1,8 +1,7 @@
-use Rattle.std.proofs.lemmas.List.{take_rest}
 use Rattle.trace_reader.proofs.Laws.{sym, sub_says}
 use Rattle.trace_reader.proofs.quick.quick_declaration.Goals as goal
 
 pub returns : goal.returns
 returns c =
     sub_says c.args.content.now c.in_ok-ring.ring c.in_ok-block.block c.requires c.if-content-ne115.false c.if-content-ne117.false c.if-content-ne98.false c.if-content-ne32.false
-    (sym c.in_ok-ring.ensures) (rw (take_rest c.args.content.now 6) at c.in_ok-block.ensures)
+    c.if-content-ne32-2.false c.if-content-ne32-3.false c.if-content-ne32-4.false c.if-content-ne32-5.false (sym c.in_ok-ring.ensures) (sym c.in_ok-block.ensures)

@@ -18,12 +18,7 @@ returns-in-Some-bell_ahead-clause-answer g c =
     let r = c.args.self.now in
     row_begins (progress_of r).read r.ended (g.S.Source.held c.args.source.now) (ahead_of r.ahead) (ahead_of c.skip-in-Some-bell_ahead.new.self) _ 9 (rw c.as_slice-3.ensures at c.in-Some-bell_ahead.ensures) r.behind c.requires.limit c.requires.going c.skip-in-Some-bell_ahead.ensures
 
-pub returns-in-Some-register_ahead-clause-answer : goal.returns-in-Some-register_ahead-clause-answer
-returns-in-Some-register_ahead-clause-answer g c =
+pub returns-in-Some-erdp_ahead-clause-answer : goal.returns-in-Some-erdp_ahead-clause-answer
+returns-in-Some-erdp_ahead-clause-answer g c =
     let r = c.args.self.now in
-    row_begins (progress_of r).read r.ended (g.S.Source.held c.args.source.now) (ahead_of r.ahead) (ahead_of c.skip-in-Some-register_ahead.new.self) _ c.in-Some-register_ahead.count (rw c.as_slice-4.ensures at c.in-Some-register_ahead.ensures) r.behind c.requires.limit c.requires.going c.skip-in-Some-register_ahead.ensures
-
-pub returns-in-Some-declarations_ahead-clause-answer : goal.returns-in-Some-declarations_ahead-clause-answer
-returns-in-Some-declarations_ahead-clause-answer g c =
-    let r = c.args.self.now in
-    row_begins (progress_of r).read r.ended (g.S.Source.held c.args.source.now) (ahead_of r.ahead) (ahead_of c.skip-in-Some-declarations_ahead.new.self) _ c.in-Some-declarations_ahead.count (rw c.as_slice-5.ensures at c.in-Some-declarations_ahead.ensures) r.behind c.requires.limit c.requires.going c.skip-in-Some-declarations_ahead.ensures
+    row_begins (progress_of r).read r.ended (g.S.Source.held c.args.source.now) (ahead_of r.ahead) (ahead_of c.skip-in-Some-erdp_ahead.new.self) _ 26 (rw c.as_slice-4.ensures at c.in-Some-erdp_ahead.ensures) r.behind c.requires.limit c.requires.going c.skip-in-Some-erdp_ahead.ensures
