@@ -30,7 +30,7 @@
  * cleared again, and told so. The controller writes event rings: no hook stores there while they are there.
  *
  * Runs: a trace goes on behind the row that stops the controller. USBSTS is told as often as it is read; a row is made where it says
- * something: HCHalted 1 for the first time behind Run/Stop 0, RSS and SRE 0 for the first time behind CRS, HCHalted as it can't be.
+ * something: HCHalted 1 for the first time behind Run/Stop 0, RSS 0 behind CRS, and SRE 0 besides, HCHalted as it can't be.
  * Behind a halt that was read the driver starts the controller again, or resets it by HCRST: then all rings go (xt_free), and those of
  * the next run are made.
  *
@@ -166,7 +166,7 @@ struct xt_state {
 	unsigned char started;	/* Run/Stop was set, and no HCRST was written since */
 	unsigned char halting;	/* Run/Stop was cleared, and not set since */
 	unsigned char halted;	/* .. and HCHalted was read as 1 */
-	unsigned char restores;	/* .. and CRS was set, RSS and SRE not read as 0 since */
+	unsigned short awaited;	/* .. and CRS was set: of RSS and SRE what wasn't read as 0 since */
 	unsigned char refuted;	/* HCHalted was read as it can't be */
 	unsigned int bytes;	/* of the buffer */
 	struct xt_hold *hold;	/* where rows are held back for a TD that isn't whole */
@@ -393,11 +393,11 @@ static inline void xt_follow(struct xt_state *xt, uint64_t value)
 		xt->started = (value & 3) == 1;
 		xt->halting = 0;
 		xt->halted = 0;
-		xt->restores = 0;
+		xt->awaited = 0;
 	} else {
 		xt->halting = xt->started;
 		if (value & 0x300)
-			xt->restores = xt->halted && !(value & 0x100);
+			xt->awaited = xt->halted && !(value & 0x100) ? 0x600 : 0;
 	}
 }
 
@@ -407,8 +407,9 @@ static inline int xt_says(struct xt_state *xt, uint32_t value)
 	int says;
 
 	if (value & 1 ? xt->halting : xt->started && !xt->halted) {
-		says = value & 1 && (!xt->halted || (xt->restores && !(value & 0x600)));
-		xt->restores &= (unsigned char)!says;
+		says = value & 1 && (!xt->halted || (!(value & xt->awaited & 0x200) && (value & xt->awaited) != xt->awaited));
+		if (says)
+			xt->awaited &= (unsigned short)value;
 		xt->halted |= value & 1;
 		return says;
 	}
