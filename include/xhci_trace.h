@@ -30,8 +30,9 @@
  * cleared again, and told so. The controller writes event rings: no hook stores there while they are there.
  *
  * Runs: a trace goes on behind the row that stops the controller. USBSTS is told as often as it is read; a row is made where it says
- * something: HCHalted 1 for the first time behind Run/Stop 0, HCHalted as it can't be. Behind a halt that was read
- * the driver starts the controller again, or resets it by HCRST: then all rings go (xt_free), and those of the next run are made.
+ * something: HCHalted 1 for the first time behind Run/Stop 0, RSS 0 behind CRS, and SRE 0 besides, HCHalted as it can't be.
+ * Behind a halt that was read the driver starts the controller again, or resets it by HCRST: then all rings go (xt_free), and those of
+ * the next run are made.
  *
  * When rows are out: they are gathered in a buffer, and all that were made are written to the file before a store to a doorbell or a
  * register, and when the buffer is full, at xt_flush() and at xt_close(). Where the driver dies those since then are missing.
@@ -165,6 +166,7 @@ struct xt_state {
 	unsigned char started;	/* Run/Stop was set, and no HCRST was written since */
 	unsigned char halting;	/* Run/Stop was cleared, and not set since */
 	unsigned char halted;	/* .. and HCHalted was read as 1 */
+	unsigned short awaited;	/* .. and CRS was set: of RSS and SRE what wasn't read as 0 since */
 	unsigned char refuted;	/* HCHalted was read as it can't be */
 	unsigned int bytes;	/* of the buffer */
 	struct xt_hold *hold;	/* where rows are held back for a TD that isn't whole */
@@ -384,25 +386,30 @@ static inline void xt_named_row(struct xt_state *xt, const char *word, const cha
 	xt_end_row(xt, xt_hex(xt_word(end, " "), value, 16));
 }
 
-/* What USBCMD makes of the run: Run/Stop is bit 0, HCRST bit 1 */
+/* What USBCMD makes of the run: Run/Stop is bit 0, HCRST bit 1, CSS bit 8, CRS bit 9 */
 static inline void xt_follow(struct xt_state *xt, uint64_t value)
 {
 	if (value & 3) {
 		xt->started = (value & 3) == 1;
 		xt->halting = 0;
 		xt->halted = 0;
+		xt->awaited = 0;
 	} else {
 		xt->halting = xt->started;
+		if (value & 0x300)
+			xt->awaited = xt->halted && !(value & 0x100) ? 0x600 : 0;
 	}
 }
 
-/* Whether a read of USBSTS says something: HCHalted is bit 0 */
+/* Whether a read of USBSTS says something: HCHalted is bit 0, RSS bit 9, SRE bit 10 */
 static inline int xt_says(struct xt_state *xt, uint32_t value)
 {
 	int says;
 
 	if (value & 1 ? xt->halting : xt->started && !xt->halted) {
-		says = value & 1 && !xt->halted;
+		says = value & 1 && (!xt->halted || (!(value & xt->awaited & 0x200) && (value & xt->awaited) != xt->awaited));
+		if (says)
+			xt->awaited &= (unsigned short)value;
 		xt->halted |= value & 1;
 		return says;
 	}

@@ -72,6 +72,13 @@ int firmware_main(int how)
 	xt_ring(5, "cmd", 0x10000, 16);
 	xt_reg("usbcmd", 0x100, firmware_register = 12);
 	xt_usbsts(0x101); /* it saves, which says nothing */
+	xt_usbsts(1);
+	xt_reg("usbcmd", 0x200, firmware_register = 12);
+	xt_usbsts(0x201); /* it restores */
+	xt_usbsts(0x401); /* in vain */
+	xt_usbsts(0x401);
+	xt_usbsts(9); /* or not */
+	xt_usbsts(9);
 	xt_reg("usbcmd", 1, firmware_register = 12);
 	xt_usbsts(1); /* as it can't be, once */
 	xt_usbsts(1);

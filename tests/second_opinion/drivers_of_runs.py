@@ -1,14 +1,17 @@
-"""What random drivers do with the runs of a controller (version 4): they stop it and start it again, reset it and set it up anew, replace its command ring while it
-is halted."""
+"""What random drivers do with the runs of a controller (version 4): they stop it and start it again, reset it and set it up anew, replace its command ring, and
+save and restore its state, while it is halted."""
 from rings import Segment
-from runs import RESET, RUN
+from runs import RESET, RESTORE, RUN, SAVE
 from trace import Comes, Goes, Read, Register, Write
 
 TABLES = (0x40000, 0x41000)
-RUNNING, RESETTING = 1 << RUN, 1 << RESET
+RUNNING, RESETTING, SAVING, RESTORING = (1 << bit for bit in (RUN, RESET, SAVE, RESTORE))
 # values of USBCMD that a driver writes where nothing asks for it
-STRAY_COMMANDS = [0, RUNNING, RUNNING | 4, RESETTING, RESETTING | RUNNING]
-STRAY_STATUSES = [0, 1, 8]
+STRAY_COMMANDS = [0, RUNNING, RUNNING | 4, RESETTING, RESETTING | RUNNING, SAVING, RESTORING, SAVING | RESTORING, SAVING | RUNNING, RESTORING | RUNNING,
+                  RESTORING | RESETTING]
+STRAY_STATUSES = [0, 1, 8, 0x201, 0x401]
+# registers that are written again before a state is restored
+SET_UP_AGAIN = ['config', 'dcbaap', 'erstsz', 'erstba', 'erdp']
 
 
 class DriverOfRuns:
@@ -47,7 +50,7 @@ class DriverOfRuns:
 
     def rest(self):
         """The controller is stopped, mostly with all commands done, and what is next is done."""
-        plan, before = self.pick.choice([(self.goes_on, []), (self.renews_commands, []), (self.renews_commands, [self.command]),
+        plan, before = self.pick.choice([(self.goes_on, []), (self.sleeps, []), (self.sleeps, [self.command]), (self.renews_commands, []), (self.renews_commands, [self.command]),
                                          (self.begins_anew, []), (self.begins_anew, [self.command])])
         if self.pick.random() < 0.9:
             self.finish_all()
@@ -65,7 +68,7 @@ class DriverOfRuns:
             return
         if self.known.is_halting and not self.known.is_halted:
             self.sees_halt()
-        for step in self.pick.choices([self.renews_commands, self.places_commands, self.give_some, self.stray_write], k=self.pick.choice([0, 0, 1, 2])):
+        for step in self.pick.choices([self.renews_commands, self.places_commands, self.give_some, self.stray_write, self.sleeps], k=self.pick.choice([0, 0, 1, 2])):
             self.try_step(lambda driver: step())
         self.try_step(lambda driver: driver.pick.choice([driver.goes_on, driver.goes_on, driver.begins_anew])())
 
@@ -86,6 +89,25 @@ class DriverOfRuns:
         self.make(Register('usbcmd', self.pick.choice([RUNNING, RUNNING, RUNNING | 4])))
         if self.pick.random() < 0.8:
             self.try_step(lambda driver: driver.doorbell())
+
+    def sleeps(self):
+        """The state is saved, registers are written again, mostly, and the state is restored; seldom a part is left out."""
+        if self.pick.random() < 0.3:
+            self.try_step(lambda driver: driver.renews_commands())
+        if self.pick.random() < 0.97:
+            self.make(Register('usbcmd', self.pick.choice([SAVING, SAVING, SAVING | 4])))
+            self.make(Read('usbsts', self.pick.choice([1, 0x101])))
+        for name in self.pick.sample(SET_UP_AGAIN, self.pick.choice([0, 5, 5])):
+            if self.known.is_written(name):
+                self.make(Register(name, self.known.register(name)))
+        if self.pick.random() < 0.95:
+            self.make(Register('usbcmd', self.pick.choice([RESTORING, RESTORING, RESTORING | 4])))
+        for status in self.pick.choice([[1], [1], [0x201, 1], [0x201, 9], [0x401], []]):
+            self.make(Read('usbsts', status))
+        if self.pick.random() < 0.9:
+            self.try_step(lambda driver: driver.pick.choice([driver.goes_on] * 5 + [driver.sleeps])())
+        if self.known.is_halting:
+            self.try_step(lambda driver: driver.begins_anew())
 
     # ---- the command ring while the controller is halted
 

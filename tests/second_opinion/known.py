@@ -171,6 +171,11 @@ class Known(RingList):
         """It is known to have halted."""
         return self.last(('halted',), False)
 
+    @property
+    def state(self):
+        """What became of its state since it halted: 'saved', 'restoring' or 'restored'; None where it wasn't saved."""
+        return self.last(('state',), None)
+
     def is_reset(self, row):
         """The row ends a run by a reset."""
         is_written = isinstance(row, Register) and row.name == 'usbcmd' and is_set(row.value, runs.RESET)

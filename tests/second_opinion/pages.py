@@ -108,8 +108,10 @@ def range_lines(leased):
 def state_of(known):
     if known.is_stopped:
         return 'was stopped or reset'
-    if known.is_halting:
-        return 'is halted' if known.is_halted else 'halts'
+    if known.is_halting and not known.is_halted:
+        return 'halts'
+    if known.is_halted:
+        return 'is halted' + {None: '', 'saved': ', its state saved', 'restoring': ', and restores its state', 'restored': ', its state restored'}[known.state]
     return 'runs' if known.is_started else "isn't started"
 
 

@@ -2,7 +2,7 @@
 from areas import is_bad_area
 from blocks import aligned, bits, is_set
 from events import may_be_taken
-from runs import RESET, RUN
+from runs import RESET, RESTORE, RUN, SAVE
 
 SET_UP = ('crcr', 'dcbaap', 'config', 'erstsz', 'erstba', 'erdp')
 
@@ -33,12 +33,26 @@ def has_gap(known):
 
 
 def may_go_on(known):
-    """A halting controller is known to have halted, CRCR names the command ring that is there, and nothing of it may be taken that isn't finished."""
-    return known.is_halted and known.is_written('crcr') and not may_be_taken(known)
+    """A halting controller is known to have halted, and to have restored what it saved; CRCR names the command ring that is there, and nothing of it may be taken that
+    isn't finished."""
+    return known.is_halted and known.state in (None, 'restored') and known.is_written('crcr') and not may_be_taken(known)
+
+
+def saves_badly(known, value):
+    """The state is saved or restored before the halt is known, beside R/S 1, HCRST 1 or each other; saved where a command may be taken that isn't finished; or
+    restored where none was saved."""
+    saves, restores = is_set(value, SAVE), is_set(value, RESTORE)
+    if not known.trace.has_runs or not saves and not restores:
+        return False
+    if not known.is_halted or is_set(value, RUN) or is_set(value, RESET) or saves and restores:
+        return True
+    return may_be_taken(known) if saves else known.state is None
 
 
 def is_bad_usbcmd(known, value):
-    """A reset or a start comes too early or too late."""
+    """A reset or a start comes too early or too late, or the state is saved or restored where it can't be."""
+    if saves_badly(known, value):
+        return True
     if is_set(value, RESET):
         return is_late_reset(known) if not known.is_started else known.trace.has_runs and (not known.is_halted or has_gap(known))
     if not is_set(value, RUN):

@@ -1,10 +1,10 @@
-"""What rows tell of the controller's runs: it starts, halts, goes on or is reset (xHCI 4.2, 4.23.2, 5.4.1, 5.4.2)."""
-from blocks import is_set
+"""What rows tell of the controller's runs: it starts, halts, saves and restores its state, goes on or is reset (xHCI 4.2, 4.23.2, 5.4.1, 5.4.2)."""
+from blocks import bits, is_set
 from rings import Data
 
 # bits of USBCMD, and of USBSTS
-RUN, RESET = 0, 1
-HALTED = 0
+RUN, RESET, SAVE, RESTORE = 0, 1, 8, 9
+HALTED, RESTORES = 0, 9
 
 # what is known of these stays over a reset
 OF_RINGS = {'floor', 'bound'}
@@ -29,8 +29,20 @@ def of_command(known, value):
     elif is_set(value, RUN):
         yield ('halting',), False
         yield ('halted',), False
+        yield ('state',), None
     else:
         yield ('halting',), True
+        yield from of_state(known, value)
+
+
+def of_state(known, value):
+    """In a halt that is known the controller is to save its state, or to restore what it saved."""
+    if not known.is_halted:
+        return
+    if is_set(value, SAVE):
+        yield ('state',), 'saved'
+    elif is_set(value, RESTORE) and known.state is not None:
+        yield ('state',), 'restoring'
 
 
 def of_reset(known):
@@ -46,6 +58,9 @@ def of_reset(known):
 
 
 def of_read(known, row):
-    """A register is read: USBSTS alone says something, while the controller halts."""
-    if row.name == 'usbsts' and is_set(row.value, HALTED) and known.is_halting:
-        yield ('halted',), True
+    """A register is read: USBSTS alone says something, while the controller halts; of a state that is being restored by RSS and SRE, the two bits from RSS on."""
+    if row.name != 'usbsts' or not is_set(row.value, HALTED) or not known.is_halting:
+        return
+    yield ('halted',), True
+    if known.state == 'restoring' and bits(row.value, RESTORES, 2) == 0:
+        yield ('state',), 'restored'

@@ -10,7 +10,7 @@ OPERATIONAL = {0x00: ('usbcmd', None), 0x04: ('usbsts', None), 0x14: ('dnctrl', 
 INTERRUPTER = {0x00: ('iman', None), 0x04: ('imod', None), 0x08: ('erstsz', None), 0x10: ('erstba', 0), 0x14: ('erstba', 1),
                0x18: ('erdp', 0), 0x1c: ('erdp', 1)}
 USBCMD = 0x00
-RUN, RESET = 1, 2  # of it
+RUN, RESET, SAVE, RESTORE = 1, 2, 1 << 8, 1 << 9  # of it
 STOP_OR_ABORT = 6  # of CRCR: it names no ring then
 EVENT_RING_REGISTERS = ('erstsz', 'erdp', 'erstba')
 

@@ -6,9 +6,10 @@ from collections import namedtuple
 import commands
 import registers
 from qemu_log import FOREVER, Reset, Status, Write
-from registers import RESET, RUN, USBCMD, is_command, name_of
+from registers import RESET, RESTORE, RUN, SAVE, USBCMD, is_command, name_of
 
 HALTED = 1  # USBSTS
+RESTORES, FAILED = 1 << 9, 1 << 10  # of it: RSS and SRE
 
 # What the driver and the controller did; the keys of the row that stops it, or None, and of its last moment, or None where it may go on; what
 # to note of it; whether it goes on behind a halt; how many of its last items are made up for a reset of the machine
@@ -20,19 +21,22 @@ class Phase:
 
     def __init__(self):
         self.started = self.halting = self.halted = self.is_refuted = False
+        self.awaited = 0  # CRS was 1 behind the halt: of RSS and SRE what no read showed as 0 since
         self.goes_on = False  # it was started again behind a halt
 
     def write(self, value):
         """USBCMD is written."""
         if value & RUN:
             self.goes_on |= self.halting
-            self.started, self.halting, self.halted = True, False, False
+            self.started, self.halting, self.halted, self.awaited = True, False, False, 0
         elif self.started:
             self.halting = True
+            if value & (SAVE | RESTORE):
+                self.awaited = RESTORES | FAILED if self.halted and not value & SAVE else 0
 
     def says(self, status):
-        """Whether a read of USBSTS says something: the first that shows the halt, or HCHalted as it can't be."""
-        if self.sees_halt(status):
+        """Whether a read of USBSTS says something: the first that shows the halt, or how a restore ended, or HCHalted as it can't be."""
+        if self.sees_halt(status) or self.sees_restored(status):
             return True
         shows = self.refutes(status) and not self.is_refuted
         self.is_refuted |= shows
@@ -42,6 +46,13 @@ class Phase:
         """Whether this read is the first that shows the halt."""
         shows = status & HALTED != 0 and self.halting and not self.halted
         self.halted |= shows
+        return shows
+
+    def sees_restored(self, status):
+        """Whether this read is the first behind CRS that shows the restore over, or, where it failed, the first without that error."""
+        left = status & self.awaited
+        shows = status & HALTED != 0 and left != self.awaited and not left & RESTORES
+        self.awaited = left if shows else self.awaited
         return shows
 
     def refutes(self, status):

@@ -41,7 +41,9 @@ fn note_saving(case: &mut Case, value: u64) -> bool {
     let halt = case.known.controller.registers.halt();
     let saves = value / 256 % 2 == 1;
     let restores = value / 512 % 2 == 1;
-    if !halt.is_done() {
+    if case.known.controller.start.is_none() {
+        note_unstarted_saving(case);
+    } else if !halt.is_done() {
         note_early_saving(case, saves);
     } else if value % 4 != 0 || saves && restores {
         note_two_at_once(case);
@@ -53,6 +55,20 @@ fn note_saving(case: &mut Case, value: u64) -> bool {
         return false;
     }
     true
+}
+
+/// The state is saved or restored before the start.
+fn note_unstarted_saving(case: &mut Case) {
+    case.head(
+        "the controller is to save or restore its state before the start",
+        &[],
+    );
+    mark_reset(case);
+    case.say(
+        "CSS (bit 8) and CRS (bit 9) are judged behind Run/Stop 0, of a controller that ran (xHCI 4.23.2)",
+    );
+    case.not_judged();
+    case.advise("begin the trace behind the driver's reset, and log the run whose state is saved");
 }
 
 /// The state is saved or restored before the controller was seen to have halted.

@@ -213,14 +213,16 @@ What it is for
   values that fit the trace's rings: CRCR, DCBAAP, CONFIG, ERSTSZ, ERSTBA; the
   start needs CRCR, ERSTSZ, ERSTBA and ERDP. In `xtrace 4` Run/Stop 0 has the
   controller halt, and an `rd usbsts` row with HCHalted 1 tells that it did.
-  Only then it may run again or be reset, and these registers be written once
-  more: CRCR with the first TRB of a Command Ring whose doorbell was never rung,
-  the others with the value that they have (xHCI 4.2, 4.23.2, 5.4, 5.5.2).
+  Only then it may run again or be reset, save its state (CSS) or restore what
+  it saved (CRS), and these registers be written once more: CRCR with the first
+  TRB of a Command Ring whose doorbell was never rung, the others with the value
+  that they have (xHCI 4.2, 4.23.2, 5.4, 5.5.2).
 
 What a controller does to a driver that breaks it
   It looks for its rings elsewhere, or with the wrong Cycle State, from its
   first step on. Reset or set up anew before it has halted, it goes on in rings
-  and contexts that the driver takes for its own.
+  and contexts that the driver takes for its own. If it lost its power, and its
+  state isn't restored before Run/Stop 1, it knows no slot and no endpoint.
 
 What to write instead
   Reset first; then the ERST in memory, ERSTSZ, ERDP, ERSTBA; CRCR with the
@@ -231,6 +233,9 @@ What to write instead
   Run/Stop 1 may follow where every command is completed, and CRCR names the
   Command Ring that is there. HCRST may follow where no command was handed over
   behind one that wasn't; then free the Command Ring, and set up all anew.
+  Around a loss of power write CSS once every command is completed; behind it
+  the registers, then CRS, and read USBSTS until RSS is 0 before Run/Stop 1.
+  Where SRE is 1, write HCRST. No two of Run/Stop, HCRST, CSS and CRS are 1.
 
 A trace that breaks it
   Row 4 writes CRCR with RCS 0, and is refused.
