@@ -4,8 +4,7 @@ use Rattle.trace_record.proofs.BaseWords.{◌&&◌, Command, EventState, Follows
 use Rattle.traces.specs.declared.register.Register.TheVariants.{Usbsts}
 use Rattle.traces.specs.declared.row.Row.TheVariants.{RegRead}
 use Rattle.traces.specs.declared.halt.Halt.{Halt}
-use Rattle.traces.specs.declared.halt.Halt.TheVariants.{Done}
-use Rattle.traces.specs.Halts.{is_asked}
+use Rattle.traces.specs.Halts as halts
 use Rattle.traces.specs.Register.{halted_bit}
 use Rattle.ring_knowledge.specs.Learned.{learned}
 use Rattle.ring_knowledge.specs.Registers.{register_read, status_read}
@@ -20,9 +19,9 @@ seen k halt = record k { halt = halt }
 
 status_is : (k : Known) (v : ℕ) → (halt : Halt) × (status_read k v ≡ seen k halt)
 unfolding status_read
-status_is k v = elim (cases_Bool (is_asked k.halt && halted_bit v)) [
-  | inl halts ↦ (Done, cond-true (is_asked k.halt && halted_bit v) (seen k Done) k halts)
-  | inr goes_on ↦ (k.halt, cond-false (is_asked k.halt && halted_bit v) (seen k Done) k goes_on)
+status_is k v = elim (cases_Bool (halts.is_asked k.halt && halted_bit v)) [
+  | inl shown ↦ (halts.seen k.halt v, cond-true (halts.is_asked k.halt && halted_bit v) (seen k (halts.seen k.halt v)) k shown)
+  | inr goes_on ↦ (k.halt, cond-false (halts.is_asked k.halt && halted_bit v) (seen k (halts.seen k.halt v)) k goes_on)
 ]
 
 read_is : (k : Known) (r : Register) (v : ℕ) → (halt : Halt) × (register_read k r v ≡ seen k halt)

@@ -60,7 +60,8 @@ impl TraceRecord {
         requires found { IsFinder header.now.rings finder.now }
         ensures { (k : Known) → FollowsRegisters k self.now.registers → FollowsRings header.now k self.now.rings.items → StartedIsThere header.now k → result ≡ saves_badly header.now k value }
     {
-        if !header.version.has_runs() {
+        let runs_again = header.version.has_runs();
+        if !runs_again {
             return false;
         }
         self.is_early_save(header, finder, value) || self.is_early_restore(value)
