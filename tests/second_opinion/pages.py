@@ -18,7 +18,7 @@ from verify import verdict
 # in the order of their addresses (xHCI 5.4, 5.5.2)
 REGISTERS = ['usbcmd', 'usbsts', 'dnctrl', 'crcr', 'dcbaap', 'config', 'iman', 'imod', 'erstsz', 'erstba', 'erdp']
 
-COMMANDS = {NO_OP_COMMAND: 'No Op', ENABLE_SLOT: 'Enable Slot', DISABLE_SLOT: 'Disable Slot', ADDRESS_DEVICE: 'Address Device',
+COMMANDS = {NO_OP_COMMAND: 'No Op Command', ENABLE_SLOT: 'Enable Slot', DISABLE_SLOT: 'Disable Slot', ADDRESS_DEVICE: 'Address Device',
             CONFIGURE_ENDPOINT: 'Configure Endpoint', EVALUATE_CONTEXT: 'Evaluate Context', RESET_ENDPOINT: 'Reset Endpoint',
             STOP_ENDPOINT: 'Stop Endpoint', SET_TR_DEQUEUE: 'Set TR Dequeue Pointer', RESET_DEVICE: 'Reset Device'}
 
