@@ -1,6 +1,8 @@
 /* In the guest of the Linux recordings: takes an interface of a device from its driver and does through usbfs what drivers seldom do.
      urbs cancel NODE  a keyboard: queues transfers and takes some back while they are under way, the one that the controller is at too
      urbs grow NODE    a disk: queues more TRBs than the endpoint's ring has room for
+     urbs fill NODE ENQUEUE BEHIND  a keyboard: queues more than its ring has room for when all transfers before a Link are done, and so many behind
+                       it; ENQUEUE is the file in which the driver tells where it is in the ring
      urbs break NODE ORDER  a disk or a serial adapter: the same, and takes the transfers back in this order while they are under way
      urbs reset NODE   resets the device, whose drivers keep it */
 #include <fcntl.h>
@@ -11,7 +13,8 @@
 #include <sys/ioctl.h>
 #include <unistd.h>
 
-enum { IN = 0x81, OUT = 0x02, QUEUE = 6, REPORT = 8, TWO_TRBS = 2 << 16, SET_IDLE = 10, PARTS = 3, PART = 3 << 20 };
+enum { IN = 0x81, OUT = 0x02, QUEUE = 6, REPORT = 8, TWO_TRBS = 2 << 16, SET_IDLE = 10, PARTS = 3, PART = 3 << 20, SEGMENT = 256,
+       ROOM = 4, SLOW = 250 };
 
 static int device;
 
@@ -105,6 +108,51 @@ static void read_parts(const char *order)
     reap();
 }
 
+/* How many TRBs come before the next Link */
+static int up_to_link(const char *enqueue)
+{
+    unsigned long long at = 0;
+    FILE *file = fopen(enqueue, "r");
+
+    if (!file || fscanf(file, "%llx", &at) != 1)
+        perror(enqueue);
+    if (file)
+        fclose(file);
+    return SEGMENT - 1 - at / 16 % SEGMENT;
+}
+
+/* Queues transfers of one TRB each */
+static void queue(int transfers)
+{
+    static unsigned char reports[2 * SEGMENT][REPORT];
+
+    for (int i = 0; i < transfers; i++)
+        submit(USBDEVFS_URB_TYPE_INTERRUPT, IN, reports[i], REPORT);
+}
+
+static void reap_all(int transfers)
+{
+    while (transfers--)
+        reap();
+}
+
+/* Nearly all transfers of two segments are queued; when those before the first one's Link are done, and so many behind it, so many more that the
+   segment before that Link is full again, and the ring grows there */
+static void fill(const char *enqueue, int behind)
+{
+    int before = up_to_link(enqueue), segment = SEGMENT - 1;
+
+    printf("%d TRBs up to the Link\n", before);
+    queue(before + segment - ROOM);
+    set_idle(1);
+    reap_all(before - 2);
+    set_idle(SLOW);
+    reap_all(2 + behind);
+    queue(ROOM + segment + ROOM);
+    set_idle(1);
+    reap_all(segment + segment + ROOM - behind);
+}
+
 int main(int count, char **words)
 {
     const char *what = count > 2 ? words[1] : "";
@@ -120,6 +168,8 @@ int main(int count, char **words)
     } else if (!strcmp(what, "grow")) {
         read_parts(""); /* the ring grows */
         read_parts(""); /* and goes round */
+    } else if (!strcmp(what, "fill") && count > 4) {
+        fill(words[3], atoi(words[4]));
     } else if (!strcmp(what, "break") && count > 3) {
         read_parts(words[3]);
     }
