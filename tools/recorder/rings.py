@@ -290,10 +290,13 @@ class Finder:
     def leading(self, link, uses, joined):
         """What the Link was up to where it leads elsewhere though it was followed."""
         states = self.states(link, uses, joined)
+        since = states[0][0] if states else None  # from when on it has led to where it leads
         for i, (key, target) in enumerate(states[1:], 1):
-            since, earlier = states[i - 1]
-            if target != earlier and self.is_within(self.passed.get(link, []), max(since, uses[0].named), key):
+            if target == states[i - 1][1]:
+                continue
+            if self.is_within(self.passed.get(link, []), max(since, uses[0].named), key):
                 return Leading(link, states[:i], states[i])
+            since = key
         return Leading(link, states, None)
 
     def states(self, link, uses, joined=None):
