@@ -11,6 +11,8 @@ COMMAND_TYPES = {*range(9, 18), NO_OP_COMMAND}
 LEFT_OUT_COMMAND_TYPES = {*range(18, 23), 24, 25, *range(48, 64)}
 EVENT_TYPES = set(range(32, 40))
 
+# the place of the Chain bit in a control word
+CHAIN = 4
 # the code of a command that was done
 SUCCESS = 1
 
@@ -32,7 +34,7 @@ def type_of(block):
 
 
 def is_chained(block):
-    return is_set(block[3], 4)
+    return is_set(block[3], CHAIN)
 
 
 def pointer(block):

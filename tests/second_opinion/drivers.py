@@ -7,7 +7,7 @@ on rings come and go besides, and descriptors are withdrawn, and in version 4 en
 import random
 
 import contexts
-from blocks import (ADDRESS_DEVICE, CONFIGURE_ENDPOINT, COMMAND_COMPLETION, DATA_STAGE, DISABLE_SLOT, ENABLE_SLOT, EVALUATE_CONTEXT,
+from blocks import (ADDRESS_DEVICE, CHAIN, CONFIGURE_ENDPOINT, COMMAND_COMPLETION, DATA_STAGE, DISABLE_SLOT, ENABLE_SLOT, EVALUATE_CONTEXT,
                     EVENT_DATA, ISOCH, LINK, NORMAL, NO_OP, NO_OP_COMMAND, RESET_DEVICE, RESET_ENDPOINT, SETUP_STAGE, SET_TR_DEQUEUE, STATUS_STAGE,
                     STOP_ENDPOINT, TRANSFER_EVENT, with_cycle)
 from drivers_of_runs import TABLES, DriverOfRuns
@@ -163,7 +163,9 @@ class Driver(DriverOfRuns):
     def give_link(self, ring, crossing):
         self.write(ring.link_address(crossing), *halves(ring.link_target(crossing)))
         toggle = 2 if ring.toggles(crossing) else 0
-        self.make(Write(ring.link_address(crossing) + 12, LINK << 10 | toggle | ring.cycle(crossing - 1)))
+        is_inside = crossing < self.known.declared(ring) and not self.known.is_border(ring, crossing)
+        chain = 1 << CHAIN if is_inside != (self.pick.random() < 0.2) else 0
+        self.make(Write(ring.link_address(crossing) + 12, LINK << 10 | chain | toggle | ring.cycle(crossing - 1)))
 
     def store_again(self, address, words):
         """What stands there already, as a driver does that stores each command twice."""
@@ -420,6 +422,7 @@ class Driver(DriverOfRuns):
         for _ in range(self.pick.choice([1, 1, 2, 3])):
             self.try_step(lambda driver: driver.withdraw(ring))
             self.try_step(lambda driver: driver.scribble_freed(ring))
+            self.try_step(lambda driver: driver.unchain(ring))
         self.go_on(slot, index, ring)
 
     def command_beside(self, slot, index):
@@ -437,12 +440,13 @@ class Driver(DriverOfRuns):
         return [at for at in ((slot, index) for slot in SLOTS for index in (1, 2, 3)) if self.known.endpoint_state(*at) in ('Running', 'Stopped')]
 
     def withdraw(self, ring):
-        """A descriptor, mostly one that the controller can't have come to, or from version 3 on isn't known to have passed."""
+        """A descriptor, mostly one that the controller can't have come to, or from version 3 on isn't known to have passed; often one over a Link."""
         least = self.known.ceiling(ring) if self.pick.random() < 0.6 else self.known.floor(ring).number
         begins = [p for p in range(self.known.declared(ring)) if self.known.descriptor_length(ring, p) > 0 and not self.known.was_withdrawn(ring, p)]
         fitting = [p for p in begins if p >= least]
+        over_a_link = [p for p in fitting if ring.crossings(p + 1, p + self.known.descriptor_length(ring, p) - 1)]
         if fitting and self.pick.random() < 0.9:
-            self.make(Withdraws(ring.number, self.pick.choice(fitting)))
+            self.make(Withdraws(ring.number, self.pick.choice(over_a_link if over_a_link and self.pick.random() < 0.5 else fitting)))
         else:
             self.make(Withdraws(self.pick.choice([ring.number, ring.number, self.pick.randrange(14)]), self.pick.randrange(self.known.declared(ring) + 2)))
 
@@ -452,6 +456,16 @@ class Driver(DriverOfRuns):
         for _ in range(self.pick.randrange(3) if freed else 0):
             address = ring.address(self.pick.choice(freed)) + 4 * self.pick.choice([0, 1, 2, 3, 3, 3])
             self.make(Write(address, self.pick.choice([0, 1, self.known.word(address) ^ 1, self.known.word(address) ^ 1, self.pick.getrandbits(32)])))
+
+    def unchain(self, ring):
+        """Links beside what is withdrawn lose their Chain bit, from version 4 on mostly; sometimes another bit changes with it, or another Link's word does."""
+        freed = self.known.unrestored(ring)
+        for crossing in self.known.due_crossings(ring):
+            is_beside = crossing in freed or crossing - 1 in freed
+            if self.pick.random() < (0.9 if is_beside and self.trace.version >= 4 else 0.1):
+                control = ring.link_address(crossing) + 12
+                word = self.known.word(control) & ~(1 << CHAIN) if self.pick.random() < 0.95 else self.known.word(control) ^ 1 << CHAIN
+                self.make(Write(control, word ^ (1 << self.pick.randrange(32) if self.pick.random() < 0.05 else 0)))
 
     def restore(self, ring, how_often):
         """No Ops where descriptors were withdrawn."""
@@ -471,6 +485,14 @@ class Driver(DriverOfRuns):
         if self.pick.random() < 0.8:
             self.try_step(lambda driver: driver.make(Doorbell(slot, index)))
         self.try_step(lambda driver: driver.stray_freed(ring))
+        self.try_step(lambda driver: driver.stray_link(ring))
+
+    def stray_link(self, ring):
+        """The Chain bit of a Link changes, sometimes: behind what started or moved the ring."""
+        crossings = self.known.due_crossings(ring)
+        if crossings and self.pick.random() < 0.2:
+            control = ring.link_address(self.pick.choice(crossings)) + 12
+            self.make(Write(control, self.known.word(control) ^ 1 << CHAIN))
 
     def stray_freed(self, ring):
         """A write into a No Op that was put where a descriptor was withdrawn."""

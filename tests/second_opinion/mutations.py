@@ -1,6 +1,8 @@
 """Traces that differ a little from worked ones, picked by a seed: text in, text out."""
 import random
 
+from blocks import CHAIN, LINK
+
 DIGITS = b'0123456789abcdef'
 
 
@@ -80,12 +82,26 @@ def with_a_descriptor_withdrawn(lines, i, pick):
     return lines[:i] + [b'nop ' + pick.choice(rings).split()[1] + b' %016x' % pick.randrange(6)] + lines[i:] if rings else lines
 
 
+def is_link(line):
+    """It writes the control word of a Link."""
+    return line.startswith(b'w ') and line.split()[1].endswith(b'c') and int(line.split()[2], 16) >> 10 & 63 == LINK
+
+
+def with_a_chain_bit_changed(lines, i, pick):
+    """Before a row a Link that was written gets the other Chain bit."""
+    links = [line.split() for line in lines[:i] if is_link(line)]
+    if not links:
+        return lines
+    _, address, word = pick.choice(links)
+    return lines[:i] + [b'w %s %08x' % (address, int(word, 16) ^ 1 << CHAIN)] + lines[i:]
+
+
 def with_another_version(lines, i, pick):
     return [b'xtrace %d' % pick.choice([1, 2, 2, 3, 3, 4, 4]), *lines[1:]]
 
 
 OF_ROWS = [without_a_row, with_a_row_twice, with_two_rows_swapped, with_a_row_elsewhere, with_a_digit_changed, with_a_bit_changed]
-OF_RINGS = [with_a_ring_that_goes, with_a_ring_that_comes, with_a_ring_declared_later, with_a_descriptor_withdrawn, with_another_version]
+OF_RINGS = [with_a_ring_that_goes, with_a_ring_that_comes, with_a_ring_declared_later, with_a_descriptor_withdrawn, with_a_chain_bit_changed, with_another_version]
 CHANGES = OF_ROWS * 3 + OF_RINGS
 
 

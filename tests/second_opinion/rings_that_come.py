@@ -1,6 +1,6 @@
 """Where a ring may come, where one may go, and which descriptors may be withdrawn (xHCI 4.6.9, 4.6.10, 4.9, 4.11.5.1)."""
 from areas import is_in_range_lease, is_soiled
-from blocks import with_cycle
+from blocks import CHAIN, is_set, with_cycle
 from events import may_be_taken
 from given_commands import changes_endpoint
 from moves import is_being_bound
@@ -69,3 +69,15 @@ def flips_passed(known, write):
     def is_flipped(ring, p):
         return p < known.ceiling(ring) and write.address == ring.address(p) + 12 and write.word % 2 != ring.cycle(p)
     return any(is_flipped(ring, p) for ring in known.driver_rings for p in known.unrestored(ring))
+
+
+def unchains_link(known, write):
+    """The Chain bit of a Link under lease is cleared, and nothing else changes, while a block before or behind that Link is withdrawn and not restored."""
+    stands = known.word(write.address)
+    if not is_set(stands, CHAIN) or write.word != stands - (1 << CHAIN):
+        return False
+
+    def is_beside(ring, crossing):
+        free = known.unrestored(ring)
+        return write.address == ring.link_address(crossing) + 12 and (crossing - 1 in free or crossing in free)
+    return any(is_beside(ring, q) for ring in known.driver_rings for q in known.due_crossings(ring) if known.is_crossing_given(ring, q))

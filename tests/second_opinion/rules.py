@@ -3,10 +3,10 @@ from blocks import (ADDRESS_DEVICE, COMMAND_COMPLETION, EVENT_TYPES, LINK, SET_T
                     is_bad_command, is_bad_transfer, is_left_out_command, is_left_out_transfer, is_set, pointer, type_of, with_cycle)
 from events import is_impossible_completion, is_impossible_transfer, is_in_profile
 from given_commands import adds_left_out_endpoint, changes_endpoint, is_in_the_way, is_refused, moves_ring
-from leases import device_contexts, event_segments, is_touched, open_leases
+from leases import device_contexts, event_segments, is_touched, open_leases, open_ranges
 from moves import is_bad_binding, is_bad_dequeue, is_bad_stay, is_being_bound
 from registers import SET_UP, is_bad_set_up, is_bad_usbcmd
-from rings_that_come import flips_passed, has_stopped, is_bad_segment, is_left, may_be_withdrawn, may_come, may_go
+from rings_that_come import flips_passed, has_stopped, is_bad_segment, is_left, may_be_withdrawn, may_come, may_go, unchains_link
 from runs import HALTED
 from trace import Comes, Declare, Doorbell, Event, Goes, Read, Register, Withdraws, Write
 
@@ -27,11 +27,12 @@ def links_given(known, write):
 
 def write_to_owned(known, row):
     """The word is under lease, or it flips the Cycle bit of a withdrawn block that may have been passed. Version 3 lets a word under lease be written as it
-    stands, but in event segments and device contexts."""
+    stands, but in event segments and device contexts; version 4 besides lets a Link beside a withdrawn block lose its Chain bit, but in a leased range."""
     has = lambda leases: any(is_touched(leased, row.address, 4) for leased in leases)
     is_stored_again = known.word(row.address) == row.word and not has([*event_segments(known), *device_contexts(known)])
-    is_leased = has(open_leases(known)) and not (known.trace.version >= 3 and is_stored_again)
-    return is_leased or flips_passed(known, row)
+    is_unchained = known.trace.version >= 4 and unchains_link(known, row) and not has(open_ranges(known))
+    is_let_be = known.trace.version >= 3 and is_stored_again or is_unchained
+    return has(open_leases(known)) and not is_let_be or flips_passed(known, row)
 
 
 def not_as_submitted(known, row):
