@@ -8,6 +8,8 @@ TRANSFER_EVENT, COMMAND_COMPLETION = 32, 33
 SUCCESS, TRB_ERROR, STOPPED_CODES, HALTING_CODES = 1, 5, (26, 27, 28), (3, 4, 5, 6, 36)
 SERVICE_CODES = (14, 15, 23)  # Ring Underrun, Ring Overrun, Missed Service Error: no TRB is passed by them (4.10.3)
 
+CHAIN = 1 << 4  # in a control word
+
 
 def kind(words):
     return words[3] >> 10 & 63

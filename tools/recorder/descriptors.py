@@ -18,6 +18,7 @@ class Producer:
     def __init__(self, ring):
         self.ring, self.floor, self.given = ring, 0, {}
         self.withdrawn, self.withdrawals = set(), []  # positions; pairs of a row number and a descriptor's first position
+        self.unchained = []  # numbers of the rows that clear the Chain bit of a Link beside a withdrawn block
 
     def write(self, number, at, words):
         """A write of the control word of the block at `at`: gives its current position where the Cycle bit is that one's."""
@@ -34,6 +35,12 @@ class Producer:
         if positions and positions[0] >= self.floor:
             self.withdrawn.update(positions)
             self.withdrawals.append((number, positions[0]))
+
+    def unchains(self, number, at, word):
+        """The Chain bit alone of a Link's word is cleared while its endpoint is stopped: told where the controller has it and a block beside it is withdrawn."""
+        crossing = self.ring.least(at, self.floor) if at in self.ring.crossing else None
+        if crossing is not None and word & 1 == self.ring.cycle(crossing - 1) and not self.withdrawn.isdisjoint((crossing - 1, crossing)):
+            self.unchained.append(number)
 
     def descriptor_with(self, position):
         """The positions of the descriptor that has a given one; None where it wasn't given whole."""
@@ -112,12 +119,14 @@ class Follower:
 
     def store(self, number, row):
         at, word = row.fields
-        is_changed = self.memory.get(at, 0) != word
+        earlier = self.memory.get(at, 0)
         self.memory[at] = word
         block = at - at % 16
         producer = self.owner.get(block)
-        if producer and is_changed and producer.ring.is_had_by(self.stopped, row.key):
+        if producer and word != earlier and producer.ring.is_had_by(self.stopped, row.key):
             producer.changed(number, block)
+            if at % 16 == 12 and earlier & blocks.CHAIN and word == earlier - blocks.CHAIN:
+                producer.unchains(number, block, word)
         if producer and at % 16 == 12:
             producer.write(number, block, tuple(self.memory.get(block + 4 * i, 0) for i in range(4)))
 
@@ -146,6 +155,11 @@ def follow(rows, rings, commands):
     for number, row in enumerate(rows):
         follower.row(number, row)
     return follower.producers
+
+
+def unchain(producers, cut):
+    """Whether a Link that the controller has, beside a withdrawn block, loses its Chain bit before the rows end."""
+    return any(cut is None or number < cut.row for producer in producers for number in producer.unchained)
 
 
 def declared(rows, producers, version):

@@ -37,10 +37,10 @@ def is_isochronous(row):
     return row.kind == 'ev' and blocks.kind(row.fields) == blocks.TRANSFER_EVENT and blocks.code(row.fields) in blocks.SERVICE_CODES
 
 
-def head(latest, rows, context_size, rings, is_joined=False):
+def head(latest, rows, context_size, rings, is_latest=False):
     """The lines before these rows: of version 3 where the latest that was asked for is a later one, and nothing in them is that one's. Rows of
-    several runs are."""
-    version = latest if latest < 4 or is_joined or any(map(is_isochronous, rows)) else 3
+    several runs are, and those by which a Link beside what is withdrawn loses its Chain bit: `is_latest` tells."""
+    version = latest if latest < 4 or is_latest or any(map(is_isochronous, rows)) else 3
     return [f'xtrace {version}', f'ctx {context_size:02x}'] + [ring.line() for ring in rings if ring.comes is None]
 
 
