@@ -1,12 +1,14 @@
 -- What the versions before refuse besides: the rules that came first are stricter than any harm asks for
-use Rattle.std.specs.Prelude.{◌&&◌, ◌||◌, Bool, false, not}
+use Rattle.std.specs.Prelude.{ℕ, ◌==◌, ◌&&◌, ◌||◌, Bool, false, not}
+use Rattle.std.specs.List.{list_any}
 use Rattle.traces.specs.declared.header.Header.{Header}
 use Rattle.traces.specs.declared.row.Row.{Row}
 use Rattle.traces.specs.declared.register.Register.TheVariants.{Erstsz, Erdp}
 use Rattle.traces.specs.declared.row.Row.TheVariants.{Write, Reg, Free as FreeRow, Nop as NopRow}
-use Rattle.traces.specs.Header.{ring_with, shape_of}
+use Rattle.traces.specs.Header.{driver_rings, ring_with, shape_of}
 use Rattle.traces.specs.Versions.{has_runs, is_lenient}
 use Rattle.ring_knowledge.specs.Known.{Known}
+use Rattle.ring_knowledge.specs.BesideFree as of_ring
 use Rattle.ownership_rules.specs.declared.refusal.Refusal.{Refusal}
 use Rattle.ownership_rules.specs.declared.refusal.Refusal.TheVariants.{WriteToOwned, BadRegister, BadErdp, Busy, NotInProfile, BadMove}
 use Rattle.ownership_rules.specs.OpenLeases.{is_leased}
@@ -18,10 +20,18 @@ use Rattle.ownership_rules.specs.Writes as writes
 use Rattle.ownership_rules.specs.Withdrawals.{is_passed}
 
 module _ (h : Header) where
-  -- WriteToOwned: a word under lease, also one that the write leaves as it is; Busy: a command beside any other of its slot; NotInProfile: an isochronous endpoint (xHCI 4.14.2), also one that stays
+  -- the word at this address is the control word of a Link under lease that stands beside a block that was withdrawn and isn't restored
+  unfoldable pub stands_beside_free : Known → ℕ → Bool
+  stands_beside_free k a = list_any (λ r. of_ring.stands_beside_free r.shape (k.ring r.id) a) (driver_rings h)
+
+  -- the version lets a driver write a word under lease so: from version 3 on as it stands, and from version 4 on to unchain a Link within a
+  -- descriptor that it takes back
+  unfoldable pub may_stand_so : Known → ℕ → ℕ → Bool
+  may_stand_so k a w = is_lenient h.version && (k.memory a == w || (has_runs h.version && stands_beside_free k a))
+
+  -- Busy: a command beside any other of its slot; NotInProfile: an isochronous endpoint (xHCI 4.14.2), also one that stays
   -- unused; BadRegister: ERSTSZ a second time, or with a value that is never used; BadErdp: before the start no event place; BadMove: a command that binds a ring that was bound before
   unfoldable pub older : Known → Row → Refusal → Bool
-  older k (Write a w) WriteToOwned = is_leased h k a
   older k (Write a w) Busy = writes.some_command h k a w (commands.shares_slot h k)
   older k (Write a w) NotInProfile = writes.some_command h k a w (commands.adds_isochronous h k)
   older k (Write a w) BadMove = writes.some_command h k a w (moves.binds_again h k)
@@ -31,6 +41,7 @@ module _ (h : Header) where
 
   -- what the trace's version refuses besides, by this rule
   unfoldable pub stricter : Known → Row → Refusal → Bool
+  stricter k (Write a w) WriteToOwned = is_leased h k a && not (may_stand_so k a w)
   stricter k (NopRow r p) rule = is_passed h (shape_of h r) (k.ring r) p
   stricter k (FreeRow id) rule = not (is_transfer_ring (ring_with h id)) && not (has_runs h.version)
   stricter k row rule = older k row rule && not (is_lenient h.version)

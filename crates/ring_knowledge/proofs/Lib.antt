@@ -26,6 +26,7 @@ pub mod FreeNumbers
 pub mod Withdrawn
 pub mod Declared
 pub mod FlippedWords
+pub mod BesideFree
 pub mod Words
 pub mod LowerLaws
 pub mod MiddleLaws

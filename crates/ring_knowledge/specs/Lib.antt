@@ -11,5 +11,6 @@ pub mod Histories
 pub mod Marks
 pub mod SpotsAt
 pub mod RingRecords
+pub mod BesideFree
 pub mod RegisterRecords
 pub mod OnLiterals

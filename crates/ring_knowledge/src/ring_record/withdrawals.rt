@@ -11,9 +11,10 @@ ghost use Rattle.segments.specs.RingView.{RingView, Restores, Withdraws, changed
 ghost use Rattle.segments.specs.Shape.{IsShape};
 ghost use Rattle.segments.specs.ShapeValue.{Shape};
 ghost use Rattle.segments.specs.Spots.{number};
+ghost use Rattle.ring_knowledge.specs.BesideFree.{is_unrestored, stands_beside_free};
 ghost use Rattle.ring_knowledge.specs.Marks.{is_noted};
 
-use super::{RingRecord, has_cycle_of, is_noted, next_with_rest, number};
+use super::{RingRecord, has_cycle_of, is_marked, is_noted, next_with_rest, number, place_before};
 use guest_memory::{Addr, WordMemory};
 use segments::{Place, RingShape};
 use std::alloc::{AllocError, Global};
@@ -185,6 +186,44 @@ impl RingRecord {
             Some(Place::Link { .. }) => false,
             None => false,
         }
+    }
+
+    /// Whether the word at an address is the control word of a Link under lease that stands beside a free position (xHCI 4.11.5.1).
+    pub fn stands_beside_free(&self, shape: &RingShape, at: Addr) -> bool
+        ensures { (v : RingView) → FollowsRing shape.now v self.now → result ≡ stands_beside_free shape.now v at }
+    {
+        match shape.place_at(at.get()) {
+            Some(
+                Place::Link {
+                    segment,
+                    word: index,
+                },
+            ) => {
+                if index != 3 {
+                    return false;
+                }
+                if !is_marked(&self.crossed, segment as usize) {
+                    return false;
+                }
+                let passed = number(self.floor).saturating_sub(1);
+                let places = u64::from(shape.places());
+                let before = next_with_rest(
+                    passed,
+                    places,
+                    u64::from(place_before(shape, segment)),
+                );
+                self.is_unrestored(before) || self.is_unrestored(before + 1)
+            }
+            Some(Place::Data { .. }) => false,
+            None => false,
+        }
+    }
+
+    /// Whether a position from the floor on is free.
+    fn is_unrestored(&self, position: u64) -> bool
+        ensures { (shape : Shape) (v : RingView) → FollowsRing shape v self.now → result ≡ is_unrestored v position }
+    {
+        number(self.floor) <= position && self.free.contains(&position)
     }
 
     /// Whether the block of a data place that is given is the controller's: its due position isn't free.
