@@ -1,4 +1,4 @@
--- What the versions before refuse besides: the rules that came first are stricter than any harm asks for
+-- What the trace's version refuses besides what a harm asks for
 use Rattle.std.specs.Prelude.{ℕ, ◌==◌, ◌&&◌, ◌||◌, Bool, false, not}
 use Rattle.std.specs.List.{list_any}
 use Rattle.traces.specs.declared.header.Header.{Header}
@@ -24,12 +24,12 @@ module _ (h : Header) where
   unfoldable pub stands_beside_free : Known → ℕ → Bool
   stands_beside_free k a = list_any (λ r. of_ring.stands_beside_free r.shape (k.ring r.id) a) (driver_rings h)
 
-  -- the version lets a driver write a word under lease so: from version 3 on as it stands, and from version 4 on to unchain a Link within a
-  -- descriptor that it takes back
-  unfoldable pub may_stand_so : Known → ℕ → ℕ → Bool
-  may_stand_so k a w = is_lenient h.version && (k.memory a == w || (has_runs h.version && stands_beside_free k a))
+  -- the version lets the driver write a word under lease so: from version 3 on as it stands, from version 4 on also to unchain a Link of a
+  -- descriptor that it takes back (xHCI 4.6.9)
+  unfoldable pub may_write_owned : Known → ℕ → ℕ → Bool
+  may_write_owned k a w = is_lenient h.version && (k.memory a == w || (has_runs h.version && stands_beside_free k a))
 
-  -- Busy: a command beside any other of its slot; NotInProfile: an isochronous endpoint (xHCI 4.14.2), also one that stays
+  -- of the versions before: Busy: a command beside any other of its slot; NotInProfile: an isochronous endpoint (xHCI 4.14.2), also one that stays
   -- unused; BadRegister: ERSTSZ a second time, or with a value that is never used; BadErdp: before the start no event place; BadMove: a command that binds a ring that was bound before
   unfoldable pub older : Known → Row → Refusal → Bool
   older k (Write a w) Busy = writes.some_command h k a w (commands.shares_slot h k)
@@ -39,9 +39,9 @@ module _ (h : Header) where
   older k (Reg Erdp v) BadErdp = registers.names_no_place h k v
   older k _ _ = false
 
-  -- what the trace's version refuses besides, by this rule
+  -- what the trace's version refuses besides, by this rule; WriteToOwned: a word under lease that the version doesn't let the driver write so
   unfoldable pub stricter : Known → Row → Refusal → Bool
-  stricter k (Write a w) WriteToOwned = is_leased h k a && not (may_stand_so k a w)
+  stricter k (Write a w) WriteToOwned = is_leased h k a && not (may_write_owned k a w)
   stricter k (NopRow r p) rule = is_passed h (shape_of h r) (k.ring r) p
   stricter k (FreeRow id) rule = not (is_transfer_ring (ring_with h id)) && not (has_runs h.version)
   stricter k row rule = older k row rule && not (is_lenient h.version)

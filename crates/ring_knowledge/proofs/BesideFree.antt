@@ -1,6 +1,6 @@
 -- Which words are the control word of a Link under lease that stands beside a free position
-use Rattle.ring_knowledge.proofs.UpperLaws.{◌≡◌, ◌+◌, ◌*◌, ◌<◌, ◌≤◌, ◌∙◌, ◌==◌, ◌&&◌, ℕ, Bool, true, false, Some, refl, ap, sym, arith, max, get_or, list_any, range_with_len, and_parts, and_from, eq-eqb, eqb-true, AtLink, Shape, place_count, link_crossed, is_crossing, link_address, place_at, place_at-Link, RingView, floor_number, due_crossings, leased_crossings, link_of, crossed_link, crossing_positive, is_crossing-from, link_address_is, RingRecord, is_noted, FollowsMarks, least_crossing, noted_due, noted_within, false_unless, any_filtered, any_none, any_only, link_of-crossed, due_crossing, same_due_crossing, link_is}
-use Rattle.ring_knowledge.proofs.MiddleLaws.{place_at-link_address, number, ◌-◌, ◌||◌, not-false}
+use Rattle.ring_knowledge.proofs.UpperLaws.{◌≡◌, ◌+◌, ◌*◌, ◌<◌, ◌≤◌, ◌∙◌, ◌==◌, ◌&&◌, ℕ, Bool, true, false, Some, ap, sym, arith, max, get_or, list_any, range_with_len, and_parts, eq-eqb, eqb-true, AtLink, Shape, place_count, link_crossed, is_crossing, link_address, place_at, place_at-Link, RingView, floor_number, due_crossings, leased_crossings, link_of, crossed_link, crossing_positive, is_crossing-from, link_address_is, RingRecord, is_noted, FollowsMarks, least_crossing, noted_due, noted_within, false_unless, any_filtered, any_none, any_only, link_of-crossed, due_crossing, same_due_crossing, link_is}
+use Rattle.ring_knowledge.proofs.MiddleLaws.{place_at-link_address, number, ◌-◌, ◌||◌}
 use Rattle.ring_knowledge.specs.BesideFree.{is_beside_free, is_unrestored, stands_beside_free}
 
 module _ (shape : Shape) (v : RingView) (r : RingRecord) (follows : FollowsMarks shape v r) (a : ℕ) where

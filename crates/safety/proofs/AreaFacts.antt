@@ -1,5 +1,6 @@
 -- Areas and ranges under lease that have no byte in common
-use Rattle.safety.proofs.LowerLaws.{[], ◌≡◌, ◌≢◌, ◌+◌, ◌*◌, ◌/◌, ◌^◌, ◌<◌, ◌≤◌, ◌⊎◌, ◌∷◌, ◌∙◌, ℕ, Bool, false, List, nat_lt, nat_le, Some, arith, refl, sym, lt-ltb, le-ltb, ltb-true, leb-true, rules, list_any, flat_map, cases_lt, and_left, and_right, or_parts, or_from, and_parts, and_cases, false≢true, false_from_ne_true, list_any-append, is_in, overlap, device_context_bytes, input_context_bytes, Command, named_context, table_bytes, event_shape, base_address, Erstba, Header, touches_ring, Known, entry_of, Range, SegmentTable, Use, InputContext, SlotEntry, DeviceContext, covers, lease_start, lease_bytes, range_of_device, device_ranges, open_ranges, open_leases, is_leased, is_bad_area, is_in_range_lease, is_soiled, IsUnfinished, is_the_controllers, none_in_range, fails_in, context_leased, device_listed, device_leased, entry_leased, table_leased, in_right}
+use Rattle.safety.proofs.LowerLaws.{inl, inr, lenient, Write, free_or_same, [], ◌≡◌, ◌≢◌, ◌+◌, ◌*◌, ◌/◌, ◌^◌, ◌<◌, ◌≤◌, ◌⊎◌, ◌∷◌, ◌∙◌, ℕ, Bool, false, List, nat_lt, nat_le, Some, arith, refl, sym, lt-ltb, le-ltb, ltb-true, leb-true, rules, list_any, flat_map, cases_lt, and_left, and_right, or_parts, or_from, and_parts, and_cases, false≢true, false_from_ne_true, list_any-append, is_in, overlap, device_context_bytes, input_context_bytes, Command, named_context, table_bytes, event_shape, base_address, Erstba, Header, touches_ring, Known, entry_of, Range, SegmentTable, Use, InputContext, SlotEntry, DeviceContext, covers, lease_start, lease_bytes, range_of_device, device_ranges, open_ranges, open_leases, is_leased, is_bad_area, is_in_range_lease, is_soiled, IsUnfinished, is_the_controllers, none_in_range, fails_in, context_leased, device_listed, device_leased, entry_leased, table_leased, in_right}
+use Rattle.safety.proofs.Writing.{unchained_is}
 
 -- ---- two ranges of bytes
 
@@ -89,3 +90,12 @@ module _ (h : Header) where
   pub not_in_device : (k : Known) (a : ℕ) → is_the_controllers h k a ≡ false → (s d : ℕ) → 0 < s → s < 256 → k.device s ≡ Some d → overlap a 4 d (device_context_bytes h.context_size) ≡ false
   unfolding is_the_controllers
   not_in_device k a none s d low high at = grind (arith, covers_range, fails_in, in_right, device_listed)
+
+-- a write that breaks no rule: no range under lease has the word, or it is written as it stands
+pub apart_or_same : (h : Header) (k : Known) (a w : ℕ) → lenient h k (Write a w) ≡ [] → (list_any (covers h a 4) (open_ranges h k) ≡ false) ⊎ (k.memory a ≡ w)
+apart_or_same h k a w clean =
+    elim (free_or_same h k a w clean) [
+      | inl free ↦ inl (word_free h k a free)
+      | inr (inl same) ↦ inr same
+      | inr (inr unchained) ↦ inl (unchained_is h k a w unchained).apart
+    ]

@@ -1,5 +1,5 @@
 -- A write keeps what is kept of device contexts under lease, and of the one that it takes holds what was tested
-use Rattle.safety.proofs.MiddleLaws.{[], ◌≡◌, ◌≢◌, ◌+◌, ◌*◌, ◌^◌, ◌<◌, ◌≤◌, ◌==◌, ◌&&◌, ◌⊎◌, ◌∙◌, ℕ, not, true, false, List, Contains, nat_le, nat_lt, Option, Some, is_some, option_and_then, slice_get, unwrap_or, arith, sym, ap, subst, inl, inr, lt-ltb, le-leb, ne_eqb, rules, is_in-parts, cases_lt, and_left, and_from, or_from, or_left, or_right, false≢true, not_from_false, none-some, same_Some, slice_get_within, get_or_from_slice_get, Block, is_in, is_inside, overlap, positions_given, cases_option, address_inside, gives_is, position_given_is, put_elsewhere, Command, command_of, named_slot, device_context_bytes, Header, Dcbaap, Erstba, Write, IsHeader, shape_of, command_id, touches_ring, Known, command_at, device_named, entry_of, command_given, is_soiled, lenient, IsDriverRing, DeviceKeeps, DriverKeeps, DevicesKeep, ring_shape, due_has_ring, clean_word, area_parts, not_in_other, overlap_turned, word_elsewhere, is_soiled_from, device_apart, device_free, entry_free, table_free, lease_free, word_free, not_in_device, at_number, command_slot_low, after_write, taken, written_memory, written_device, written_device_none, written_soiled, written_soiled_none, not_the_controllers, entry_same, write_leaves}
+use Rattle.safety.proofs.MiddleLaws.{[], ◌≡◌, ◌≢◌, ◌+◌, ◌*◌, ◌^◌, ◌<◌, ◌≤◌, ◌==◌, ◌&&◌, ◌⊎◌, ◌∙◌, ℕ, not, true, false, List, Contains, nat_le, nat_lt, Option, Some, is_some, option_and_then, slice_get, unwrap_or, arith, sym, ap, subst, inl, inr, lt-ltb, le-leb, ne_eqb, rules, is_in-parts, cases_lt, and_left, and_from, or_from, or_left, or_right, false≢true, not_from_false, none-some, same_Some, slice_get_within, get_or_from_slice_get, Block, is_in, is_inside, overlap, positions_given, cases_option, address_inside, gives_is, position_given_is, put_elsewhere, Command, command_of, named_slot, device_context_bytes, Header, Dcbaap, Erstba, Write, IsHeader, shape_of, command_id, touches_ring, Known, command_at, device_named, entry_of, command_given, is_soiled, lenient, IsDriverRing, DeviceKeeps, DriverKeeps, DevicesKeep, ring_shape, due_has_ring, clean_word, area_parts, not_in_other, overlap_turned, word_elsewhere, is_soiled_from, device_apart, device_free, entry_free, table_free, lease_free, not_in_device, at_number, command_slot_low, after_write, taken, written_memory, written_device, written_device_none, written_soiled, written_soiled_none, not_the_controllers, entry_same, write_leaves}
 use Rattle.safety.proofs.KeptClean.{taking, not_in_area}
 use Rattle.safety.proofs.WriteBeside.{rules_of, word_stays}
 
@@ -75,7 +75,7 @@ module _ (h : Header) (is : IsHeader h) (k : Known) (d : DriverKeeps h k) (a w :
             let within = is_in-parts x c (device_context_bytes h.context_size) inside in
             still_soiled x (word_elsewhere a c (device_context_bytes h.context_size) x (not_in_device h k a (not_the_controllers h k a w clean) s c was.slot.0 was.slot.1 at) within.0 within.1) (was.soiled x inside);
         written = ap is_some dcbaap ∙ was.written;
-        entry = named_from k l s dcbaap (word_stays h is k d a w clean (entry_of k s) 8 (λ free. entry_free h k a 4 (word_free h k a free) s c was.slot.0 was.slot.1 at)) ∙ was.entry;
+        entry = named_from k l s dcbaap (word_stays h is k d a w clean (entry_of k s) 8 (λ free. entry_free h k a 4 free s c was.slot.0 was.slot.1 at)) ∙ was.entry;
         entry_clean = ap (λ e. is_soiled l e 8) (entry_is s) ∙ clean_after (entry_of k s) 8 was.entry_clean (λ e some. taken_entry e some s c at);
         entry_rings = ap (λ e. touches_ring h e 8) (entry_is s) ∙ was.entry_rings;
         others = λ t e there other.

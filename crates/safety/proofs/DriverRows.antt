@@ -1,7 +1,9 @@
 -- Declarations, writes, register writes and doorbells keep what the rules keep of each ring
 use Rattle.safety.proofs.RunOrStop.{runs_leave}
-use Rattle.safety.proofs.LowerLaws.{[], ◌≡◌, ◌≢◌, ◌==◌, ◌∙◌, ℕ, List, Option, None, Some, option_and_then, refl, sym, ap, subst, inl, inr, eq-eqb, ne_eqb, rules, cases_eq, cond-true, cond-false, cond_both, Block, RingView, RingChange, Declares, Opens, Writes, EndpointRestored, IsRestored, MayCome, RingKept, RingsKept, changed, new_ring_keeps, declares_keeps, writes_keeps, opens_keeps, Header, Register, Crcr, Erdp, Usbcmd, register_read, status_read, Sub, Write, IsHeader, shape_of, command_id, Known, nothing, on_ring, with_device, with_word, written, command_given, taken_device, run_or_stop, valued, register_written, endpoint_rung, rung, lenient, RingsKeep, arith, shape_allowed, may_declare, same_word_keeps, free_or_same, may_write, passes_same, passes_both, passes_restored, passes_held, runs_again, runs_once}
+use Rattle.safety.proofs.LowerLaws.{[], ◌≡◌, ◌≢◌, ◌==◌, ◌∙◌, ℕ, List, Option, None, Some, option_and_then, refl, sym, ap, subst, inl, inr, eq-eqb, ne_eqb, rules, cases_eq, cond-true, cond-false, cond_both, Block, RingView, RingChange, Declares, Opens, Writes, EndpointRestored, IsRestored, MayCome, RingKept, RingsKept, changed, new_ring_keeps, declares_keeps, writes_keeps, opens_keeps, Header, Register, Crcr, Erdp, Usbcmd, register_read, status_read, Sub, Write, IsHeader, shape_of, command_id, Known, nothing, on_ring, with_device, with_word, written, command_given, taken_device, valued, register_written, endpoint_rung, rung, lenient, RingsKeep, arith, shape_allowed, may_declare, same_word_keeps, free_or_same, may_write, passes_same, passes_both, passes_restored, passes_held}
 use Rattle.safety.specs.DriverRings.{IsDriverRing}
+use Rattle.safety.proofs.Unchained.{cleared_keeps}
+use Rattle.safety.proofs.Writing.{is_no_other, unchained_is}
 
 module _ (h : Header) where
   pub ring_here : (k : Known) (r : ℕ) (change : RingChange) → (on_ring h k r change).ring r ≡ changed (shape_of h r) (k.ring r) change
@@ -73,13 +75,14 @@ module _ (h : Header) (k : Known) (keeps : RingsKeep h k) where
         passes = passes_held (shape_of h r) k.memory (k.ring r) (changed (shape_of h r) (k.ring r) (Declares blocks)) (keeps r driver) refl refl;
       })
 
-  word_keeps : (a w : ℕ) → MayCome h k (Write a w) → RingsKept h k (with_word h k a w)
+  word_keeps : IsHeader h → (a w : ℕ) → MayCome h k (Write a w) → RingsKept h k (with_word h k a w)
   unfolding with_word
-  word_keeps a w may r driver =
+  word_keeps is a w may r driver =
       record {
         rules = elim (free_or_same h k a w may.0) [
           | inl free ↦ writes_keeps (shape_of h r) k.memory (k.ring r) a w (keeps r driver) (may_write h k a w may free r driver)
-          | inr same ↦ same_word_keeps (shape_of h r) k.memory (k.ring r) (keeps r driver) a w same
+          | inr (inl same) ↦ same_word_keeps (shape_of h r) k.memory (k.ring r) (keeps r driver) a w same
+          | inr (inr unchained) ↦ cleared_keeps (shape_of h r) k.memory (k.ring r) (keeps r driver) a w (is_no_other h is k a w unchained r driver) (unchained_is h k a w unchained).cleared
         ];
         passes = passes_held (shape_of h r) k.memory (k.ring r) (changed (shape_of h r) (k.ring r) (Writes a w)) (keeps r driver) refl refl;
       }
@@ -88,9 +91,9 @@ module _ (h : Header) (k : Known) (keeps : RingsKeep h k) where
   unfolding with_device
   device_keeps l o kept = grind (arith, same_keeps, with_device)
 
-  pub written_keeps : (a w : ℕ) → MayCome h k (Write a w) → RingsKept h k (written h k a w)
+  pub written_keeps : IsHeader h → (a w : ℕ) → MayCome h k (Write a w) → RingsKept h k (written h k a w)
   unfolding written
-  written_keeps a w may = device_keeps (with_word h k a w) (option_and_then (taken_device k) (command_given h k a w)) (word_keeps a w may)
+  written_keeps is a w may = device_keeps (with_word h k a w) (option_and_then (taken_device k) (command_given h k a w)) (word_keeps is a w may)
 
   pub register_keeps : (r : Register) (x : ℕ) → RingsKept h k (register_written h k r x)
   unfolding register_written valued

@@ -1,5 +1,5 @@
 -- Behind the completion of a command that had no effect: the command ring's floor moves on, and no command is under way
-use Rattle.safety.proofs.LowerLaws.{◌≡◌, ◌≢◌, ◌+◌, ◌∙◌, ℕ, Bool, true, false, List, option_and_then, slice_get, arith, refl, sym, ap, subst, rules, Block, Spot, number, floor_number, due_is, due_from, command_of, Header, IsHeader, shape_of, command_id, World, Known, command_at, next_command, IsDriverRing, DriverKeeps, Stands, EventsStand, state_of, RingMatches, Matches, command_is_ring, next_is, put_at, put_off, number_after, false≢true, is_named, not, is_value, BoundRing, FreeRing, inl, inr}
+use Rattle.safety.proofs.LowerLaws.{◌≡◌, ◌≢◌, ◌+◌, ◌∙◌, ℕ, Bool, true, false, List, option_and_then, slice_get, arith, sym, ap, subst, rules, Block, Spot, number, floor_number, due_is, due_from, command_of, Header, IsHeader, shape_of, command_id, World, Known, command_at, next_command, IsDriverRing, DriverKeeps, Stands, EventsStand, state_of, RingMatches, Matches, command_is_ring, next_is, put_at, put_off, number_after, false≢true, is_named, not, is_value, BoundRing, FreeRing, inl, inr}
 use Rattle.safety.proofs.FloorMoves.{floor_behind, floor_moves}
 use Rattle.safety.proofs.FinishKinds.{let_go, next_known}
 use Rattle.world_state.specs.World as of_world

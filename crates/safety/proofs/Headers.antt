@@ -64,7 +64,7 @@ module _ (h : Header) where
     pub header_parts : (list_all (λ r. nat_lt r.id 256 && is_shape r.shape) h.rings ≡ true) × (may_stand_together h.rings ≡ true)
     header_parts = and_parts (list_all (λ r. nat_lt r.id 256 && is_shape r.shape) h.rings) (may_stand_together h.rings) is
 
-    ring_allowed : (r : Ring) → IsIn r h.rings → IsShape r.shape
+    pub ring_allowed : (r : Ring) → IsIn r h.rings → IsShape r.shape
     ring_allowed r at = (and_parts (nat_lt r.id 256) (is_shape r.shape) (each_passes (λ r. nat_lt r.id 256 && is_shape r.shape) h.rings r header_parts.0 at)).1
 
     -- a command or transfer ring has an allowed shape with Links

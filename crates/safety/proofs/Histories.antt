@@ -14,7 +14,7 @@ module _ (h : Header) (is : IsHeader h) where
   pub row_kept : (k : Known) (row : Row) → RingsKeep h k → EndpointsKeep h k → IsRestored (k.ring (command_id h)) → MayCome h k row → MayRead h k row → RingsKept h k (learned h k row)
   unfolding learned
   row_kept k (Sub r blocks) keeps endpoints commands comes may = declared_keeps h k keeps is r blocks comes.0
-  row_kept k (Write a w) keeps endpoints commands comes may = written_keeps h k keeps a w comes
+  row_kept k (Write a w) keeps endpoints commands comes may = written_keeps h k keeps is a w comes
   row_kept k (Reg r x) keeps endpoints commands comes may = register_keeps h k keeps r x
   row_kept k (Bell s t) keeps endpoints commands comes may = rung_keeps h k keeps is s t commands comes.1
   row_kept k (Read b) keeps endpoints commands comes may =

@@ -1,5 +1,5 @@
 -- Where no command can have been taken an event leaves the command ring as it is
-use Rattle.safety.proofs.UpperLaws.{◌≡◌, ℕ, true, false, [], refl, ap, arith, false≢true, Block, BlockKind, TransferEvent, CommandCompletion, is_command_completion, kind, Header, Read, IsHeader, command_id, Known, event_read, learned, lenient, is_impossible_by_kind, may_be_taken, DriverKeeps, event_facts, endpoints_of, lt-ltb, sym, ◌∙◌, shape_of, next_command, ceiling, RingView, nat_lt, floor_number, number}
+use Rattle.safety.proofs.UpperLaws.{◌≡◌, false, [], refl, ap, false≢true, Block, BlockKind, TransferEvent, CommandCompletion, is_command_completion, kind, Header, Read, IsHeader, command_id, Known, event_read, learned, lenient, is_impossible_by_kind, may_be_taken, DriverKeeps, event_facts, endpoints_of, lt-ltb, sym, ◌∙◌, shape_of, next_command, ceiling, RingView, nat_lt, floor_number}
 use Rattle.safety.proofs.TransferFrames.{transfer_command}
 use Rattle.safety.proofs.KeptRings.{completion_facts}
 

@@ -1,6 +1,5 @@
 -- What ERSTSZ says is kept by each row
-use Rattle.safety.proofs.MiddleLaws.{◌≡◌, ◌<◌, ◌==◌, ◌||◌, ◌∙◌, ℕ, not, true, false, Option, Some, is_some, is_none, arith, refl, sym, ap, inl, inr, eqb-true, or_parts, not-false, false≢true, same_Some, Block, kind, address_of, Header, Ring, Register, Crcr, Erstsz, Sub, Write, Reg, Bell, Read, IsHeader, is_command_kind, ring_with, shape_of, command_ring, command_id, event_ring, event_size, with_register, base_address, ring_cycle_state, command_stop, command_abort, Known, learned, is_no_first_block, is_bad_crcr, is_bad_register, IsDriverRing, KeptByRows, lenient, Row, [], shape_is, command_found, command_named, event_ring_size, found_again, event_same, declaration_leaves, write_leaves, bell_leaves, register_facts, Starts, command_drives, written_stays, registered, register_starts, starts_written, RegRead, status_leaves, is_used, is_value, is_restored}
-use Rattle.safety.proofs.RingIds.{together}
+use Rattle.safety.proofs.MiddleLaws.{◌≡◌, ◌<◌, ◌∙◌, ℕ, true, false, Option, is_some, is_none, arith, sym, ap, inl, inr, false≢true, Block, kind, Header, Register, Erstsz, Sub, Write, Reg, Bell, Read, IsHeader, event_ring, event_size, with_register, Known, learned, is_bad_register, KeptByRows, lenient, Row, [], event_ring_size, event_same, declaration_leaves, write_leaves, bell_leaves, register_facts, Starts, written_stays, registered, register_starts, starts_written, RegRead, status_leaves, is_value}
 
 module _ (h : Header) where
   read_leaves : (k : Known) (b : Block) → ((learned h k (Read b)).register ≡ k.register) × ((learned h k (Read b)).started ≡ k.started)

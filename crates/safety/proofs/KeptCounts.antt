@@ -1,5 +1,5 @@
 -- How many events were read and where ERDP stands, behind each row
-use Rattle.safety.proofs.MiddleLaws.{◌≡◌, ◌+◌, ◌-◌, ◌<◌, ◌≤◌, ◌∙◌, ℕ, false, arith, refl, sym, ap, ltb-false, rules, cond_both, cond-false, false≢true, Block, kind, shape_facts, place_count, Header, Register, Sub, Write, Reg, Bell, Read, event_shape, event_size, Known, run_or_stop, valued, register_written, learned, may_pass, is_bad_erdp, is_past_room, Unstarted, KeptByRows, event_ring_is, erdp_within, event_same, SameSlots, SamePointer, declaration_leaves, write_leaves, register_leaves, bell_leaves, register_facts, bell_facts, event_facts, runs_again, runs_once, RegRead, status_leaves}
+use Rattle.safety.proofs.MiddleLaws.{◌≡◌, ◌+◌, ◌-◌, ◌<◌, ◌≤◌, ◌∙◌, ℕ, false, arith, refl, sym, ltb-false, rules, cond_both, cond-false, false≢true, Block, kind, shape_facts, place_count, Header, Register, Sub, Write, Reg, Bell, Read, event_shape, event_size, Known, run_or_stop, valued, register_written, learned, may_pass, is_bad_erdp, is_past_room, Unstarted, KeptByRows, event_ring_is, erdp_within, event_same, SameSlots, declaration_leaves, write_leaves, register_leaves, bell_leaves, register_facts, bell_facts, event_facts, runs_again, runs_once, RegRead, status_leaves}
 
 module _ (h : Header) where
   -- ---- a register write

@@ -1,5 +1,5 @@
 -- What is kept of device contexts under lease is kept by each row
-use Rattle.safety.proofs.MiddleLaws.{◌≡◌, ◌∙◌, ℕ, true, false, Some, sym, ap, subst, inl, inr, cases_Bool, or_parts, false≢true, none-some, Block, BlockKind, TransferEvent, CommandCompletion, kind, Header, Register, Dcbaap, Erstba, Sub, Write, Reg, Bell, Read, IsHeader, with_register, Known, event_read, learned, completed, is_impossible_by_kind, is_bad_register, DriverKeeps, DevicesKeep, KeptByRows, rules, arith, learned_read, with_reads, EventFacts, event_facts, register_facts, registered, SameDriver, completion_same, transfer_slots, devices_same, SameRegisters, SameMemory, declaration_leaves, register_leaves, bell_leaves, RegRead, status_leaves, refl, Option, not, ◌&&◌, is_value, is_restored, eqb-true}
+use Rattle.safety.proofs.MiddleLaws.{◌≡◌, ◌∙◌, ℕ, true, false, Some, sym, ap, subst, inl, inr, cases_Bool, false≢true, none-some, Block, BlockKind, TransferEvent, CommandCompletion, kind, Header, Register, Dcbaap, Erstba, Sub, Write, Reg, Bell, Read, IsHeader, with_register, Known, event_read, learned, completed, is_impossible_by_kind, is_bad_register, DriverKeeps, DevicesKeep, KeptByRows, rules, arith, learned_read, with_reads, EventFacts, event_facts, register_facts, registered, SameDriver, completion_same, transfer_slots, devices_same, SameRegisters, SameMemory, declaration_leaves, register_leaves, bell_leaves, RegRead, status_leaves, refl, Option, not, ◌&&◌, is_value, is_restored, eqb-true}
 use Rattle.safety.proofs.SameDriver.{transfer_same}
 use Rattle.safety.proofs.CommandsCompleted.{completion_devices}
 use Rattle.safety.proofs.DevicesWritten.{written_devices}

@@ -1,5 +1,5 @@
 -- Which registers were written, and with what, is kept by each row
-use Rattle.safety.proofs.Words.{◌≡◌, ◌&&◌, ◌⊎◌, ◌∙◌, ℕ, not, true, false, Option, Some, is_some, is_none, refl, sym, ap, rules, cond_both, cond-true, cond-false, or_parts, and_cases, not_from_false, false≢true, RingKind, Header, Register, Usbcmd, Crcr, Erstsz, Reg, is_command_kind, is_driver_kind, with_register, same_register, run_bit, reset_bit, Known, run_or_stop, valued, register_written, learned, is_unwritten, is_early_start, is_bad_command_register, is_bad_register, arith, runs_again, runs_once, is_named}
+use Rattle.safety.proofs.Words.{◌≡◌, ◌&&◌, ◌⊎◌, ◌∙◌, ℕ, not, true, false, Option, Some, is_some, is_none, refl, sym, ap, cond_both, cond-true, cond-false, not_from_false, false≢true, RingKind, Header, Register, Usbcmd, Erstsz, Reg, is_command_kind, is_driver_kind, with_register, same_register, run_bit, reset_bit, Known, run_or_stop, valued, register_written, learned, is_unwritten, is_early_start, is_bad_command_register, is_bad_register, arith, runs_again, runs_once, is_named}
 
 pub command_drives : (kind : RingKind) → is_command_kind kind ≡ true → is_driver_kind kind ≡ true
 command_drives o is = grind (arith, false≢true)

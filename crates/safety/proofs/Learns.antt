@@ -1,5 +1,5 @@
 -- One ring about which more is known, and which has changed in the world: all else that is said of both stays
-use Rattle.safety.proofs.Words.{◌≡◌, ◌≢◌, ◌+◌, ◌∙◌, ℕ, Option, Some, None, option_and_then, slice_get, sym, ap, subst, inl, inr, rules, cases_eq, none-some, Spot, address_of, RingView, floor_number, Command, command_of, named_context, Header, shape_of, command_id, World, UnderWay, Known, command_at, next_command, was_stop_seen, DriverKeeps, IsUnfinished, Stands, RingState, state_of, RingMatches, BoundRing, EndpointRing, UnderWayMatches, Matches, arith, Rests, is_value, not, is_named, Crcr, is_some, Register, next_take}
+use Rattle.safety.proofs.Words.{◌≡◌, ◌≢◌, ◌+◌, ◌∙◌, ℕ, Option, Some, None, option_and_then, slice_get, sym, ap, subst, inl, inr, rules, cases_eq, Spot, address_of, RingView, floor_number, Command, command_of, named_context, Header, shape_of, command_id, World, UnderWay, Known, command_at, next_command, was_stop_seen, DriverKeeps, IsUnfinished, Stands, RingState, state_of, RingMatches, BoundRing, EndpointRing, UnderWayMatches, Matches, arith, Rests, is_value, not, is_named, Crcr, is_some, Register, next_take}
 use Rattle.safety.proofs.OnlyRing.{OnlyRing, unchanged_only}
 
 pub record LearnsRing (k m : Known) (r : ℕ) (x : RingView) : Type 0 where

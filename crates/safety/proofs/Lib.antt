@@ -2,6 +2,7 @@ pub mod TestsPassed
 pub mod RingsOfHeader
 pub mod Declaring
 pub mod KeptWords
+pub mod Unchained
 pub mod Writing
 pub mod OpenRings
 pub mod Passing

@@ -1,7 +1,7 @@
 -- Words and lemmas, passed on to the files above them
 pub use Rattle.safety.proofs.Alike.{Alike, RingAlike, ceiling_more, held_alike, held_same, reached_alike}
 pub use Rattle.safety.proofs.AlikeTransfers.{both_sides, chain_from, move_put, seen_put, state_put}
-pub use Rattle.safety.proofs.AreaFacts.{AreaParts, area_from, area_parts, clean_same, context_free, device_apart, device_free, devices_apart, entry_free, is_soiled_from, lease_free, not_in_device, not_in_other, overlap_turned, table_free, word_elsewhere, word_free}
+pub use Rattle.safety.proofs.AreaFacts.{AreaParts, apart_or_same, area_from, area_parts, clean_same, context_free, device_apart, device_free, devices_apart, entry_free, is_soiled_from, lease_free, not_in_device, not_in_other, overlap_turned, table_free, word_elsewhere, word_free}
 pub use Rattle.safety.proofs.BrokenRing.{broken_at, broken_matches, broken_unreported, last_is, last_take}
 pub use Rattle.safety.proofs.CommandsSame.{RingsStay, SameStates, context_good, context_same, ring_stays, same_stay}
 pub use Rattle.safety.proofs.CommandsStay.{MovesAhead, OwnKeeps, PairKeeps, PlacesStay, RingsBeside, Standing, bound_still, commands_stay, own_beside, own_keeps, pair_keeps, still_restored}

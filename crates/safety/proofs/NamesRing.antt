@@ -1,5 +1,5 @@
 -- What CRCR names where it may be written
-use Rattle.safety.proofs.Words.{◌≡◌, ◌==◌, ◌||◌, ◌∙◌, ℕ, not, true, false, Option, Some, None, arith, refl, sym, ap, eqb-true, or_parts, not-false, false≢true, address_of, Header, Ring, IsHeader, is_command_kind, ring_with, shape_of, command_ring, command_id, base_address, ring_cycle_state, command_stop, command_abort, Known, is_no_first_block, is_bad_crcr, IsDriverRing, is_used}
+use Rattle.safety.proofs.Words.{◌≡◌, ◌==◌, ◌||◌, ◌∙◌, ℕ, not, false, Option, Some, arith, refl, ap, eqb-true, or_parts, not-false, false≢true, address_of, Header, Ring, IsHeader, is_command_kind, ring_with, shape_of, command_ring, command_id, base_address, ring_cycle_state, command_stop, command_abort, Known, is_no_first_block, is_bad_crcr, IsDriverRing, is_used}
 use Rattle.safety.proofs.Headers.{command_found, command_named, shape_is}
 use Rattle.safety.proofs.RingIds.{found_again, together}
 use Rattle.safety.proofs.KeptRegisters.{command_drives}

@@ -1,5 +1,5 @@
 -- A world in which one ring alone has changed: all else that is said of it stays
-use Rattle.safety.proofs.Words.{◌≡◌, ◌≢◌, ◌+◌, ◌*◌, ◌∙◌, ℕ, true, false, List, length, Option, Some, None, arith, sym, ap, subst, inl, inr, rules, false≢true, none-some, Block, block_at, address_of, named_context, Header, shape_of, command_id, event_shape, World, Known, DriverKeeps, Stands, EventsStand, RingState, state_of, BoundRing, FreeRing, EndpointRing, CommandMatches, IsUnchanged, Matches, is_named, is_used, Rests, RingMatches, UnderWayMatches, cases_eq, next_take}
+use Rattle.safety.proofs.Words.{◌≡◌, ◌≢◌, ◌+◌, ◌*◌, ◌∙◌, ℕ, true, false, List, length, Option, Some, None, arith, sym, ap, subst, inl, inr, rules, false≢true, Block, block_at, address_of, named_context, Header, shape_of, command_id, event_shape, World, Known, DriverKeeps, Stands, EventsStand, RingState, state_of, BoundRing, FreeRing, EndpointRing, CommandMatches, IsUnchanged, Matches, is_named, is_used, Rests, RingMatches, UnderWayMatches, cases_eq, next_take}
 use Rattle.world_state.specs.World.{event_at}
 use Rattle.safety.proofs.Stored.{Late}
 

@@ -1,5 +1,5 @@
 -- What a row does that doesn't reset the controller; and a register that is read
-use Rattle.safety.proofs.LowerLaws.{◌≡◌, ◌&&◌, ◌||◌, ◌∙◌, if◌then◌else◌, ℕ, Bool, not, true, false, List, Option, Some, None, refl, sym, ap, subst, arith, same_Some, none-some, cases_Bool, cond-true, cond-false, inl, inr, false≢true, and_parts, cond_some, Usbsts, DriverKeeps, Block, Header, Row, Reg, RegRead, Register, World, counted, Known, learned, Agrees, is_asked, HaltState, register_read, status_read}
+use Rattle.safety.proofs.LowerLaws.{◌≡◌, ◌&&◌, ◌||◌, ◌∙◌, if◌then◌else◌, ℕ, Bool, not, true, List, Option, Some, sym, subst, arith, cases_Bool, cond-true, cond-false, inl, inr, and_parts, cond_some, Usbsts, DriverKeeps, Block, Header, Row, Reg, RegRead, Register, World, counted, Known, learned, Agrees, is_asked, HaltState, register_read, status_read}
 use Rattle.traces.specs.Halts.{seen}
 use Rattle.traces.specs.Register.{halted_bit}
 use Rattle.safety.proofs.RowFrames.{seen_asked}

@@ -1,5 +1,5 @@
 -- A doorbell where all events are read: what is known agrees with the world
-use Rattle.safety.proofs.MiddleLaws.{[], ◌≡◌, ◌==◌, ◌&&◌, ◌||◌, if◌then◌else◌, ◌∙◌, ℕ, not, nat_lt, true, List, Option, None, Some, option_and_then, slice_get, arith, refl, sym, ap, subst, inl, inr, rules, cases_Bool, cond-true, cond-false, and_from, or_parts, or_cases, not-false, false≢true, put_pair, Block, RingView, Opens, changed, EndpointState, Running, is_running, is_stopped, Header, Bell, IsHeader, shape_of, command_id, World, counted, Known, learned, on_ring, command_at, next_command, endpoint_rung, rung, is_bad_bell, lenient, IsDriverRing, DriverKeeps, Stands, EventsStand, state_of, RingMatches, BoundRing, UnderWayMatches, CommandMatches, Matches, Agrees, Spot, RingState, activated, bell_row, endpoint_bell, transfer_driver, transfer_not_command, ring_shape, command_is_ring, BellFacts, bell_facts, at_pair, Late, agrees_counted, stands_only, events_only, late_only, read_only, matches_command, OnlyRing, stands_learns, matches_learns, LearnsRing, known_states, world_states, stands_states, events_states, matches_states, RingGoesOn, bound_on, goes_same, opens_goes_on, KnownGoesOn, same_controller, matches_go_on, view_after, put_at, put_off, is_named, Crcr, is_some, is_value, false, Register, named_in_run}
+use Rattle.safety.proofs.MiddleLaws.{[], ◌≡◌, ◌==◌, ◌&&◌, ◌||◌, if◌then◌else◌, ◌∙◌, ℕ, not, nat_lt, true, List, Option, None, Some, option_and_then, slice_get, arith, refl, sym, ap, subst, inl, inr, rules, cases_Bool, cond-true, cond-false, and_from, or_parts, or_cases, not-false, false≢true, put_pair, Block, RingView, Opens, changed, EndpointState, Running, is_running, is_stopped, Header, Bell, IsHeader, shape_of, command_id, World, counted, Known, learned, on_ring, command_at, next_command, endpoint_rung, rung, is_bad_bell, lenient, IsDriverRing, DriverKeeps, Stands, EventsStand, state_of, RingMatches, BoundRing, UnderWayMatches, CommandMatches, Matches, Agrees, Spot, RingState, activated, bell_row, endpoint_bell, transfer_driver, transfer_not_command, ring_shape, command_is_ring, BellFacts, bell_facts, at_pair, Late, agrees_counted, stands_only, events_only, late_only, read_only, matches_command, OnlyRing, stands_learns, matches_learns, LearnsRing, known_states, world_states, stands_states, events_states, matches_states, RingGoesOn, bound_on, goes_same, opens_goes_on, KnownGoesOn, same_controller, matches_go_on, view_after, put_at, put_off, is_named, Crcr, is_some, is_value, Register, named_in_run}
 use Rattle.safety.proofs.StatesRung.{running_is}
 
 abbrev pub activated_ring : World → ℕ → RingState

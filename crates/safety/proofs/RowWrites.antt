@@ -1,5 +1,5 @@
 -- A write of memory where all events are read: what is known agrees with the world
-use Rattle.safety.proofs.MiddleLaws.{[], ◌≡◌, ◌≢◌, ◌+◌, ◌*◌, ◌/◌, ◌<◌, ◌⊎◌, ◌∙◌, ℕ, false, List, Option, None, Some, option_and_then, slice_get, arith, refl, sym, ap, inl, inr, add-zero, ne_eqb, rules, list_any, or_parts, or_cases, false≢true, not_from_false, slice_get_within, put, Block, address_of, is_in, is_inside, Writes, changed, put_here, put_elsewhere, gives_is, address_inside, Command, named_context, device_context_bytes, input_context_bytes, Header, Write, IsHeader, shape_of, command_id, event_shape, World, stored, counted, Known, learned, command_at, next_command, with_device, with_word, written, command_given, taken_device, covers, lease_start, lease_bytes, segment_ranges, device_ranges, lenient, IsUnfinished, DriverKeeps, touches_events, IsUnchanged, Matches, Agrees, is_the_controllers, any_of_map, EventRing, event_ring_is, byte_apart, clean_word, context_lies, context_free, word_elsewhere, word_free, free_or_same, not_the_controllers, none_of_both, same_block_at, at_number, Late, late_stored, memory_stored, unchanged_stored, agrees_counted, writes_goes_on, KnownGoesOn, SameController, matches_go_on, WriteLeaves, write_leaves, Register, is_some, Crcr, is_value, not}
+use Rattle.safety.proofs.MiddleLaws.{[], ◌≡◌, ◌≢◌, ◌+◌, ◌*◌, ◌/◌, ◌<◌, ◌⊎◌, ◌∙◌, ℕ, false, List, Option, None, Some, option_and_then, slice_get, arith, refl, sym, ap, inl, inr, add-zero, ne_eqb, rules, list_any, or_parts, or_cases, false≢true, not_from_false, slice_get_within, put, Block, address_of, is_in, is_inside, Writes, changed, put_here, put_elsewhere, gives_is, address_inside, Command, named_context, device_context_bytes, input_context_bytes, Header, Write, IsHeader, shape_of, command_id, event_shape, World, stored, counted, Known, learned, command_at, next_command, with_device, with_word, written, command_given, taken_device, covers, lease_start, lease_bytes, segment_ranges, device_ranges, lenient, IsUnfinished, DriverKeeps, touches_events, IsUnchanged, Matches, Agrees, is_the_controllers, any_of_map, EventRing, event_ring_is, byte_apart, clean_word, context_lies, context_free, word_elsewhere, apart_or_same, not_the_controllers, none_of_both, same_block_at, at_number, Late, late_stored, memory_stored, unchanged_stored, agrees_counted, writes_goes_on, KnownGoesOn, SameController, matches_go_on, WriteLeaves, write_leaves, Register, is_some, Crcr, is_value, not}
 use Rattle.world_state.specs.World.{event_at}
 
 -- ---- what the write adds
@@ -52,9 +52,9 @@ module _ (h : Header) (is : IsHeader h) (k : Known) (unread : List Block) (w : W
   -- a word of the input context of an unfinished command is written as it stands in the world
   in_context_same : (p n i : ℕ) (c : Command) → IsUnfinished h k p c → named_context c ≡ Some n → i < input_context_bytes h.context_size / 4 → n + 4 * i ≡ a → w.memory a ≡ x
   in_context_same p n i c u named low here =
-      elim (free_or_same h k a x clean) [
+      elim (apart_or_same h k a x clean) [
         | inl free ↦
-            absurd (word_elsewhere a n (input_context_bytes h.context_size) (n + 4 * i) (context_free h k a 4 (word_free h k a free) p n c u named) (omega arith) (omega arith) here)
+            absurd (word_elsewhere a n (input_context_bytes h.context_size) (n + 4 * i) (context_free h k a 4 free p n c u named) (omega arith) (omega arith) here)
         | inr same ↦
             g.stands.quiet a (ap k.soiled (sym here) ∙ clean_word k n (input_context_bytes h.context_size) i (context_lies h k d p n c u named).clean low) not_event ∙ same
       ]

@@ -1,5 +1,5 @@
 -- The input context of the command under way is as it was when the command was given
-use Rattle.safety.proofs.Words.{[], ◌≡◌, ◌+◌, ◌<◌, ◌≤◌, ◌∙◌, ℕ, suc, zero, Bool, true, false, nat_lt, Option, Some, None, is_some, option_and_then, slice_get, arith, refl, sym, ap, inl, inr, get_or, le-ltb, rules, list_any, range_with_len, false≢true, or_from, slice_get-get_or, Block, Spot, floor_number, is_due, given_count, ceiling, unwrap_or, cases_Bool, none-some, is_named, is_asked, is_done, HaltState, cases_option, cycle_of_bit, due_from, given_below, step_is, given_count_declared, given_count_near, Command, command_of, named_context, input_context_bytes, Header, Crcr, IsHeader, shape_of, command_id, World, UnderWay, is_changed_since, is_context_changed, has_changed_context, Known, command_at, next_command, IsDriverRing, DriverKeeps, RingMatches, state_of, UnderWayMatches, IsUnchanged, Matches}
+use Rattle.safety.proofs.Words.{[], ◌≡◌, ◌+◌, ◌<◌, ◌≤◌, ◌∙◌, ℕ, suc, zero, Bool, true, false, nat_lt, Option, Some, None, option_and_then, slice_get, arith, refl, sym, ap, inl, inr, get_or, le-ltb, rules, list_any, range_with_len, false≢true, or_from, slice_get-get_or, Block, Spot, floor_number, is_due, given_count, ceiling, unwrap_or, cases_Bool, none-some, is_named, is_asked, is_done, HaltState, cycle_of_bit, due_from, given_below, step_is, given_count_declared, given_count_near, Command, command_of, named_context, input_context_bytes, Header, IsHeader, shape_of, command_id, World, UnderWay, is_changed_since, is_context_changed, has_changed_context, Known, command_at, next_command, IsDriverRing, DriverKeeps, RingMatches, state_of, UnderWayMatches, IsUnchanged, Matches}
 use Rattle.safety.proofs.Headers.{ring_shape}
 use Rattle.safety.proofs.SameCommand.{command_of-with_cycle}
 use Rattle.safety.proofs.NoWait.{ceiling_given}

@@ -6,7 +6,7 @@ use Rattle.ownership_rules.specs.Registers.{is_early_restore, is_early_save, sav
 use Rattle.traces.specs.Register.{command_abort, command_stop, halted_bit, ring_cycle_state}
 use Rattle.traces.specs.declared.register.Register.TheVariants.{Crcr, Erstba, Erstsz}
 use Rattle.traces.specs.Versions.{has_runs}
-use Rattle.safety.proofs.UpperLaws.{[], Header, Sub, Write, Reg, Bell, Read, SquareLaw, ◌≡◌, ℕ, false, inl, inr, MayCome, Block, cases_option, IsHeader, IsRow, Known, command_given, learned, lenient, DriverKeeps, IsDriverRow, is_idle, Square, ◌==◌, is_none, rules, cases_Bool, cond-true, false≢true, is_open, ◌∙◌, Some, refl, sym, subst, MovesRestored, same_Some, Command, ◌∷◌, Bool, ap, cond-false, or_from, broken_of, AfterStop, some_command, holds_of, write_tests, lenient_tests, ◌+◌, ◌≤◌, ◌<◌, ◌++◌, true, List, length, option_and_then, slice_get, arith, length-append, ltb-true, ltb-false, le-ltb, none-some, slice_get_within, RingView, Declares, changed, declared, floor_number, place_count, ceiling, has_no_room, slice_get-append, command_of, shape_of, command_id, on_ring, command_at, next_command, declaration_tests, may_be_taken, IsHeldMore, HeldMore, ◌||◌, zero, suc, not, nat_lt, unwrap_or, list_any, range_with_len, and_parts, and_from, or_parts, or_cases, or_left, or_right, not_from_true, position_from, erdp_address, Register, Usbcmd, Config, Erdp, event_shape, with_register, same_register, run_bit, reset_bit, run_or_stop, valued, register_written, changes, may_pass, is_bad_register, is_bad_erdp, register_tests, is_late_reset, is_early_start, is_wrong_start, is_bad_command, read_alike, passed_behind, read_on, next_unfinished, command_holds, EventAlike, ReadAlike, EverySlot, states_from, held_more, read_same, flip_driver, targets_are, clean_tests, tests_fail, transfer_driver, event_facts, register_facts, SameGiven, SameDriver, both_drivers, view_after, Alike, RingAlike, held_same, named_still, erdp_says, erdp_within, reached_is_good, floors_grow, placed_targets, runs_again, runs_once, RegRead, Usbsts, is_value, is_restored, is_used, is_asked, is_done, is_in_run, HaltState, NotHalting, Done, resets, is_early_reset, is_early_resume, is_bad_command_register, is_bad_crcr, is_no_first_block, is_unwritten, eqb-true, and_right, read_held, read_tests, is_impossible_read, is_impossible_status, register_read, status_read, Dcbaap, Option, ◌⊎◌, ◌&&◌, if◌then◌else◌}
+use Rattle.safety.proofs.UpperLaws.{[], Header, Sub, Write, Reg, Bell, Read, SquareLaw, ◌≡◌, ℕ, false, inl, inr, MayCome, Block, cases_option, IsHeader, IsRow, Known, command_given, learned, lenient, DriverKeeps, IsDriverRow, is_idle, Square, ◌==◌, is_none, rules, cases_Bool, cond-true, false≢true, is_open, ◌∙◌, Some, refl, sym, subst, MovesRestored, same_Some, Command, ◌∷◌, Bool, ap, cond-false, or_from, broken_of, AfterStop, some_command, holds_of, write_tests, lenient_tests, ◌+◌, ◌≤◌, ◌<◌, ◌++◌, true, List, length, option_and_then, slice_get, arith, length-append, ltb-true, ltb-false, le-ltb, none-some, slice_get_within, RingView, Declares, changed, declared, floor_number, place_count, ceiling, has_no_room, slice_get-append, command_of, shape_of, command_id, on_ring, command_at, next_command, declaration_tests, may_be_taken, IsHeldMore, HeldMore, ◌||◌, zero, suc, not, nat_lt, unwrap_or, list_any, range_with_len, and_parts, and_from, or_parts, or_cases, or_left, or_right, position_from, erdp_address, Register, Usbcmd, Config, Erdp, event_shape, with_register, run_bit, reset_bit, run_or_stop, valued, register_written, changes, may_pass, is_bad_register, is_bad_erdp, register_tests, is_bad_command, read_alike, passed_behind, read_on, next_unfinished, command_holds, EventAlike, ReadAlike, EverySlot, states_from, held_more, read_same, flip_driver, targets_are, clean_tests, tests_fail, transfer_driver, event_facts, register_facts, SameGiven, SameDriver, both_drivers, view_after, Alike, RingAlike, held_same, named_still, erdp_says, erdp_within, reached_is_good, floors_grow, placed_targets, runs_again, runs_once, RegRead, Usbsts, is_value, is_restored, is_used, is_asked, is_done, is_in_run, HaltState, NotHalting, resets, is_early_reset, is_early_resume, is_bad_command_register, is_bad_crcr, is_no_first_block, is_unwritten, eqb-true, and_right, read_held, read_tests, is_impossible_read, is_impossible_status, register_read, status_read, Dcbaap, Option, ◌⊎◌, ◌&&◌, if◌then◌else◌}
 use Rattle.safety.proofs.WriteBeneath.{write_square}
 use Rattle.safety.proofs.BellBeneath.{command_square}
 use Rattle.safety.proofs.RungBeneath.{rung_ring, bell_square}

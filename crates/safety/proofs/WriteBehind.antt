@@ -1,6 +1,9 @@
 -- Behind an event that may be read a write gives the same command as before it, and breaks no rule that speaks of no command
 use Rattle.safety.proofs.UpperLaws.{[], ◌≡◌, ◌+◌, ◌&&◌, ◌∷◌, ◌++◌, ◌∙◌, ℕ, not, Bool, true, false, List, length, map, slice_get, nat_le, None, option_and_then, arith, refl, sym, ap, subst, inl, inr, ◌||◌, ◌==◌, eq-eqb, rules, MayCome, list_any, range_with_len, fun_ext, not-true, cases_Bool, cond-false, false≢true, false_from_ne_true, and_parts, and_from, or_parts, or_from, put, Block, block_at, Shape, place_count, address_of, cycle_of, RingView, floor_number, gives, gives_crossing, due_positions, due_crossings, positions_given, crossings_given, length_from, is_declared_as, is_other_than_declared, is_not_declared, descriptor_length, is_not_whole, leads_wrong, interrupts, gives_is, gives_crossing_is, positions_given-one, whole_more, Command, Header, Write, Read, IsHeader, shape_of, command_id, driver_rings, Known, Given, Position, Crossing, given_of, given_by, command_at, command_given, learned, Test, broken_of, lenient_tests, lenient, on_position, on_crossing, holds_of, some_given, some_crossed, some_command, write_tests, is_leased, awaits_binding, is_being_moved, or_cases, or_left, or_right, IsIn, some_of, any_of, in_filter, from_filter, DriverKeeps, and_left, and_right, is_the_controllers, changes_owned, AllFail, clean_tests, tests_fail, free_or_same, keeps_cycles, not_the_controllers, in_range, KeepsCycles, command_same, RingBehind, gives_behind, gives_before, crosses_before, Behind, both_fewer, flat_fewer, map_fewer, not_the_controllers_behind, still_free, event_behind, moved_before}
+use Rattle.safety.proofs.UpperLaws.{none_fewer, ranges_fewer}
 use Rattle.safety.proofs.BoundBehind.{awaits_before}
+use Rattle.ownership_rules.specs.OpenLeases.{covers, open_ranges}
+use Rattle.ownership_rules.specs.Writes.{clears_chain, is_link_control, unchains}
 
 -- ---- one ring
 
@@ -157,8 +160,24 @@ module _ (h : Header) (is : IsHeader h) (k : Known) (d : DriverKeeps h k) (a w :
   unfolding lenient_tests
   fails = tests_fail h k (Write a w) clean.0
 
-  still_same : (is_leased h l a && not (l.memory a == w)) ≡ false
-  still_same = search (rules, l, free_or_same, and_left, still_free, b, and_right, eq-eqb, memory_same)
+  -- a Link that the write unchains is unchained then too
+  still_unchained : unchains h k a w ≡ true → unchains h l a w ≡ true
+  unfolding unchains
+  still_unchained unchained =
+      let was = and_parts (is_link_control h a && clears_chain (k.memory a) w) (not (list_any (covers h a 4) (open_ranges h k))) unchained in
+      and_from (is_link_control h a && clears_chain (l.memory a) w) (not (list_any (covers h a 4) (open_ranges h l)))
+      (ap (λ (m : ℕ → ℕ). is_link_control h a && clears_chain (m a) w) memory_same ∙ was.0)
+      (ap not (none_fewer (covers h a 4) (open_ranges h k) (open_ranges h l) (ranges_fewer h is k l b) (not-true (list_any (covers h a 4) (open_ranges h k)) was.1)))
+
+  still_same : (is_leased h l a && not (l.memory a == w) && not (unchains h l a w)) ≡ false
+  still_same =
+      elim (free_or_same h k a w clean.0) [
+        | inl free ↦ and_left (is_leased h l a && not (l.memory a == w)) (not (unchains h l a w)) (and_left (is_leased h l a) (not (l.memory a == w)) (still_free h is k l b a free))
+        | inr (inl same) ↦
+            and_left (is_leased h l a && not (l.memory a == w)) (not (unchains h l a w))
+            (and_right (is_leased h l a) (not (l.memory a == w)) (ap not (eq-eqb (l.memory a) w (ap (λ (m : ℕ → ℕ). m a) memory_same ∙ same))))
+        | inr (inr unchained) ↦ and_right (is_leased h l a && not (l.memory a == w)) (not (unchains h l a w)) (ap not (still_unchained unchained))
+      ]
 
   pub rules_behind : RingRules l
   unfolding write_tests changes_owned

@@ -1,6 +1,8 @@
 -- A write leaves what unfinished commands read of contexts and device contexts
-use Rattle.safety.proofs.MiddleLaws.{[], ◌≡◌, ◌≢◌, ◌+◌, ◌*◌, ◌/◌, ◌<◌, ◌≤◌, ◌==◌, ◌&&◌, ◌∙◌, ℕ, not, Bool, true, false, nat_le, nat_lt, Option, None, Some, option_and_then, arith, refl, sym, ap, inl, inr, lt-ltb, le-leb, rules, or_parts, or_from, and_left, and_from, false≢true, none-some, same_Some, is_in, is_inside, overlap, cases_option, address_inside, gives_is, put_elsewhere, Command, AddressDevice, named_context, is_disabled, is_off, device_context_bytes, input_context_bytes, Header, Write, IsHeader, shape_of, command_id, Known, learned, no_device, taken_device, device_named, command_given, is_bad_area, is_soiled, lenient, IsUnfinished, CommandKeeps, DriverKeeps, is_leased, has_bad_context, is_bad_command, put_same, free_or_same, ring_shape, clean_word, AreaParts, area_parts, area_from, not_in_other, overlap_turned, word_elsewhere, is_soiled_from, device_apart, devices_apart, context_free, lease_free, word_free, at_number, write_leaves, taken, written_memory, written_device, written_device_none, written_soiled, written_soiled_none, GivesCommand, AgreeIn, Beside, context_good}
+use Rattle.safety.proofs.MiddleLaws.{[], ◌≡◌, ◌≢◌, ◌+◌, ◌*◌, ◌/◌, ◌<◌, ◌≤◌, ◌==◌, ◌&&◌, ◌∙◌, ℕ, not, Bool, true, false, nat_le, nat_lt, Option, None, Some, option_and_then, arith, refl, sym, ap, inl, inr, lt-ltb, le-leb, rules, or_parts, or_from, and_left, and_from, false≢true, none-some, same_Some, is_in, is_inside, overlap, cases_option, address_inside, gives_is, put_elsewhere, Command, AddressDevice, named_context, is_disabled, is_off, device_context_bytes, input_context_bytes, Header, Write, IsHeader, shape_of, command_id, Known, learned, no_device, taken_device, device_named, command_given, is_bad_area, is_soiled, lenient, IsUnfinished, CommandKeeps, DriverKeeps, has_bad_context, is_bad_command, put_same, ring_shape, clean_word, AreaParts, area_parts, area_from, not_in_other, overlap_turned, word_elsewhere, is_soiled_from, device_apart, devices_apart, context_free, lease_free, apart_or_same, at_number, write_leaves, taken, written_memory, written_device, written_device_none, written_soiled, written_soiled_none, GivesCommand, AgreeIn, Beside, context_good}
 use Rattle.safety.proofs.KeptClean.{taking, not_in_area}
+use Rattle.ownership_rules.specs.OpenLeases.{covers, open_ranges}
+use Rattle.std.specs.List.{list_any}
 use Rattle.safety.proofs.TakenDevices.{DeviceRules, taken_rules}
 
 module _ (h : Header) (k : Known) where
@@ -22,8 +24,8 @@ module _ (h : Header) (is : IsHeader h) (k : Known) (d : DriverKeeps h k) (a w :
   l = learned h k (Write a w)
 
   -- a range under lease has the word as it was
-  pub word_stays : (b len : ℕ) → (is_leased h k a ≡ false → overlap a 4 b len ≡ false) → (x : ℕ) → b ≤ x → x < b + len → l.memory x ≡ k.memory x
-  word_stays b len apart x low high = search (rules, l, written_memory, free_or_same, put_elsewhere, word_elsewhere, put_same)
+  pub word_stays : (b len : ℕ) → (list_any (covers h a 4) (open_ranges h k) ≡ false → overlap a 4 b len ≡ false) → (x : ℕ) → b ≤ x → x < b + len → l.memory x ≡ k.memory x
+  word_stays b len apart x low high = search (rules, l, written_memory, apart_or_same, put_elsewhere, word_elsewhere, put_same)
 
   -- a device context that is taken
   pub rules_of : (e : ℕ × ℕ) (at : taken h k a w ≡ Some e) → DeviceRules h k e.0 e.1 (taking h k a w e clean at).takes.context
@@ -95,7 +97,7 @@ module _ (h : Header) (is : IsHeader h) (k : Known) (d : DriverKeeps h k) (a w :
   beside_old p c u =
       let keeps : CommandKeeps h k p c = d.unfinished p c u in
       beside_with c
-      (λ n at. word_stays n (input_context_bytes h.context_size) (λ free. context_free h k a 4 (word_free h k a free) p n c u at))
+      (λ n at. word_stays n (input_context_bytes h.context_size) (λ free. context_free h k a 4 free p n c u at))
       (λ n at e some.
       context_free h k e.1 (device_context_bytes h.context_size) (lease_free h k e.1 (device_context_bytes h.context_size) (rules_of e some).free) p n c u at)
       keeps.good (λ s n bsr at. device_stays s (keeps.device s n bsr at))

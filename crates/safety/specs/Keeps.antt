@@ -2,7 +2,7 @@
 use Rattle.std.specs.Prelude.{◌≡◌, ◌≢◌, ℕ, ◌+◌, ◌%◌, ◌^◌, ◌<◌, ◌≤◌, ◌⊎◌, Bool, true, false, [], map, All, Some, None, slice_get, is_some}
 use Rattle.trb.specs.declared.block.Block.{Block}
 use Rattle.segments.specs.declared.spot.Spot.TheVariants.{Data}
-use Rattle.segments.specs.Places.{address_of, is_in, is_inside, overlap}
+use Rattle.segments.specs.Places.{is_in, is_inside, overlap}
 use Rattle.segments.specs.RingView.{RingView, floor_number, is_due}
 use Rattle.segments.specs.RingKeeps.{RingKeeps, IsRestored}
 use Rattle.segments.specs.Moves.{is_move}

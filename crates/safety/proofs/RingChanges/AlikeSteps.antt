@@ -1,18 +1,13 @@
 -- Each step keeps a run of the model and what the rings that live see of it alike
-use Rattle.safety.proofs.UpperLaws.{All-head, AreKept, [], ◌≡◌, ◌≢◌, ◌∷◌, ◌&&◌, ◌==◌, ◌∙◌, if◌then◌else◌, ℕ, not, Bool, true, false, List, Option, Some, None, refl, sym, ap, subst, inl, inr, cases_Bool, cases_eq, cond-true, cond-false, false≢true, false_from_ne_true, none-some, same_Some, reverse, put, put_at, put_off, Block, Header, Ring, Row, Sub, Write, Reg, Bell, Read, RegRead, RingRow, FreeRow, NopRow, Register, Usbcmd, Step, NextRow, World, IsHeader, IsStep, IsRow, IsKept, ring_with, command_id, counted, without_ring, with_ring, row_done, Known, DriverKeeps, Runs, LiveScene, live_next, live_step, live_with, header_after, header_now, known_after, known_now, and_parts, fun_ext, listed, may_come, Scene, row_next, step_made, with_coming, with_left, with_world, may_declare, driver_is, Left, aside, kept_coming, kept_going, kept_withdrawing, Lists, TakesAreRight, came_aside, come_again, comes_lists, goes_lists, left_behind, may_come_there, was_live, went_aside, is_named, bell_facts, register_facts, restored, restored_on, ring_restored, without_descriptor}
+use Rattle.safety.proofs.UpperLaws.{All-head, AreKept, [], ◌≡◌, ◌≢◌, ◌∷◌, ◌∙◌, ℕ, Bool, true, List, refl, sym, ap, subst, inl, inr, false≢true, false_from_ne_true, none-some, reverse, Header, Row, Step, NextRow, World, IsHeader, IsStep, IsRow, counted, Known, Runs, LiveScene, live_next, live_step, live_with, header_now, known_now, Scene, row_next, step_made, with_world, Left, aside, Lists}
 use Rattle.std.proofs.Common.{option_map}
-use Rattle.safety.proofs.Words.{Crcr, emptied, lenient, resting}
 use Rattle.safety.proofs.StepRuns.{step_goes}
-use Rattle.safety.proofs.Phases as phases
-use Rattle.safety.proofs.RingChanges.Alike.{Alike, AreAlike, IsIdle, Lingers, alike_row, alike_step, whole}
-use Rattle.safety.proofs.RingChanges.LiveHeadline.{CameTo, Keeps, here, kept_on, later_kept, one_more, row_came, stays}
+use Rattle.safety.proofs.RingChanges.Alike.{Alike, AreAlike, IsIdle, Lingers, alike_step, whole}
+use Rattle.safety.proofs.RingChanges.LiveHeadline.{CameTo, Keeps, here, kept_on, later_kept, one_more, stays}
 use Rattle.safety.proofs.RingChanges.Lingering.{lingering}
-use Rattle.safety.proofs.RingChanges.ComingGoing as kinds
 use Rattle.safety.proofs.RingChanges.RunFacts as facts
 use Rattle.safety.proofs.RingChanges.StepsAside.{halted_still, none_behind_stop, step_aside}
-use Rattle.safety.proofs.RingChanges.RowsIdle.{halted_left, leaves, registers_left, row_idle}
 use Rattle.safety.proofs.RingChanges.AlikeRows.{made_row}
-use Rattle.world_state.specs.DriverRows as driver
 use Rattle.world_state.specs.Steps as steps
 
 counted_active : (h : Header) (v : World) → (counted h v).is_active ≡ v.is_active

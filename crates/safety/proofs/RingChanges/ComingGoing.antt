@@ -1,6 +1,6 @@
 -- A ring of any kind that comes or goes: what a driver keeps it keeps still, and the run goes on
 use Rattle.safety.proofs.Words.{RingKind, is_inside_descriptor, resting}
-use Rattle.safety.proofs.UpperLaws.{[], ◌≡◌, ◌≢◌, ◌&&◌, ◌||◌, ◌∙◌, ℕ, Bool, not, true, false, None, Some, Option, is_some, refl, sym, ap, subst, arith, inl, inr, cases_Bool, cases_eq, cases_option, false≢true, false_from_ne_true, none-some, same_Some, or_parts, fun_ext, put, put_at, put_off, list_any, IsComing, is_bad_free, is_bad_ring, is_bad_kind, is_bad_segment, with_ring, without_ring, emptied, forgotten, Header, Ring, IsHeader, ring_with, command_id, World, Known, counted, DriverKeeps, IsTransferRing, Runs, is_done, is_in_run, is_transfer_kind, all_read}
+use Rattle.safety.proofs.UpperLaws.{◌≡◌, ◌||◌, ◌∙◌, ℕ, Bool, true, false, None, Some, Option, is_some, refl, sym, ap, subst, inl, inr, cases_Bool, cases_eq, cases_option, false≢true, false_from_ne_true, none-some, or_parts, fun_ext, put, put_at, put_off, list_any, IsComing, is_bad_free, is_bad_ring, is_bad_kind, is_bad_segment, with_ring, without_ring, emptied, forgotten, Header, Ring, IsHeader, ring_with, command_id, World, Known, counted, DriverKeeps, IsTransferRing, Runs, is_in_run, is_transfer_kind, all_read}
 use Rattle.trb.specs.declared.ring_kind.RingKind.TheVariants.{Cmd, Evt, Xfer}
 use Rattle.ring_knowledge.specs.Histories.{gone}
 use Rattle.ownership_rules.specs.Rings.{goes_badly}

@@ -1,6 +1,6 @@
 -- A step leaves aside what is left of the rings that went: it does beside them what it does without them
 use Rattle.traces.specs.Versions.{has_runs}
-use Rattle.safety.proofs.Words.{has_isoch, arith, ◌≡◌, ◌≢◌, ◌+◌, ◌-◌, ◌%◌, ◌^◌, ◌==◌, ◌&&◌, ◌∙◌, ◌∷◌, ◌++◌, if◌then◌else◌, ℕ, Bool, true, false, not, List, [], Option, Some, None, is_some, length, drop, ap, refl, sym, inl, inr, eq-eqb, ne_eqb, nat_lt, cases_Bool, cases_eq, cond-true, cond-false, fun_ext, option_and_then, position, list_any, range_with_len, put, put_pair, Block, is_set, block_at, code, cycle, endpoint, kind, same_words, slot, word, counted_code, is_halting, is_stopping, is_success, is_trb_error, is_command_completion, is_link, is_other_event, is_transfer_event, Shape, address_of, cycle_of, is_in, place_count, declared_at, device_context, device_context_bytes, ContextSize, Command, EndpointState, Error, Halted, Stopped, command_of, is_running, Change, Places, Stops, changes, has_room, is_event_place, position_from, Header, Row, Sub, Write, Reg, Bell, Read, Crcr, Dcbaap, Step, NextRow, Look, Report, Finish, Other, Scribble, command_id, event_shape, event_size, ring_having, shape_of, base_address, register_or_zero, ring_cycle_state, RingEvent, Placed, Took, UnderWay, World, next_take, Halt}
+use Rattle.safety.proofs.Words.{has_isoch, arith, ◌≡◌, ◌≢◌, ◌+◌, ◌-◌, ◌%◌, ◌^◌, ◌==◌, ◌&&◌, ◌∙◌, ◌∷◌, ◌++◌, if◌then◌else◌, ℕ, Bool, true, false, not, List, [], Option, Some, None, is_some, length, drop, ap, refl, sym, inl, inr, eq-eqb, ne_eqb, nat_lt, cases_Bool, cases_eq, cond-true, cond-false, fun_ext, option_and_then, position, list_any, range_with_len, put, put_pair, Block, is_set, block_at, code, cycle, endpoint, kind, same_words, slot, word, counted_code, is_halting, is_stopping, is_success, is_trb_error, is_command_completion, is_link, is_other_event, is_transfer_event, Shape, address_of, cycle_of, is_in, place_count, declared_at, device_context, device_context_bytes, ContextSize, Command, EndpointState, Error, Halted, Stopped, command_of, is_running, Change, Places, Stops, changes, has_room, is_event_place, position_from, Header, Dcbaap, Step, NextRow, Look, Report, Finish, Other, Scribble, command_id, event_shape, event_size, ring_having, shape_of, register_or_zero, RingEvent, Placed, Took, UnderWay, World, next_take, Halt}
 use Rattle.std.specs.Prelude.{option_map}
 use Rattle.world_state.specs.World as world
 use Rattle.world_state.specs.Takes as takes

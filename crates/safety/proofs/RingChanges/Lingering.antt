@@ -1,5 +1,5 @@
 -- A command ring that went while the controller halted: the controller would look at it still when it goes on
-use Rattle.safety.proofs.Words.{◌≡◌, ◌||◌, ◌∙◌, if◌then◌else◌, ℕ, Bool, true, false, List, Option, Some, None, refl, sym, ap, arith, fun_ext, cond-true, cond-false, nat_lt, same_words, Block, block_at, Header, World, Write, Row, Register, ◌+◌}
+use Rattle.safety.proofs.Words.{◌≡◌, ◌||◌, ◌∙◌, if◌then◌else◌, ℕ, Bool, false, List, Some, None, refl, ap, arith, fun_ext, Block, Header, World, ◌+◌}
 use Rattle.std.specs.Prelude.{option_map}
 use Rattle.world_state.specs.World as world
 use Rattle.world_state.specs.DriverRows as driver

@@ -10,7 +10,7 @@ use Rattle.trb.specs.CompletionCode.{is_stopping}
 use Rattle.segments.specs.ShapeValue.{Shape}
 use Rattle.segments.specs.declared.spot.Spot.{Spot}
 use Rattle.segments.specs.declared.spot.Spot.TheVariants.{Data}
-use Rattle.segments.specs.Spots.{number, rank, after, spots_from}
+use Rattle.segments.specs.Spots.{number, rank, spots_from}
 use Rattle.segments.specs.Ceiling.{is_open}
 use Rattle.commands.specs.declared.command.Command.{Command}
 use Rattle.commands.specs.declared.command.Command.TheVariants.{StopEndpoint}

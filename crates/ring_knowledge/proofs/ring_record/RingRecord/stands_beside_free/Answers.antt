@@ -1,4 +1,4 @@
-use Rattle.ring_knowledge.proofs.Laws.{rules, ◌≡◌, ◌%◌, ◌<◌, ◌≤◌, ◌+◌, ◌∙◌, Some, false, ap, sym, arith, max, number, get_or, place_count, link_crossed, place_at, place_at-Link, crossing_behind, found}
+use Rattle.ring_knowledge.proofs.Laws.{rules, ◌≡◌, ◌<◌, ◌≤◌, ◌+◌, ◌∙◌, Some, false, ap, sym, max, number, get_or, place_count, link_crossed, place_at, place_at-Link, crossing_behind, found}
 use Rattle.ring_knowledge.proofs.UpperLaws.{◌||◌, AtLink, RingView, FollowsRing, data_no_link, link_is, none-some}
 use Rattle.ring_knowledge.specs.BesideFree.{is_unrestored, stands_beside_free}
 use Rattle.ring_knowledge.proofs.BesideFree.{none_beside, unmarked_beside, marked_beside}
