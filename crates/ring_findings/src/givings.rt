@@ -60,7 +60,17 @@ fn write_to_ring(case: &mut Case, ring: &Ring, known: &RingRecord, address: u64,
         return;
     }
     match place {
-        Some(Place::Link { segment, .. }) => note_early(case, ring, known, segment),
+        Some(
+            Place::Link {
+                segment,
+                word: index,
+            },
+        ) => {
+            note_early(case, ring, known, segment);
+            if index == 3 {
+                help_to_unchain(case, ring, known, segment, address, word);
+            }
+        }
         _ => help_to_withdraw(case, ring, known, address),
     }
 }
@@ -131,14 +141,10 @@ fn tell_lost(case: &mut Case, ring: &Ring, control: u64) {
 
 /// Of a TRB that a Stopped endpoint's driver may withdraw: says by which row.
 fn help_to_withdraw(case: &mut Case, ring: &Ring, known: &RingRecord, address: u64) {
-    let Some(had) = endpoint_with(&case.known.devices, ring.id) else {
-        return;
-    };
-    let state = case.known.devices.endpoint_state(had.slot, had.endpoint);
-    if !case.header.version.has_ring_rows() || state != EndpointState::Stopped {
-        return;
-    }
-    if let Some(first) = withdrawable(case, ring, known, address) {
+    let floor = known.floor_number();
+    let end = floor.saturating_add(u64::from(ring.shape.places()));
+    let position = (floor..end).find(|position| ring.shape.address(*position) == address & !15);
+    if let Some(first) = withdrawable(case, ring, known, position) {
         case.help(
             "where the driver takes the TD back, log `nop {} {}` before its first write; its TRBs become No Ops (xHCI 4.6.9)",
             &[Id(ring.id), Address(first)],
@@ -146,17 +152,47 @@ fn help_to_withdraw(case: &mut Case, ring: &Ring, known: &RingRecord, address: u
     }
 }
 
-/// The first position of the TD that has the TRB at an address, where it may be withdrawn by its place.
-fn withdrawable(case: &Case, ring: &Ring, known: &RingRecord, address: u64) -> Option<u64> {
-    let floor = known.floor_number();
+/// Of a Link TRB that loses its Chain bit, and nothing else, within a TD that a Stopped endpoint's driver may withdraw: says by which row.
+fn help_to_unchain(
+    case: &mut Case,
+    ring: &Ring,
+    known: &RingRecord,
+    segment: u32,
+    address: u64,
+    word: u32,
+) {
+    let standing = case.known.word(address);
+    let is_unchained = standing & 0x10 != 0 && word == standing & !0x10;
+    if !case.header.version.has_runs() || !is_unchained {
+        return;
+    }
+    let before = trbs_before(ring, known, segment).checked_sub(1);
+    if let Some(first) = withdrawable(case, ring, known, before) {
+        case.help(
+            "where the driver takes the TD around it back, log `nop {} {}` before its first write; then the Chain bits of its Link TRBs may be cleared (xHCI 4.6.9)",
+            &[Id(ring.id), Address(first)],
+        );
+    }
+}
+
+/// The first position of the TD that has the TRB of a position, where its endpoint is Stopped and it may be withdrawn by its place.
+fn withdrawable(
+    case: &Case,
+    ring: &Ring,
+    known: &RingRecord,
+    position: Option<u64>,
+) -> Option<u64> {
+    let had = endpoint_with(&case.known.devices, ring.id)?;
+    let state = case.known.devices.endpoint_state(had.slot, had.endpoint);
+    if !case.header.version.has_ring_rows() || state != EndpointState::Stopped {
+        return None;
+    }
     let least = if case.header.version.is_lenient() {
-        floor
+        known.floor_number()
     } else {
         known.ceiling()
     };
-    let end = floor.saturating_add(u64::from(ring.shape.places()));
-    let position = (floor..end).find(|position| ring.shape.address(*position) == address & !15)?;
-    let td = submission(case, ring.id, position)?;
+    let td = submission(case, ring.id, position?)?;
     if td.first >= least && td.withdrawn.is_none() {
         Some(td.first)
     } else {
