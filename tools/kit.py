@@ -1,7 +1,8 @@
 """What the tools use of the toolchain's own command, whose insides have no promise: all of it is named here, and a new kit is looked at here first.
 
 Of the module `rtlib`: Crate(folder, top, cache) with name, folder, rlib, deps, of_kit, below(), words(flags, keeps=), is_built(), build_rlib(flags, anew=);
-guarded(), lock(), RATTLE, KIT, PARTS. Of the command itself: read_edit(), checked(), must_fail(), free(), processors() and REFUSED.
+guarded(), lock(), text_of(), RATTLE, KIT, PARTS. Of the command itself: read_edit(), checked(), must_fail(), free(), processors(), REFUSED,
+handles_of(), crates_of(), Crate with allowed and cuts_libraries, and Kept with key(), place(), give(), drop() and is_built().
 """
 import importlib.machinery, importlib.util, os, shutil, sys
 
