@@ -11,4 +11,4 @@ pub use Rattle.trace_record.proofs.RangeWords.WholeGroups.{bits_set, bits_whole,
 pub use Rattle.trace_record.proofs.RingFinder.CommandRings.{IsCommandNumber, command_number, has_commands, read_at}
 pub use Rattle.trace_record.proofs.RingFinder.MoreRings.{all_starts_more, command_more, event_more, inserted_all, inserted_sorted, numbers_more, one_more, position_still}
 pub use Rattle.trace_record.proofs.RingFinder.TouchedSegments.{last_before_end, none_before_end}
-pub use Rattle.trace_record.proofs.UpperLaws.{added_all, added_sorted, alike, all_below, among_at, any_below, below_entries, between, cleared, controllers_are, counted_now, disabled_all, disabled_none, disabled_twice, elsewhere_had, flattened, follows_beside, follows_beyond, follows_device, follows_disabled, follows_first, follows_held, filled, follows_nothing, follows_reset, follows_rung, follows_slot_state, follows_state, follows_stop_seen, follows_transferred, follows_type, fresh_counted, fresh_push, fresh_summed, here_had, high_of, in_group, in_no_segments, in_segments, inside_is, its_number, last_before, last_touches, leased_is, leaves, leaves_sum, low_of, marked_at, named_is, no_bytes, no_command_ring, no_event_ring, no_slot, none_among, none_before, none_behind, none_below, none_common, none_has, none_here, none_touches, not_missed, nothing_before, nowhere_had, number_below, one_has, one_hint, one_number, one_slot, owned_by_change, owned_by_version, passed_on, place_first, removed_sorted, ring_here, ring_hit, ring_miss, rings_here, rings_in_events, rings_nowhere, room_left, run_of_ones, same_ring, soiled_part, some_common, starts_push, sum_room_left, summed_now, takes, takes_sum, tested_bit, without}
+pub use Rattle.trace_record.proofs.UpperLaws.{added_all, added_sorted, alike, all_below, among_at, any_below, below_entries, between, cleared, controllers_are, counted_now, disabled_all, disabled_none, disabled_twice, elsewhere_had, flattened, follows_beside, follows_beyond, follows_device, follows_disabled, follows_first, follows_held, filled, follows_nothing, follows_reset, follows_rung, follows_slot_state, follows_state, follows_stop_seen, follows_transferred, follows_type, fresh_counted, fresh_push, fresh_summed, here_had, high_of, in_group, in_no_segments, in_segments, inside_is, its_number, last_before, last_touches, leased_is, leaves, leaves_sum, low_of, marked_at, named_is, no_bytes, no_command_ring, no_event_ring, no_slot, none_among, none_before, none_behind, none_below, none_common, none_has, none_here, none_touches, not_missed, nothing_before, nowhere_had, number_below, one_has, one_hint, one_number, one_slot, owned_by_version, passed_on, place_first, removed_sorted, ring_here, ring_hit, ring_miss, rings_here, rings_in_events, rings_nowhere, room_left, run_of_ones, same_ring, soiled_part, some_common, starts_push, sum_room_left, summed_now, takes, takes_sum, tested_bit, without}

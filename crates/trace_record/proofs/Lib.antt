@@ -1,6 +1,7 @@
 mod FreshRecords
 pub mod BoundRings
 pub mod WordsInside
+mod BesideFree
 pub mod OneRingHas
 mod TableWords
 mod OpenAreas

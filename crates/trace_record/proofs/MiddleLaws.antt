@@ -5,7 +5,7 @@ pub use Rattle.trace_record.proofs.DeviceSlots.HolderCounts.{fresh_counted, is_s
 pub use Rattle.trace_record.proofs.DeviceSlots.Steps.{bound_same, devices_same, endpoints_same, follows_beside, follows_device, follows_halt, follows_placed, follows_slot_state, follows_state, follows_still, follows_stop_seen, follows_type, states_same}
 pub use Rattle.trace_record.proofs.DeviceSlots.UnfinishedSame.{ring_elsewhere}
 pub use Rattle.trace_record.proofs.LowerLaws.{Apart, IsAmong, alike, all_back, all_with, all_without, alone, among_at, among_get, any_append, any_either, any_filtered, any_map, any_more, any_nowhere, any_one, any_same, any_same_of, each_among, false_unless, filter_nothing, first_apart, filled, follows_nothing, follows_reset, from_not, none_common, none_passes, not_empty, numbers_apart, one_hint, only_left, or_false, other_number, rest_together, run_of_ones, same_or_apart, some_common, tested_bit, without}
-pub use Rattle.trace_record.proofs.OpenAreas.{controllers_are, in_no_segments, in_segments, leased_is, owned_by_change, owned_by_version}
+pub use Rattle.trace_record.proofs.OpenAreas.{controllers_are, in_no_segments, in_segments, leased_is, owned_by_version}
 pub use Rattle.trace_record.proofs.OpenEntries.{below_entries, no_slot, one_slot}
 pub use Rattle.trace_record.proofs.RangeWords.AreaLists.{added_all, added_sorted, last_touches, none_among, none_behind, none_touches, not_missed, removed_sorted}
 pub use Rattle.trace_record.proofs.RangeWords.MarkedWords.{between, cleared, high_of, in_group, low_of, marked_at, soiled_part}

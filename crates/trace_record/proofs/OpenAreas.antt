@@ -1,7 +1,15 @@
 -- The contexts under lease, by the addresses at which they start
 use Rattle.trace_record.proofs.LowerLaws.{rules, ◌≡◌, ◌∷◌, ◌∙◌, ◌||◌, ℕ, List, [], Bool, true, false, Option, None, refl, ap, sym, list_any, filter_map, flat_map, cons_option, overlap, Command, named_context, device_context_bytes, input_context_bytes, Header, driver_rings, Known, or_false, any_append, any_flat_map, inputs_of, device_contexts, rings_have, table_has, entries_have, ◌&&◌, ◌==◌, not, Shape, touches, event_shape, event_ring, shape_or, any_map, Evt, older, stricter, writes_to_owned, changes_owned, is_lenient}
+use Rattle.trace_record.proofs.BesideFree.{beside_link, unchained}
+use Rattle.traces.specs.Versions.{has_runs}
+use Rattle.trace_record.specs.Owned.{others_have}
 use Rattle.ring_knowledge.specs.Rings as rings
+use Rattle.ownership_rules.specs.Older.{may_write_owned, stands_beside_free}
+use Rattle.ownership_rules.specs.Writes.{clears_chain, is_link_control, unchains}
 use Rattle.ownership_rules.specs.OpenLeases as leases
+
+or_assoc : (x y z : Bool) → ((x || y) || z) ≡ (x || (y || z))
+or_assoc x y z = search rules
 
 module _ (h : Header) (k : Known) (a : ℕ) where
   abbrev Has : List leases.Leased → Bool
@@ -36,10 +44,18 @@ module _ (h : Header) (k : Known) (a : ℕ) where
 
   -- ---- all of them
 
-  pub leased_is : leases.is_leased h k a
-      ≡ ((((rings_have h k a || table_has h k a) || list_any in_input (inputs_of (rings.unfinished h k))) || entries_have h k a) || list_any in_device (device_contexts k))
-  unfolding leases.is_leased leases.open_leases rings.unfinished leases.context_ranges leases.open_ranges
-  leased_is = search (rules, list_any, driver_rings, any_append, flat_map, any_flat_map, table_has, entries_have, rings_have, all_commands, inputs_of, devices_are)
+  pub others_are : others_have h k a
+      ≡ (((table_has h k a || list_any in_input (inputs_of (rings.unfinished h k))) || entries_have h k a) || list_any in_device (device_contexts k))
+  unfolding rings.unfinished leases.context_ranges
+  others_are = search (rules, list_any, any_append, flat_map, any_flat_map, table_has, entries_have, all_commands, inputs_of, devices_are)
+
+  pub ranges_are : Has (leases.open_ranges h k) ≡ (Has (leases.segment_ranges h) || others_have h k a)
+  unfolding leases.open_ranges
+  ranges_are = search (rules, any_append, or_assoc)
+
+  pub leased_is : leases.is_leased h k a ≡ (rings_have h k a || others_have h k a)
+  unfolding leases.is_leased leases.open_leases
+  leased_is = search (rules, any_append, any_flat_map, ranges_are, rings_have, driver_rings)
 
   -- ---- the words that only the controller may write
 
@@ -58,21 +74,31 @@ module _ (h : Header) (k : Known) (a : ℕ) where
   unfolding leases.is_the_controllers
   controllers_are = any_append (leases.covers h a 4) (leases.segment_ranges h) (leases.device_ranges h k) ∙ ap (λ b. Has (leases.segment_ranges h) || b) (sym devices_are)
 
+  -- such a word is of a range
+  controllers_in_ranges : Has (leases.open_ranges h k) ≡ false → leases.is_the_controllers h k a ≡ false
+  controllers_in_ranges free = search (rules, controllers_are, ranges_are, others_are, or_false)
+
   pub controllers_leased : leases.is_leased h k a ≡ false → leases.is_the_controllers h k a ≡ false
-  controllers_leased free = search (rules, controllers_are, list_any, driver_rings, table_has, inputs_of, entries_have, device_contexts, leased_is)
+  controllers_leased free = search (rules, controllers_are, leased_is, others_are, rings_have)
 
   -- ---- what a write may not do, by the trace's version
 
-  pub owned_is : (w : ℕ) → writes_to_owned h k a w ≡ (leases.is_leased h k a && (not (is_lenient h.version) || (not (k.memory a == w) || leases.is_the_controllers h k a)))
-  unfolding writes_to_owned stricter older changes_owned
-  owned_is w = search (rules, controllers_leased, or_false, not)
-
-  pub owned_by_version : (w : ℕ) → leases.is_leased h k a ≡ true → not (is_lenient h.version) ≡ true → writes_to_owned h k a w ≡ true
-  owned_by_version w leased older = search (rules, owned_is, not)
-
-  pub owned_by_change : (w : ℕ) → leases.is_leased h k a ≡ true → not (is_lenient h.version) ≡ false →
-      writes_to_owned h k a w ≡ (not (k.memory a == w) || leases.is_the_controllers h k a)
-  owned_by_change w leased newer = search (rules, owned_is, not)
-
   pub not_owned : (w : ℕ) → leases.is_leased h k a ≡ false → writes_to_owned h k a w ≡ false
-  not_owned w free = search (rules, owned_is, not)
+  unfolding writes_to_owned stricter older changes_owned
+  not_owned w free = search (rules, controllers_leased, or_false, not)
+
+  pub owned_by_version : (w : ℕ) → leases.is_leased h k a ≡ true → is_lenient h.version ≡ false → writes_to_owned h k a w ≡ true
+  unfolding writes_to_owned stricter may_write_owned
+  owned_by_version w leased older = rw (leased, older) refl
+
+  -- the word that stands there
+  pub owned_if_same : (w : ℕ) → leases.is_leased h k a ≡ true → is_lenient h.version ≡ true → (k.memory a == w) ≡ true → writes_to_owned h k a w ≡ leases.is_the_controllers h k a
+  unfolding writes_to_owned stricter may_write_owned changes_owned
+  owned_if_same w leased newer same = rw (leased, newer, same) (or_false (leases.is_the_controllers h k a))
+
+  -- another word
+  pub owned_if_changed : (w : ℕ) → leases.is_leased h k a ≡ true → is_lenient h.version ≡ true → (k.memory a == w) ≡ false →
+      writes_to_owned h k a w ≡ not (has_runs h.version && clears_chain (k.memory a) w && stands_beside_free h k a && not (Has (leases.open_ranges h k)))
+  unfolding writes_to_owned stricter may_write_owned changes_owned unchains
+  owned_if_changed w leased newer other = rw (leased, newer, other)
+      (unchained (has_runs h.version) (stands_beside_free h k a) (is_link_control h a) (clears_chain (k.memory a) w) (Has (leases.open_ranges h k)) (leases.is_the_controllers h k a) (beside_link h k a) controllers_in_ranges)

@@ -8,7 +8,7 @@ pub use Rattle.trace_record.proofs.DeviceSlots.TransferEvents.{follows_transferr
 pub use Rattle.trace_record.proofs.DeviceSlots.TransfersApart.{NoEndpointHas, transfer_apart}
 pub use Rattle.trace_record.proofs.DeviceSlots.TurnedOff.{all_below, disabled_all, disabled_none, disabled_twice, follows_disabled}
 pub use Rattle.trace_record.proofs.FreshRecords.{follows_first, fresh_push, no_event_ring, place_first}
-pub use Rattle.trace_record.proofs.MiddleLaws.{IsAmong, added_all, added_sorted, alike, all_back, all_with, all_without, alone, among_at, among_get, any_append, any_below, any_either, any_filtered, any_map, any_more, any_nowhere, any_one, any_same, any_same_of, below_entries, between, cleared, controllers_are, devices_same, endpoints_same, false_unless, find_some, first_apart, flattened, follows_beside, follows_device, follows_halt, filled, follows_nothing, follows_reset, follows_placed, follows_slot_state, follows_state, follows_stop_seen, follows_type, fresh_counted, from_not, gives_no_position, high_of, id_below, in_group, in_no_segments, in_segments, last_touches, leased_is, leaves, low_of, marked_at, named_is, no_bytes, no_slot, none_among, none_behind, none_below, none_common, none_has, none_passes, none_touches, not_empty, not_found, not_missed, one_has, one_hint, one_number, one_slot, only_left, other_number, owned_by_change, owned_by_version, removed_sorted, rest_together, run_of_ones, same_or_apart, shape_allowed, shape_there, soiled_part, some_common, states_same, takes, tested_bit, together, without}
+pub use Rattle.trace_record.proofs.MiddleLaws.{IsAmong, added_all, added_sorted, alike, all_back, all_with, all_without, alone, among_at, among_get, any_append, any_below, any_either, any_filtered, any_map, any_more, any_nowhere, any_one, any_same, any_same_of, below_entries, between, cleared, controllers_are, devices_same, endpoints_same, false_unless, find_some, first_apart, flattened, follows_beside, follows_device, follows_halt, filled, follows_nothing, follows_reset, follows_placed, follows_slot_state, follows_state, follows_stop_seen, follows_type, fresh_counted, from_not, gives_no_position, high_of, id_below, in_group, in_no_segments, in_segments, last_touches, leased_is, leaves, low_of, marked_at, named_is, no_bytes, no_slot, none_among, none_behind, none_below, none_common, none_has, none_passes, none_touches, not_empty, not_found, not_missed, one_has, one_hint, one_number, one_slot, only_left, other_number, owned_by_version, removed_sorted, rest_together, run_of_ones, same_or_apart, shape_allowed, shape_there, soiled_part, some_common, states_same, takes, tested_bit, together, without}
 pub use Rattle.trace_record.proofs.OneRingHas.{inside_is, no_driver_event, rings_here, rings_in_events, rings_nowhere}
 pub use Rattle.trace_record.proofs.RingFinder.FoundRings.{command_found, no_command_ring, none_here, ring_here}
 pub use Rattle.trace_record.proofs.RingFinder.HavingRings.{elsewhere_had, here_had, nowhere_had}

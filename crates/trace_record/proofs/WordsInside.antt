@@ -7,7 +7,7 @@ module _ (shape : Shape) (allowed : IsShape shape) (a : ℕ) (aligned : a % 4 �
   block_inside p low high =
       is_inside-place_at shape allowed a (Data (p % place_count shape) (a % 16 / 4)) (place_at-data shape allowed (p % place_count shape) a (place_below shape allowed p) aligned low high)
 
-  link_inside : (q : ℕ) → is_crossing shape q ≡ true → link_address shape q ≤ a → a < link_address shape q + 16 → is_inside shape a ≡ true
+  pub link_inside : (q : ℕ) → is_crossing shape q ≡ true → link_address shape q ≤ a → a < link_address shape q + 16 → is_inside shape a ≡ true
   link_inside q crossing low high =
       let over = crossed_link shape q crossing in
       search (rules, link_address_is shape q over.0 over.1, (crosses shape q over.0 over.1).link, place_at-link shape allowed over.0 a, is_inside-place_at shape allowed a)

@@ -1,4 +1,4 @@
-use Rattle.trace_record.proofs.Laws.{◌≡◌, ◌∙◌, ℕ, ap, not, sym, subst, Bool, Header, Known, Row, Write, IsOwnedSo, IsPlaced, true, false, is_lenient, writes_to_owned, owned_by_change, owned_by_version}
+use Rattle.trace_record.proofs.Laws.{◌≡◌, ◌∙◌, ℕ, ap, not, sym, subst, Bool, Header, Known, Row, Write, IsOwnedSo, IsPlaced, writes_to_owned, owned_by_version}
 use Rattle.trace_record.proofs.OpenAreas.{not_owned}
 use Rattle.trace_record.proofs.trace_record.TraceRecord.owns.Goals as goal
 
@@ -10,18 +10,16 @@ returns-then-not-is_lenient g c = λ k f placed.
     let h = c.args.header.now in
     let place = subst (λ (row : Row). IsPlaced h k row c.args.place.now) c.in-Write.is placed in
     let leased = sym (c.is_leased.ensures h k (g.M.WordMemory.words c.args.memory.now) f place.lent) ∙ c.if-is_leased.true in
-    let version : not (is_lenient h.version) ≡ true = ap not (sym c.is_lenient.ensures ∙ c.if-not-is_lenient.true) in
     owned_at h k c.args.row.now c.in-Write.at c.in-Write.word _ c.in-Write.is
-    (ap not c.if-not-is_lenient.true ∙ sym (owned_by_version h k c.in-Write.at c.in-Write.word leased version))
+    (ap not c.if-not-is_lenient.true ∙ sym (owned_by_version h k c.in-Write.at c.in-Write.word leased (sym c.is_lenient.ensures ∙ c.if-not-is_lenient.true)))
 
 pub returns-else-not-is_lenient : goal.returns-else-not-is_lenient
 returns-else-not-is_lenient g c = λ k f placed.
     let h = c.args.header.now in
     let place = subst (λ (row : Row). IsPlaced h k row c.args.place.now) c.in-Write.is placed in
     let leased = sym (c.is_leased.ensures h k (g.M.WordMemory.words c.args.memory.now) f place.lent) ∙ c.if-is_leased.true in
-    let version : not (is_lenient h.version) ≡ false = ap not (sym c.is_lenient.ensures ∙ c.if-not-is_lenient.false) in
     owned_at h k c.args.row.now c.in-Write.at c.in-Write.word _ c.in-Write.is
-    (c.is_disturbed.ensures h k f ∙ sym (owned_by_change h k c.in-Write.at c.in-Write.word leased version))
+    (c.is_disturbed.ensures k f place (sym c.is_lenient.ensures ∙ c.if-not-is_lenient.false) leased)
 
 pub returns-else-is_leased : goal.returns-else-is_leased
 returns-else-is_leased g c = λ k f placed.
