@@ -126,7 +126,7 @@ Example:
   xhcitrace decode 00030000 00000000 01000000 01018001";
 
 const EXPLAIN: &str = "\
-Prints a page, status 0; else status 3. Of a rule (10 to 25 and 32 to 35) it tells what that is for, what a controller does to a
+Prints a page, status 0; else status 3. Of a rule (10 to 25 and 32 to 36) it tells what that is for, what a controller does to a
 driver that breaks it, what to write instead, and a trace that breaks it; of what is wrong with a text (1 to 5), a certificate
 (6 to 8), a plan (26), memory (30) or a file (31), and of a harm (harm-1 to harm-6), what is meant and what to do.
 
@@ -137,31 +137,53 @@ Examples:
 
 /// What the program can be asked for.
 pub fn command<'a>(alloc: Global) -> Result<Command<'a>, AllocError> {
-    Command::new(alloc, "xhcitrace")
+    let command = Command::new(alloc, "xhcitrace")
         .about("Checks recorded traces of drivers of USB host controllers (xHCI)")
         .version(VERSION)
         .after_help(STATUSES)
-        .bin_name("xhcitrace")?
+        .bin_name("xhcitrace")?;
+    with_pages(alloc, with_writers(alloc, with_judges(alloc, command)?)?)
+}
+
+/// The commands that judge a trace, or what belongs to one.
+fn with_judges<'a>(alloc: Global, command: Command<'a>) -> Result<Command<'a>, AllocError> {
+    command
         .subcommand(check(alloc)?)?
         .subcommand(verify(alloc)?)?
         .subcommand(schedule(alloc)?)?
-        .subcommand(replay(alloc)?)?
+        .subcommand(replay(alloc)?)
+}
+
+/// Those that show a trace, write one or run a driver for one.
+fn with_writers<'a>(alloc: Global, command: Command<'a>) -> Result<Command<'a>, AllocError> {
+    command
         .subcommand(show(alloc)?)?
         .subcommand(write(alloc)?)?
-        .subcommand(bench(alloc)?)?
+        .subcommand(bench(alloc)?)
+}
+
+/// Those that read no trace.
+fn with_pages<'a>(alloc: Global, command: Command<'a>) -> Result<Command<'a>, AllocError> {
+    command
         .subcommand(decode(alloc)?)?
         .subcommand(tell_page(alloc)?)
 }
 
 fn check<'a>(alloc: Global) -> Result<Command<'a>, AllocError> {
-    Command::new(alloc, "check")
+    let command = Command::new(alloc, "check")
         .about("Checks traces against the rules of ownership")
         .after_help(CHECK)
         .arg(traces(alloc))?
         .arg(certificate(alloc))?
         .arg(shown(alloc))?
         .arg(searched(alloc)?)?
-        .arg(followed(alloc))?
+        .arg(followed(alloc))?;
+    with_manner(alloc, command)
+}
+
+/// How traces that are checked are answered.
+fn with_manner<'a>(alloc: Global, command: Command<'a>) -> Result<Command<'a>, AllocError> {
+    command
         .arg(report_format(alloc)?)?
         .arg(unjudged(alloc))?
         .arg(summary(alloc))?
@@ -276,75 +298,61 @@ fn tell_page<'a>(alloc: Global) -> Result<Command<'a>, AllocError> {
         .arg(object_format(alloc)?)
 }
 
-/// What is told of arguments that aren't text.
-pub fn not_text(alloc: Global) -> Result<Error, AllocError> {
-    command(alloc)?.error(
-        ErrorKind::InvalidValue,
-        "an argument isn't UTF-8: a file with such a name is read on standard input, as in xhcitrace check - <FILE",
-    )
+/// Words that the grammar of the command line allows, and that mean nothing together.
+#[derive(Clone, Copy, Debug, PartialEq, Eq)]
+pub enum Misuse {
+    /// An argument isn't text.
+    NotText,
+    /// The certificate of several traces is asked for.
+    SeveralCertificates,
+    /// A schedule that does harm is asked for of several traces.
+    SeveralShown,
+    /// A schedule that does harm is asked for in a form that has no place for it.
+    ShownAsSarif,
+    /// A summary is asked for of answers that aren't text.
+    SummaryOfReports,
+    /// A word is asked for on which there is no page.
+    NoPage,
+    /// Standard input is to be two inputs.
+    InputTwice,
+    /// The certificate would be written over the trace.
+    OverTheTrace,
+    /// Several traces are to be judged as they come, or a certificate or a schedule of such a trace is asked for.
+    MoreThanFollowed,
 }
 
-/// What is told where the certificate of several traces is asked for.
-pub fn one_certificate(alloc: Global) -> Result<Error, AllocError> {
-    command(alloc)?.error(
-        ErrorKind::ArgumentConflict,
-        "--cert writes the certificate of one trace, and several are named",
-    )
+impl Misuse {
+    fn kind(self) -> ErrorKind {
+        match self {
+            Misuse::NotText | Misuse::NoPage => ErrorKind::InvalidValue,
+            _ => ErrorKind::ArgumentConflict,
+        }
+    }
+
+    fn words(self) -> &'static str {
+        match self {
+            Misuse::NotText =>
+                "an argument isn't UTF-8: a file with such a name is read on standard input, as in xhcitrace check - <FILE",
+            Misuse::SeveralCertificates =>
+                "--cert writes the certificate of one trace, and several are named",
+            Misuse::SeveralShown => "--show makes a schedule for one trace, and several are named",
+            Misuse::ShownAsSarif =>
+                "--show makes a schedule, which --format sarif has no place for; --format json has one",
+            Misuse::SummaryOfReports =>
+                "--summary sums up answers as text, and JSON and a SARIF log have each answer apart",
+            Misuse::NoPage =>
+                "there is no such page: there are those on 1 to 8, 10 to 26 and 30 to 36, by name too, as WriteToOwned, and on harm-1 to harm-6",
+            Misuse::InputTwice => "standard input, -, can be one of the files alone",
+            Misuse::OverTheTrace => "--cert would write the certificate over the trace",
+            Misuse::MoreThanFollowed =>
+                "--follow judges one trace as it comes: several traces, --cert and --show don't go with it",
+        }
+    }
 }
 
-/// What is told where a schedule that does harm is asked for of several traces.
-pub fn one_shown(alloc: Global) -> Result<Error, AllocError> {
-    command(alloc)?.error(
-        ErrorKind::ArgumentConflict,
-        "--show makes a schedule for one trace, and several are named",
-    )
-}
-
-/// What is told where a schedule that does harm is asked for in a form that has no place for it.
-pub fn no_schedule(alloc: Global) -> Result<Error, AllocError> {
-    command(alloc)?.error(
-        ErrorKind::ArgumentConflict,
-        "--show makes a schedule, which --format sarif has no place for; --format json has one",
-    )
-}
-
-/// What is told where a summary is asked for of answers that aren't text.
-pub fn no_summary(alloc: Global) -> Result<Error, AllocError> {
-    command(alloc)?.error(
-        ErrorKind::ArgumentConflict,
-        "--summary sums up answers as text, and JSON and a SARIF log have each answer apart",
-    )
-}
-
-/// What is told where a word is asked for on which there is no page.
-pub fn no_page(alloc: Global) -> Result<Error, AllocError> {
-    command(alloc)?.error(
-        ErrorKind::InvalidValue,
-        "there is no such page: there are those on 1 to 8, 10 to 26 and 30 to 35, by name too, as WriteToOwned, and on harm-1 to harm-6",
-    )
-}
-
-/// What is told where standard input is to be two inputs.
-pub fn read_twice(alloc: Global) -> Result<Error, AllocError> {
-    command(alloc)?.error(
-        ErrorKind::ArgumentConflict,
-        "standard input, -, can be one of the files alone",
-    )
-}
-
-/// What is told where the certificate would be written over the trace.
-pub fn over_the_trace(alloc: Global) -> Result<Error, AllocError> {
-    command(alloc)?.error(
-        ErrorKind::ArgumentConflict,
-        "--cert would write the certificate over the trace",
-    )
-}
-
-/// What is told where several traces are to be judged as they come, or a certificate or a schedule of such a trace is asked for.
-pub fn one_followed(alloc: Global) -> Result<Error, AllocError> {
-    let words =
-        "--follow judges one trace as it comes: several traces, --cert and --show don't go with it";
-    command(alloc)?.error(ErrorKind::ArgumentConflict, words)
+/// What is told of such words.
+pub fn misused(alloc: Global, misuse: Misuse) -> Result<Error, AllocError> {
+    command(alloc)?.error(misuse.kind(), misuse.words())
 }
 
 fn file<'a>(alloc: Global, name: &'a str, help: &'a str) -> Arg<'a> {

@@ -1,24 +1,20 @@
 //! Arguments that are right one by one, and not together.
-use clap::{ArgMatches, Error};
-use command_line::{
-    Format, format_of, is_read_twice, no_page, no_schedule, no_summary, one_certificate,
-    one_followed, one_shown, over_the_trace, path, paths, read_twice, subject,
-};
+use clap::ArgMatches;
+use command_line::{Format, Misuse, format_of, is_read_twice, path, paths, subject};
 use std::fs::{self, Metadata};
 use std::io::{self, ErrorKind};
 use std::os::unix::fs::MetadataExt;
 
-/// What is wrong with the arguments. An error is that memory is wanted to find out.
-pub fn wrong_arguments(rt: &HostRuntime, matches: &ArgMatches) -> io::Result<Option<Error>> {
-    let alloc = rt.alloc();
+/// What is wrong with the arguments. An error is that memory is wanted to find out whether two files are one.
+pub fn wrong_arguments(rt: &HostRuntime, matches: &ArgMatches) -> io::Result<Option<Misuse>> {
     if let Some(check) = matches.subcommand_matches("check") {
         return wrong_check(rt, check);
     }
     if is_twice(matches, "verify", "CERT") || is_twice(matches, "replay", "SCHEDULE") {
-        return Ok(Some(read_twice(alloc)?));
+        return Ok(Some(Misuse::InputTwice));
     }
     match matches.subcommand_matches("explain") {
-        Some(explain) if subject(explain).is_none() => Ok(Some(no_page(alloc)?)),
+        Some(explain) if subject(explain).is_none() => Ok(Some(Misuse::NoPage)),
         _ => Ok(None),
     }
 }
@@ -32,33 +28,32 @@ fn is_twice(matches: &ArgMatches, command: &str, other: &str) -> bool {
 }
 
 /// What is wrong with the traces that are to be checked, and with the file of their certificate.
-fn wrong_check(rt: &HostRuntime, check: &ArgMatches) -> io::Result<Option<Error>> {
-    let alloc = rt.alloc();
+fn wrong_check(rt: &HostRuntime, check: &ArgMatches) -> io::Result<Option<Misuse>> {
     let traces = paths(check);
     if is_read_twice(traces) {
-        return Ok(Some(read_twice(alloc)?));
+        return Ok(Some(Misuse::InputTwice));
     }
     let is_more = traces.len() > 1 || check.get_flag("show") || check.contains_id("cert");
     if check.get_flag("follow") && is_more {
-        return Ok(Some(one_followed(alloc)?));
+        return Ok(Some(Misuse::MoreThanFollowed));
     }
     if check.get_flag("show") && traces.len() > 1 {
-        return Ok(Some(one_shown(alloc)?));
+        return Ok(Some(Misuse::SeveralShown));
     }
     if check.get_flag("show") && format_of(check) == Format::Sarif {
-        return Ok(Some(no_schedule(alloc)?));
+        return Ok(Some(Misuse::ShownAsSarif));
     }
     if check.get_flag("summary") && format_of(check) != Format::Text {
-        return Ok(Some(no_summary(alloc)?));
+        return Ok(Some(Misuse::SummaryOfReports));
     }
     let Some(certificate) = check.get_str("cert") else {
         return Ok(None);
     };
     if traces.len() > 1 {
-        return Ok(Some(one_certificate(alloc)?));
+        return Ok(Some(Misuse::SeveralCertificates));
     }
     if is_trace(rt, certificate, traces.first())? {
-        return Ok(Some(over_the_trace(alloc)?));
+        return Ok(Some(Misuse::OverTheTrace));
     }
     Ok(None)
 }

@@ -13,7 +13,7 @@ mod streams;
 use answers::{Asked, Status, run_decode, run_explain, tell_failure};
 use arguments::wrong_arguments;
 use clap::ArgMatches;
-use command_line::{Format, block_words, format_of, path, paths, subject};
+use command_line::{Format, Misuse, block_words, format_of, misused, path, paths, subject};
 use command_runs::{
     Outcome, Tally, run_check, run_check_named, run_follow, run_replay, run_schedule, run_show,
     run_verify, run_write, tell_summary,
@@ -75,13 +75,13 @@ fn obey(rt: &HostRuntime) -> io::Result<ExitCode> {
         Ok(words) => words.collect(alloc)?,
         // std reads arguments as text, and takes paths as text
         Err(error) if error.kind() == ErrorKind::InvalidData => {
-            return usage(rt, command_line::not_text(alloc)?);
+            return usage(rt, misused(alloc, Misuse::NotText)?);
         }
         Err(error) => return Err(error),
     };
     match command_line::command(alloc)?.try_get_matches_from(words.as_slice()) {
         Ok(matches) => match wrong_arguments(rt, &matches)? {
-            Some(error) => usage(rt, error),
+            Some(misuse) => usage(rt, misused(alloc, misuse)?),
             None => match matches.subcommand_matches("check") {
                 Some(check) => Ok(check_all(rt, check)),
                 None => Ok(ended(status_of(rt, &matches))),
