@@ -39,6 +39,7 @@ pub use Rattle.ring_knowledge.specs.Histories.{gone}
 unfoldable pub use Rattle.ring_knowledge.specs.Registers.{runs_again, runs_once}
 pub use Rattle.ring_knowledge.specs.Resets.{reset}
 unfoldable pub use Rattle.ring_knowledge.specs.Resets.{resets}
+pub use Rattle.ring_knowledge.specs.RingRecords.{IsNotPassed}
 pub use Rattle.ring_knowledge.specs.declared.register_record.RegisterRecord.{RegisterRecord}
 pub use Rattle.ring_knowledge.specs.declared.ring_record.RingGiving.TheVariants.{Crossing, Position}
 pub use Rattle.safety.proofs.AreaFacts.{area_parts}
@@ -68,9 +69,9 @@ pub use Rattle.safety.proofs.WriteBeside.{beside_old, rules_of}
 pub use Rattle.safety.proofs.WrittenKnown.{after_write, taken, written_device, written_device_none, written_memory, written_ring}
 pub use Rattle.safety.specs.RingChanges.Histories.{IsKept}
 pub use Rattle.segments.proofs.Search.{position-None}
-unfoldable pub use Rattle.segments.specs.Givings.{link_of}
+unfoldable pub use Rattle.segments.specs.Givings.{descriptor_length, link_of}
 pub use Rattle.segments.specs.Places.{links}
-pub use Rattle.std.proofs.Common.{Err, IfErr, IfSome, Ok, OnOk, Result, set, take}
+pub use Rattle.std.proofs.Common.{Err, IfErr, IfSome, Ok, OnOk, Result, max, set, take}
 pub use Rattle.std.proofs.Math.ListN.{length-set}
 pub use Rattle.std.proofs.Math.Seq.{take-length}
 pub use Rattle.std.proofs.lemmas.Grind.{common_steps}

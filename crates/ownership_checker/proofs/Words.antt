@@ -59,6 +59,7 @@ unfoldable pub use Rattle.ownership_rules.specs.Rules.{broken, first_or, lenient
 unfoldable pub use Rattle.ownership_rules.specs.Withdrawals.{is_bad_withdraw, is_left, some_flips}
 pub use Rattle.ownership_rules.specs.declared.refusal.Refusal.{Refusal}
 pub use Rattle.ownership_rules.specs.declared.refusal.Refusal.TheVariants.{AfterStop, BadDoorbell, BadFree, BadRing, BadWithdraw, ImpossibleEvent, NotInProfile, NotRestored, WriteToOwned}
+pub use Rattle.ring_knowledge.proofs.WholeBelow.{kept_from}
 pub use Rattle.ring_knowledge.specs.Completions.{completed}
 pub use Rattle.ring_knowledge.specs.Histories.{header_now, known_after, known_now, restored}
 unfoldable pub use Rattle.ring_knowledge.specs.Histories.{forgotten, gone, restored_on, ring_moved, ring_restored}
@@ -68,7 +69,7 @@ unfoldable pub use Rattle.ring_knowledge.specs.Learned.{event_read, learned}
 pub use Rattle.ring_knowledge.specs.LearnedOrReset.{learned_or_reset}
 pub use Rattle.ring_knowledge.specs.Resets.{resets}
 unfoldable pub use Rattle.ring_knowledge.specs.Resets.{given_up, held_at_given, reset}
-pub use Rattle.ring_knowledge.specs.RingRecords.{FollowsRing, positions_of}
+pub use Rattle.ring_knowledge.specs.RingRecords.{FollowsRing, IsNotPassed, positions_of}
 pub use Rattle.ring_knowledge.specs.Rings.{unfinished}
 unfoldable pub use Rattle.ring_knowledge.specs.Rings.{command_at, on_ring}
 pub use Rattle.ring_knowledge.specs.Transfers.{transfer_read}
@@ -116,7 +117,7 @@ pub use Rattle.segments.specs.Places.{cycle_of}
 pub use Rattle.segments.specs.RingView.{Restores, RingView, Withdraws, Withdraws as WithdrawsAt, declared, due_positions, floor_number, positions_given}
 pub use Rattle.segments.specs.ShapeValue.{Shape}
 pub use Rattle.segments.specs.Spots.{number}
-pub use Rattle.std.proofs.Common.{All, Bool, Err, List, None, Ok, Option, Result, Some, [], add-zero, ap, append-nil, append_assoc, arith, eqb-true, false, filter, get_or, inl, inr, length, lt-ltb, ltb, map, not, refl, rules, slice_get, slice_index, subst, suc, sym, true, zero, ℕ, ◌++◌, ◌+◌, ◌-◌, ◌<◌, ◌==◌, ◌^◌, ◌||◌, ◌∙◌, ◌∷◌, ◌≡◌, ◌≤◌}
+pub use Rattle.std.proofs.Common.{All, Bool, Err, List, None, Ok, Option, Result, Some, [], add-zero, ap, append-nil, append_assoc, arith, eqb-true, false, filter, get_or, inl, inr, length, lt-ltb, ltb, map, max, not, refl, rules, slice_get, slice_index, subst, suc, sym, true, zero, ℕ, ◌++◌, ◌+◌, ◌-◌, ◌<◌, ◌==◌, ◌^◌, ◌||◌, ◌∙◌, ◌∷◌, ◌≡◌, ◌≤◌}
 pub use Rattle.std.proofs.KnownBytes.{Consumes-trans}
 pub use Rattle.std.proofs.lemmas.Bool.{and_parts, cases_Bool, cond-false, cond-true, cond_both, false≢true, not-false, or_parts}
 pub use Rattle.std.proofs.lemmas.Bool.Decides.{nat_tests}

@@ -1,7 +1,7 @@
 -- The rules of a descriptor that is withdrawn (`nop`), and of what was withdrawn. Of a ring whose endpoint is stopped a driver turns a descriptor
 -- into No Ops; what was handed over of it is free then, its words are the driver's again. Until the ring is started or moved the driver puts the
 -- No Ops there: xHCI 4.6.9, 4.6.10
-use Rattle.std.specs.Prelude.{ℕ, ◌==◌, ◌&&◌, ◌||◌, Bool, false, not, if◌then◌else◌, nat_lt, Option, None, Some}
+use Rattle.std.specs.Prelude.{ℕ, ◌+◌, ◌==◌, ◌&&◌, ◌||◌, Bool, false, not, if◌then◌else◌, nat_le, nat_lt, Option, None, Some}
 use Rattle.std.specs.List.{list_any, range_with_len}
 use Rattle.segments.specs.Ceiling.{ceiling}
 use Rattle.segments.specs.Givings.{descriptor_length, flips_passed, is_not_restored}
@@ -12,7 +12,7 @@ use Rattle.traces.specs.declared.header.Header.{Header}
 use Rattle.traces.specs.declared.row.Row.{Row}
 use Rattle.traces.specs.declared.row.Row.TheVariants.{Write}
 use Rattle.traces.specs.Header.{driver_rings, is_ring, shape_of}
-use Rattle.traces.specs.Versions.{is_lenient}
+use Rattle.traces.specs.Versions.{has_runs, is_lenient}
 use Rattle.ring_knowledge.specs.Known.{Known}
 use Rattle.ownership_rules.specs.Doorbells.{is_touched}
 
@@ -29,9 +29,11 @@ module _ (h : Header) where
   is_bad_withdraw k r p =
       not (has_stopped k r) || (descriptor_length (k.ring r) p == 0 || list_any (k.ring r).withdrawn (range_with_len p (descriptor_length (k.ring r) p)))
 
-  -- what the trace's version refuses besides: versions 1 and 2 a descriptor below the ceiling, version 3 one that the floor has passed
+  -- what the trace's version refuses besides: versions 1 and 2 a descriptor below the ceiling, version 3 one that the floor has come into, and
+  -- version 4 one that the floor has passed whole: of one inside which the controller stopped the rest is taken back too (xHCI 4.6.9)
   unfoldable pub is_passed : Shape → RingView → ℕ → Bool
-  is_passed shape v p = nat_lt p (if is_lenient h.version then floor_number v else ceiling shape v)
+  is_passed shape v p =
+      if has_runs h.version then nat_le (p + descriptor_length v p) (floor_number v) else nat_lt p (if is_lenient h.version then floor_number v else ceiling shape v)
 
   -- a block of it doesn't stand in memory as it is declared now
   unfoldable pub is_left : Known → Option ℕ → Bool

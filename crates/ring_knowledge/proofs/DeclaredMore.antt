@@ -1,5 +1,5 @@
 -- A record with one descriptor more follows what is declared with it
-use Rattle.ring_knowledge.proofs.LowerLaws.{drop_append, length_from-push, drop, ◌≡◌, ◌+◌, ◌-◌, ◌<◌, ◌≤◌, ◌∷◌, ◌++◌, ℕ, suc, zero, List, [], false, refl, ap, arith, length, set, length-append, not, sum, slice_index, replicate, nat_le, take, ltb-false, lt-ltb, le-ltb, le-leb, sum_by-cons, cases_lt, lt-leb, nat_tests, common_steps, Block, Shape, place_count, place_count_pos, RingView, Declares, changed, declared, floor_number, length_from, has_no_room, RingRecord, ArePositive, FollowsMarks, contains, nat_cmp, rules}
+use Rattle.ring_knowledge.proofs.LowerLaws.{drop_append, length_from-push, drop, ◌≡◌, ◌+◌, ◌-◌, ◌<◌, ◌≤◌, ◌∷◌, ◌++◌, ℕ, suc, zero, List, [], false, refl, ap, arith, length, set, length-append, not, sum, slice_index, replicate, nat_le, take, ltb-false, lt-ltb, le-ltb, le-leb, sum_by-cons, cases_lt, lt-leb, nat_tests, common_steps, Block, Shape, place_count, place_count_pos, RingView, Declares, changed, declared, floor_number, length_from, has_no_room, RingRecord, ArePositive, FollowsMarks, contains, nat_cmp, rules, AreWholeBelow}
 
 pub sum-cons : (d : ℕ) (ds : List ℕ) → sum (d ∷ ds) ≡ d + sum ds
 sum-cons d ds = sum_by-cons (λ x. x) d ds
@@ -51,6 +51,10 @@ module _ (shape : Shape) (v : RingView) (r : RingRecord) (follows : FollowsMarks
       length_from (v.lengths ++ length blocks ∷ []) 0 p ≡ slice_index ls (p - r.forgotten)
   begins_now ls some e p kept = search (rules, length, replicate, slice_index, sum, cases_lt, length_from-push, index_before, at_end, index_at, past_end, index_past)
 
+  -- what is forgotten of the descriptors is still whole
+  whole_still : AreWholeBelow (changed shape v (Declares blocks)) r.forgotten
+  whole_still p low = rw (length_from-push v.lengths (length blocks) 0 p (omega (arith, follows.whole, follows.count, low))) (follows.forgotten_whole p low)
+
   -- the record with the blocks and their length
   pub declared_marks : has_no_room shape v (length blocks) ≡ false → 0 < length blocks → (n : RingRecord) → n.blocks.items ≡ r.blocks.items ++ blocks
       → n.lengths.items ≡ r.lengths.items ++ (length blocks ∷ replicate (length blocks - 1) 0)
@@ -58,7 +62,7 @@ module _ (shape : Shape) (v : RingView) (r : RingRecord) (follows : FollowsMarks
       → FollowsMarks shape (changed shape v (Declares blocks)) n
   unfolding has_no_room
   declared_marks fits some n more lengths given crossed floor held withdrawn free forgotten =
-      search (rules, length, length-append, replicate, common_steps, floor_number, place_count, ltb-false, place_count_pos, drop, drop_append, begins_now, sum_push, positive_push, contains, nat_cmp)
+      search (rules, length, length-append, replicate, common_steps, floor_number, place_count, ltb-false, place_count_pos, drop, drop_append, begins_now, sum_push, positive_push, whole_still, contains, nat_cmp)
 
 -- the lengths as the code makes them
 pub lengths_grown : (ls ms : List ℕ) (start len n : ℕ) → start ≡ len → len ≡ length ls → 0 < n → ms ≡ take (start + n) ls ++ replicate (start + n - len) 0 →

@@ -19,6 +19,7 @@ pub mod SpotsBetween
 pub mod NamedNow
 pub mod StopSpots
 pub mod Borders
+pub mod WholeBelow
 pub mod MoveTests
 pub mod PassedBlocks
 pub mod GivenUp

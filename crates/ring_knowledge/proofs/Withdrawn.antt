@@ -1,5 +1,6 @@
 -- A record that follows a ring of which a descriptor is withdrawn, or what is free is restored
-use Rattle.ring_knowledge.proofs.MiddleLaws.{drop_no_ops, length-no_ops, split_sum, drop, ◌-◌, ◌≡◌, ◌+◌, ◌<◌, ◌≤◌, ◌∷◌, ◌++◌, ◌∙◌, ◌&&◌, ◌||◌, ℕ, suc, zero, List, [], Bool, true, false, refl, ap, sym, arith, inl, inr, length, slice_index, replicate, sum, not, set, nat_le, nat_lt, if◌then◌else◌, cases_eq, cases_lt, cases_Bool, eq-eqb, ne_eqb, nat_tests, common_steps, and_parts, or_cases, Block, Shape, RingView, length_from, descriptor_length, no_ops, split_at, FollowsMarks, FollowsRing, RingRecord, ArePositive, ◌%◌, no_op, is_in, place_count, floor_number, is_step_given, is_way_given, changed, Withdraws, Restores, list_any, range_with_len, contains, nat_cmp, is_noted, false≢true, or_left, or_right, leb-true, ltb-true, rules, none_each, false_unless, sum-cons}
+use Rattle.ring_knowledge.proofs.MiddleLaws.{drop_no_ops, length-no_ops, split_sum, drop, ◌-◌, ◌≡◌, ◌+◌, ◌<◌, ◌≤◌, ◌∷◌, ◌++◌, ◌∙◌, ◌&&◌, ◌||◌, ℕ, suc, zero, List, [], Bool, true, false, refl, ap, sym, arith, inl, inr, length, slice_index, replicate, not, set, nat_le, nat_lt, if◌then◌else◌, cases_eq, cases_lt, cases_Bool, eq-eqb, ne_eqb, nat_tests, common_steps, and_parts, or_cases, Block, Shape, RingView, length_from, descriptor_length, no_ops, split_at, FollowsMarks, FollowsRing, RingRecord, ArePositive, ◌%◌, no_op, is_in, place_count, floor_number, is_step_given, is_way_given, changed, Withdraws, Restores, list_any, range_with_len, contains, nat_cmp, is_noted, false≢true, or_left, or_right, leb-true, ltb-true, rules, none_each, false_unless}
+use Rattle.ring_knowledge.proofs.WholeBelow.{begins_from, ends_within}
 
 -- a descriptor's length, as the record has it
 pub length_is : (shape : Shape) (v : RingView) (r : RingRecord) → FollowsMarks shape v r → (p : ℕ) → r.forgotten ≤ p → descriptor_length v p ≡ slice_index r.lengths.items (p - r.forgotten)
@@ -33,12 +34,6 @@ unfolding length_from
 ones_begin zero rest start q = search (rules, is_in, nat_tests)
 ones_begin (suc n) rest start q = search (rules, length_from, replicate, is_in, cases_eq, eq-eqb, nat_tests, ne_eqb, ones_begin n rest (start + 1) q)
 
--- none begins before the first
-begins_from : (ls : List ℕ) (start p : ℕ) → 0 < length_from ls start p → start ≤ p
-unfolding length_from
-begins_from [] start p some = absurd (omega arith)
-begins_from (n ∷ rest) start p some = search (rules, cases_eq, ne_eqb, length_from, begins_from rest (start + n) p)
-
 -- of the descriptor that begins at p each block is one then, and all others begin where they began
 split_begins : (ls : List ℕ) (start p q : ℕ) → ArePositive ls → length_from (split_at ls start p) start q ≡ (if is_in q p (length_from ls start p) then 1 else length_from ls start q)
 unfolding length_from split_at
@@ -53,12 +48,6 @@ split_positive : (ls : List ℕ) (start p : ℕ) → ArePositive ls → ArePosit
 unfolding split_at
 split_positive [] start p positive = positive
 split_positive (n ∷ rest) start p positive = search (rules, cases_eq, eq-eqb, ones_positive, ne_eqb, split_positive rest (start + n) p positive.1)
-
--- a descriptor that begins has its blocks among the declared ones
-ends_within : (ls : List ℕ) (start p : ℕ) → 0 < length_from ls start p → p + length_from ls start p ≤ start + sum ls
-unfolding length_from
-ends_within [] start p some = absurd (omega arith)
-ends_within (n ∷ rest) start p some = search (rules, sum-cons, cases_eq, eq-eqb, ne_eqb, length_from, ends_within rest (start + n) p)
 
 -- whether a number is one of some, behind so many that are forgotten
 moved_in : (q p n k : ℕ) → k ≤ p → k ≤ q → is_in q p n ≡ is_in (q - k) (p - k) n
@@ -106,6 +95,10 @@ module _ (shape : Shape) (v : RingView) (r : RingRecord) (known : FollowsRing sh
           marks = record {
             allowed = follows.allowed;
             passed = rw forgotten follows.passed;
+            forgotten_whole = λ q low.
+                let below : q < r.forgotten = omega (arith, forgotten, low) in
+                let outside : is_in q p (length_from v.lengths 0 p) ≡ false = grind (arith, nat_tests, below, kept) in
+                omega (arith, follows.forgotten_whole q below, forgotten, split_begins v.lengths 0 p q follows.positive ∙ ap (λ b. if b then 1 else length_from v.lengths 0 q) outside);
             queue = ap (λ k. drop k (no_ops v.queue p (length_from v.lengths 0 p))) forgotten ∙ ap (λ m. drop r.forgotten (no_ops v.queue p m)) same ∙ drop_no_ops v.queue r.forgotten p count kept
                 ∙ ap (λ xs. no_ops xs (p - r.forgotten) count) follows.queue ∙ sym queue;
             count = omega (arith, all, follows.count, forgotten, long, ap length queue);

@@ -7,7 +7,7 @@ pub use Rattle.ring_knowledge.specs.RegisterRecords.{FollowsRegisters, FollowsRu
 unfoldable pub use Rattle.ring_knowledge.specs.Histories.{forgotten, gone}
 unfoldable pub use Rattle.ring_knowledge.specs.Registers.{register_read, register_written, run_or_stop, runs_again, runs_once, status_read, valued}
 unfoldable pub use Rattle.ring_knowledge.specs.Resets.{behind_blocks, first_free, given_up, held_at_given, reset}
-pub use Rattle.ring_knowledge.specs.RingRecords.{ArePositive, FollowsMarks, FollowsRing, IsFromFloor, crossings_of, is_the, least_crossing, positions_of}
+pub use Rattle.ring_knowledge.specs.RingRecords.{ArePositive, AreWholeBelow, FollowsMarks, FollowsRing, IsFromFloor, IsNotPassed, crossings_of, is_the, least_crossing, positions_of}
 pub use Rattle.ring_knowledge.specs.SpotsAt.{IsFirstAt}
 pub use Rattle.ring_knowledge.specs.declared.register_record.RegisterRecord.{RegisterRecord}
 pub use Rattle.ring_knowledge.specs.declared.ring_record.RingGiving.{RingGiving}
@@ -36,7 +36,7 @@ pub use Rattle.segments.specs.declared.place.Place.TheVariants.{Data as AtData, 
 pub use Rattle.segments.specs.declared.segment.Segment.{Segment}
 pub use Rattle.segments.specs.declared.spot.Spot.{Spot}
 pub use Rattle.segments.specs.declared.spot.Spot.TheVariants.{Data, Link}
-pub use Rattle.std.proofs.Common.{All, Bool, Contains, IfSome, List, None, Option, Some, [], ap, arith, cond, drop, eq-eqb, eqb-true, false, filter, find, get_or, get_or-set_other, get_or-set_same, if◌then◌else◌, inl, inr, is_some, le-leb, le-ltb, leb-true, length, length-append, lt-ltb, ltb-false, ltb-true, max, nat_le, nat_lt, ne_eqb, not, option_map, refl, replicate, rules, set, slice_index, subst, suc, sum, sym, take, true, zero, ℕ, ◌%◌, ◌&&◌, ◌*◌, ◌++◌, ◌+◌, ◌-◌, ◌/◌, ◌<◌, ◌==◌, ◌^◌, ◌||◌, ◌∙◌, ◌∷◌, ◌≡◌, ◌≢◌, ◌≤◌}
+pub use Rattle.std.proofs.Common.{All, Bool, Contains, IfSome, List, None, Option, Some, [], ap, arith, cond, drop, eq-eqb, eqb-true, false, filter, find, get_or, get_or-set_other, get_or-set_same, if◌then◌else◌, inl, inr, is_some, le-leb, le-ltb, leb-true, length, length-append, lt-ltb, ltb-false, ltb-true, max, min, nat_le, nat_lt, ne_eqb, not, option_map, refl, replicate, rules, set, slice_index, subst, suc, sum, sym, take, true, zero, ℕ, ◌%◌, ◌&&◌, ◌*◌, ◌++◌, ◌+◌, ◌-◌, ◌/◌, ◌<◌, ◌==◌, ◌^◌, ◌||◌, ◌∙◌, ◌∷◌, ◌≡◌, ◌≢◌, ◌≤◌}
 pub use Rattle.std.proofs.Math.ListN.{length-set}
 pub use Rattle.std.proofs.lemmas.Bool.{and_right, both_ways, eqb-false, lt-leb, not-false, not-true, or_parts}
 pub use Rattle.std.proofs.lemmas.Grind.{common_steps}

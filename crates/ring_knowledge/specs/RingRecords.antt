@@ -8,7 +8,7 @@ use Rattle.segments.specs.Places.{place_count, links, is_crossing}
 use Rattle.segments.specs.RingView.{RingView, floor_number}
 use Rattle.segments.specs.Ceiling.{is_step_given}
 use Rattle.segments.specs.Descriptors.{length_from}
-use Rattle.segments.specs.Givings.{link_of}
+use Rattle.segments.specs.Givings.{descriptor_length, link_of}
 use Rattle.ring_knowledge.specs.Marks.{is_noted}
 use Rattle.ring_knowledge.specs.declared.ring_record.RingRecord.{RingRecord}
 use Rattle.ring_knowledge.specs.declared.ring_record.RingGiving.{RingGiving}
@@ -45,10 +45,20 @@ ArePositive (n ∷ ns) = (0 < n) × ArePositive ns
 abbrev pub least_crossing : RingView → ℕ
 least_crossing v = max (floor_number v) 1
 
--- the record holds what is declared, given and withdrawn, the floor, and where the ring is held; what the floor has passed may be forgotten
+-- each descriptor that begins below a number ends there too
+abbrev pub AreWholeBelow : RingView → ℕ → Type 0
+AreWholeBelow v n = (p : ℕ) → p < n → p + length_from v.lengths 0 p ≤ n
+
+-- the floor hasn't passed whole what stands at a position: the descriptor that begins there, or a single block where none begins
+abbrev pub IsNotPassed : RingView → ℕ → Type 0
+IsNotPassed v p = floor_number v < p + max (descriptor_length v p) 1
+
+-- the record holds what is declared, given and withdrawn, the floor, and where the ring is held; the descriptors that the floor has passed whole
+-- may be forgotten
 pub record FollowsMarks (shape : Shape) (v : RingView) (r : RingRecord) : Type 0 where
   pub allowed : IsShape shape
   pub passed : r.forgotten ≤ floor_number v
+  pub forgotten_whole : AreWholeBelow v r.forgotten
   pub queue : drop r.forgotten v.queue ≡ r.blocks.items
   pub count : length v.queue ≡ r.forgotten + length r.blocks.items
   pub floor : v.floor ≡ r.floor

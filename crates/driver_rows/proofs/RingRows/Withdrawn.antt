@@ -1,10 +1,15 @@
 -- The rule of a descriptor that is withdrawn, from its parts
-use Rattle.driver_rows.proofs.LowerLaws.{rules, ◌≡◌, ◌∙◌, ◌⊎◌, ◌||◌, ◌≤◌, ℕ, true, false, refl, ap, Result, IfErr, OnOk, ceiling, RingView, floor_number, Shape, Header, shape_of, Known, has_stopped, is_bad_withdraw, StepFault, IfRefused, Refusal, is_no_descriptor, is_passed, withdraws_badly, or_true}
+use Rattle.driver_rows.proofs.LowerLaws.{rules, ◌≡◌, ◌∙◌, ◌⊎◌, ◌||◌, ◌≤◌, ℕ, true, false, refl, ap, Result, IfErr, OnOk, ceiling, RingView, floor_number, Shape, Header, shape_of, Known, has_stopped, is_bad_withdraw, StepFault, IfRefused, Refusal, is_no_descriptor, is_passed, withdraws_badly, or_true, ◌+◌, ◌<◌, Bool, arith, max, nat_le, nat_lt, nat_tests, if◌then◌else◌, has_runs, is_lenient, descriptor_length, IsNotPassed}
 
--- a position that the version lets withdraw isn't below the floor
-pub not_passed : (h : Header) (shape : Shape) (v : RingView) (p : ℕ) → floor_number v ≤ ceiling shape v → is_passed h shape v p ≡ false → floor_number v ≤ p
+ahead_of : (runs lenient : Bool) (p n floor ceiling : ℕ) → floor ≤ ceiling → (if runs then nat_le (p + n) floor else nat_lt p (if lenient then floor else ceiling)) ≡ false → floor < p + max n 1
+ahead_of true lenient p n floor ceiling low ahead = grind (arith, nat_tests)
+ahead_of false true p n floor ceiling low ahead = grind (arith, nat_tests)
+ahead_of false false p n floor ceiling low ahead = grind (arith, nat_tests)
+
+-- what the version lets withdraw the floor hasn't passed whole
+pub not_passed : (h : Header) (shape : Shape) (v : RingView) (p : ℕ) → floor_number v ≤ ceiling shape v → is_passed h shape v p ≡ false → IsNotPassed v p
 unfolding is_passed
-not_passed h shape v p low ahead = search rules
+not_passed h shape v p low ahead = ahead_of (has_runs h.version) (is_lenient h.version) p (descriptor_length v p) (floor_number v) (ceiling shape v) low ahead
 
 module _ (h : Header) (k : Known) (r p : ℕ) where
   module _ (stopped : has_stopped h k r ≡ true) where

@@ -1,11 +1,11 @@
-ghost use Rattle.std.specs.Prelude.{◌≡◌, ◌≤◌, ◌⊎◌, ℕ, true, false, length, IfErr, OnOk};
+ghost use Rattle.std.specs.Prelude.{◌≡◌, ◌≤◌, ◌⊎◌, true, false, length, IfErr, OnOk};
 ghost use Rattle.segments.specs.Ceiling.{ceiling};
 ghost use Rattle.segments.specs.RingView.{RingView, changed, floor_number, Withdraws as WithdrawsAt};
 ghost use Rattle.segments.specs.ShapeValue.{Shape};
 ghost use Rattle.traces.specs.AllowedHeaders.{IsHeader};
 ghost use Rattle.traces.specs.declared.row.Row.TheVariants.{Nop as NopRow};
 ghost use Rattle.ring_knowledge.specs.Known.{Known};
-ghost use Rattle.ring_knowledge.specs.RingRecords.{FollowsRing};
+ghost use Rattle.ring_knowledge.specs.RingRecords.{FollowsRing, IsNotPassed};
 ghost use Rattle.trace_record.specs.RingFinder.Finding.{IsFinder};
 ghost use Rattle.safety.specs.Keeps.{DriverKeeps};
 ghost use Rattle.trace_record.specs.FollowsTrace.{FollowsTrace};
@@ -42,7 +42,7 @@ pub fn check_withdrawing<M: WordMemory>(
     ensures version { OnOk result ((k : Known) → FollowsTrace header.now k kept.old (M.words memory.now) → DriverKeeps header.now k → ContextsFit header.now k →
         withdraws_badly header.now k id position ≡ false) }
     ensures from { OnOk result ((k : Known) → FollowsTrace header.now k kept.old (M.words memory.now) → DriverKeeps header.now k → ContextsFit header.now k →
-        floor_number (k.ring id) ≤ position) }
+        IsNotPassed (k.ring id) position) }
     ensures refused { IfErr result (λ e. IfRefused e (λ c. (c ≡ BadWithdraw) × ((k : Known) → FollowsTrace header.now k kept.old (M.words memory.now) →
         DriverKeeps header.now k → ContextsFit header.now k → withdraws_badly header.now k id position ≡ true))) }
     ensures events { kept.new.events ≡ kept.old.events }
@@ -66,7 +66,7 @@ fn withdraw_on(
     known: &mut RingRecord,
     position: u64,
 ) -> Result<(), StepFault>
-    ensures from { OnOk result ((v : RingView) → FollowsRing shape.now v known.old → floor_number v ≤ ceiling shape.now v → floor_number v ≤ position) }
+    ensures from { OnOk result ((v : RingView) → FollowsRing shape.now v known.old → floor_number v ≤ ceiling shape.now v → IsNotPassed v position) }
     ensures rule { OnOk result ((v : RingView) → FollowsRing shape.now v known.old → floor_number v ≤ ceiling shape.now v → (is_passed header.now shape.now v position ≡ false) × (is_no_descriptor v position ≡ false)) }
     ensures ok { OnOk result ((v : RingView) → FollowsRing shape.now v known.old → floor_number v ≤ ceiling shape.now v → FollowsRing shape.now (changed shape.now v (WithdrawsAt position)) known.new) }
     ensures refused { IfErr result (λ e. IfRefused e (λ c. (c ≡ BadWithdraw) × ((v : RingView) → FollowsRing shape.now v known.old → floor_number v ≤ ceiling shape.now v →
@@ -82,10 +82,13 @@ fn withdraw_on(
     Ok(())
 }
 
-/// Whether a position lies below the ceiling, from version 3 on below the floor.
+/// Whether a position lies below the ceiling, in version 3 below the floor; in version 4 whether the floor has passed the descriptor there whole.
 fn is_passed(header: &Header, known: &RingRecord, position: u64) -> bool
     ensures { (shape : Shape) (v : RingView) → FollowsRing shape v known.now → result ≡ is_passed header.now shape v position }
 {
+    if header.version.has_runs() {
+        return known.has_passed(position);
+    }
     if header.version.is_lenient() {
         return position < known.floor_number();
     }

@@ -1,5 +1,5 @@
 -- The indexes of ranges find the same where leases of blocks end and begin
-use Rattle.leases.proofs.UpperLaws.{rules, ◌≡◌, ◌<◌, ◌≤◌, ◌∷◌, ◌∙◌, ℕ, true, List, [], Some, map, nat_lt, arith, sym, subst, inl, inr, cases_Bool, nat_tests, Header, IsHeader, Ring, Known, Write, command_id, is_transfer_kind, learned, on_ring, open_leases, ring_with, length_from, Restores, Withdraws, without_end, Block, AreOpen, Lent, passed_on, with_begun, FindsRanges, RangeIndexes, restored, MovesRing, others_begin, some_end, begun_none, begun_twice}
+use Rattle.leases.proofs.UpperLaws.{rules, ◌≡◌, ◌<◌, ◌≤◌, ◌∷◌, ◌∙◌, ℕ, true, List, [], Some, map, nat_lt, arith, sym, subst, inl, inr, cases_Bool, nat_tests, Header, IsHeader, Ring, Known, Write, command_id, is_transfer_kind, learned, on_ring, open_leases, ring_with, length_from, Restores, Withdraws, without_end, Block, AreOpen, Lent, passed_on, with_begun, FindsRanges, RangeIndexes, restored, MovesRing, others_begin, some_end, begun_none, begun_twice, ◌+◌, max, floor_number, refl}
 use Rattle.leases.proofs.RingLeases.LentFree.{Restoring, is_between, restored_lent, withdrawn_lent}
 use Rattle.leases.proofs.RingLeases.MovingRings.{alone, at_end, first_restored, freed_given, freed_later, last_restored, opened_own, other, own_first, own_step, same_left}
 
@@ -11,7 +11,10 @@ blocks_begin h x row r (p ∷ ps) ts found = rw (← begun_twice row ts (Block r
 -- behind a descriptor that is withdrawn
 pub found_withdrawn : (h : Header) → IsHeader h → (k : Known) (q : Ring) → ring_with h q.id ≡ Some q → is_transfer_kind q.shape.kind ≡ true → (ts : List Lent) → AreOpen h k ts → (row p : ℕ) (x : RangeIndexes) →
     FindsRanges h ts x → FindsRanges h (passed_on (open_leases h k) (open_leases h (on_ring h k q.id (Withdraws p))) row ts) x
-found_withdrawn h headed k q found transfer ts opened row p x finds = search (rules, length_from, Lent, FindsRanges, withdrawn_lent, some_end, is_between)
+found_withdrawn h headed k q found transfer ts opened row p x finds =
+    let from = max p (floor_number (k.ring q.id)) in
+    let to = p + length_from (k.ring q.id).lengths 0 p in
+    rw (withdrawn_lent h headed k q found transfer ts opened row p from to refl refl) (some_end h x (is_between q.id from to) row ts finds)
 
 -- behind a ring that is restored
 pub found_restored : (h : Header) (k : Known) (ts : List Lent) (q : Ring) (ps : List ℕ) → Restoring h k ts q ps → (row : ℕ) (x : RangeIndexes) →

@@ -1,5 +1,6 @@
 -- What is lent where a descriptor is withdrawn, and where a ring is restored
-use Rattle.leases.proofs.UpperLaws.{and_false, false_unless, if◌then◌else◌, ◌≡◌, ◌≢◌, ◌+◌, ◌%◌, ◌<◌, ◌≤◌, ◌==◌, ◌&&◌, ◌||◌, ◌∷◌, ◌∙◌, ℕ, zero, suc, Bool, true, false, not, nat_le, nat_lt, List, [], Some, filter, length, map, take, get_or, arith, refl, sym, ap, inl, inr, eqb-true, list_any, range_with_len, and_parts, false≢true, not-true, nat_tests, take_more, list_any-append, cases_Bool, IsIn, Header, IsHeader, Ring, Known, is_driver_kind, is_transfer_kind, ring_with, shape_of, command_id, driver_rings, on_ring, open_leases, place_count, floor_number, due_positions, from_filter, transfer_not_command, length_from, unrestored, Restores, Withdraws, same_due, in_among, as_lease, comes_before, Leased, Block, Link, Range, is_among, same_leased, AreOpen, Lent, begun_at, ended_where, in_turn, is_place_free, is_unended, passed_on, precedes, share_a_place, with_begun, with_leased, find_some, shape_there, IsAmong, is_freed, rules, unlent_free, map_append, from_map, from_range, all_twice, none_over, only_passed, filter_alike, freed_are, restored_open, withdrawn_open, transfer_drives, among_drivers, are_shaped, begun_twice}
+use Rattle.leases.proofs.UpperLaws.{and_false, false_unless, if◌then◌else◌, ◌≡◌, ◌≢◌, ◌+◌, ◌%◌, ◌<◌, ◌≤◌, ◌==◌, ◌&&◌, ◌||◌, ◌∷◌, ◌∙◌, ℕ, zero, suc, Bool, true, false, not, nat_le, nat_lt, List, [], Some, filter, length, map, take, get_or, arith, refl, sym, ap, inl, inr, eqb-true, list_any, range_with_len, and_parts, false≢true, not-true, nat_tests, take_more, list_any-append, cases_Bool, IsIn, Header, IsHeader, Ring, Known, is_driver_kind, is_transfer_kind, ring_with, shape_of, command_id, driver_rings, on_ring, open_leases, place_count, floor_number, due_positions, from_filter, transfer_not_command, length_from, unrestored, Restores, Withdraws, same_due, in_among, as_lease, comes_before, Leased, Block, Link, Range, is_among, same_leased, AreOpen, Lent, begun_at, ended_where, in_turn, is_place_free, is_unended, passed_on, precedes, share_a_place, with_begun, with_leased, find_some, shape_there, IsAmong, is_freed, rules, unlent_free, map_append, from_map, from_range, all_twice, none_over, only_passed, filter_alike, freed_are, restored_open, withdrawn_open, transfer_drives, among_drivers, are_shaped, begun_twice, max, InOn, IsRange, each_open, open_are_ranges}
+use Rattle.leases.proofs.MiddleLaws.{block, is_in, is_withdrawn, link}
 use Rattle.leases.proofs.RingLeases.OpenBehind.{among_filtered}
 use Rattle.leases.proofs.RingLeases.TwoSteps.{either_way, only_begins, with_first}
 
@@ -42,6 +43,9 @@ pub ends_one : (r from n row : ℕ) (ts : List Lent) → from ≤ n →
     map (ended_where (same_leased (Block r n)) row) (map (ended_where (is_between r from n) row) ts) ≡ map (ended_where (is_between r from (n + 1)) row) ts
 ends_one r from n row ts least = search (rules, all_twice, one_between)
 
+so_far : (a x y : Bool) → (a ≡ true → x ≡ y) → (a && not x) ≡ (a && not y)
+so_far a x y same = grind arith
+
 module _ (h : Header) (headed : IsHeader h) (k : Known) (q : Ring) (found : ring_with h q.id ≡ Some q) (transfer : is_transfer_kind q.shape.kind ≡ true)
     (ts : List Lent) (opened : AreOpen h k ts) (row : ℕ) where
   abbrev r : ℕ
@@ -50,10 +54,37 @@ module _ (h : Header) (headed : IsHeader h) (k : Known) (q : Ring) (found : ring
   other : r ≢ command_id h
   other = not_command h q found transfer headed
 
-  -- the leases of its blocks end, and nothing begins
-  pub withdrawn_lent : (p n : ℕ) → n ≡ length_from (k.ring r).lengths 0 p →
-      passed_on (open_leases h k) (open_leases h (on_ring h k r (Withdraws p))) row ts ≡ map (ended_where (is_between r p (p + n)) row) ts
-  withdrawn_lent p n many = search (rules, only_passed, open_leases, on_ring, withdrawn_open, other, among_filtered, length_from)
+  module _ (p from to : ℕ) (first : from ≡ max p (floor_number (k.ring r))) (last : to ≡ p + length_from (k.ring r).lengths 0 p) where
+    abbrev n : ℕ
+    n = length_from (k.ring r).lengths 0 p
+
+    -- of its blocks those below the floor aren't open
+    from_floor : (a u : ℕ) → (a ≡ r → floor_number (k.ring r) ≤ u) → (a == r && (nat_le from u && nat_lt u to)) ≡ (a == r && is_in u p n)
+    from_floor a u low = elim (cases_Bool (a == r)) [
+      | inl same ↦ ap (λ b. (a == r) && b) (tests (low (eqb-true a r same)))
+      | inr apart ↦ rw apart refl
+    ]
+      where
+        tests : floor_number (k.ring r) ≤ u → (nat_le from u && nat_lt u to) ≡ is_in u p n
+        tests below = rw (first, last) (grind (arith, nat_tests, below))
+
+    on_open : (q : Ring) (l : Leased) → InOn q (k.ring q.id) l → is_between r from to l ≡ is_withdrawn r p n l
+    on_open q _ (block u low high given) = from_floor q.id u (λ same. omega (arith, ap (λ s. floor_number (k.ring s)) same, low))
+    on_open q _ (link c low high crossed) = refl
+
+    of_range : (l : Leased) → IsRange l → is_between r from to l ≡ is_withdrawn r p n l
+    of_range l is = grind arith
+
+    same_open : (l : Leased) → is_among (open_leases h k) l ≡ true → is_between r from to l ≡ is_withdrawn r p n l
+    same_open = each_open h k (λ l. is_between r from to l ≡ is_withdrawn r p n l) (λ q at l on. on_open q l on) (λ l at. of_range l (open_are_ranges h k l at))
+
+    left_open : (l : Leased) → is_among (open_leases h (on_ring h k r (Withdraws p))) l ≡ (is_among (open_leases h k) l && not (is_between r from to l))
+    left_open l = ap (λ ls. is_among ls l) (withdrawn_open h k r p other) ∙ among_filtered (λ m. not (is_withdrawn r p n m)) (open_leases h k) l
+        ∙ so_far (is_among (open_leases h k) l) (is_withdrawn r p n l) (is_between r from to l) (λ among. sym (same_open l among))
+
+    -- the leases of its blocks end, and nothing begins
+    pub withdrawn_lent : passed_on (open_leases h k) (open_leases h (on_ring h k r (Withdraws p))) row ts ≡ map (ended_where (is_between r from to) row) ts
+    withdrawn_lent = only_passed (open_leases h k) (open_leases h (on_ring h k r (Withdraws p))) row ts opened (is_between r from to) left_open
 
 -- ---- a ring is restored
 

@@ -1,8 +1,8 @@
 //! Descriptors that are withdrawn, and rings that are restored (xHCI 4.6.9, 4.6.10).
-ghost use Rattle.std.specs.Prelude.{◌≡◌, ◌+◌, ◌<◌, ◌^◌, ℕ, true, List, Some, OnOk};
+ghost use Rattle.std.specs.Prelude.{◌≡◌, ◌+◌, ◌≤◌, ℕ, max, true, List, Some, OnOk};
 ghost use Rattle.segments.specs.Descriptors.{length_from};
 ghost use Rattle.segments.specs.Givings.{unrestored};
-ghost use Rattle.segments.specs.RingView.{Restores, Withdraws};
+ghost use Rattle.segments.specs.RingView.{Restores, Withdraws, floor_number};
 ghost use Rattle.traces.specs.declared.header.Header.{Header};
 ghost use Rattle.traces.specs.Header.{is_transfer_kind, ring_with};
 ghost use Rattle.traces.specs.AllowedHeaders.{IsHeader};
@@ -22,15 +22,14 @@ use crate::book::LeaseLog;
 use std::alloc::AllocError;
 use traces::Ring;
 
-/// The leases of the blocks of a descriptor of a transfer ring end at the row at which it is withdrawn, those that are open. That of a Link between
-/// its blocks goes on: the controller may still read it.
-pub fn note_withdrawing<B: LeaseLog>(book: &mut B, row: u32, ring: &Ring, position: u64, count: u64)
-    requires { position + count < 2 ^ 64 }
-    ensures { (list : List Lease) (h : Header) (k : Known) (ts : List Lent) → IsHeader h → ring_with h ring.now.id ≡ Some ring.now → is_transfer_kind ring.now.shape.kind ≡ true →
-        count ≡ length_from (k.ring ring.now.id).lengths 0 position → AreOpen h k ts → B.holds list h ts book.old →
+/// The leases of the blocks of a descriptor of a transfer ring end at the row at which it is withdrawn, those that are open: `from` is where it begins,
+/// or the floor inside it, and `to` is behind it. That of a Link between its blocks goes on: the controller may still read it.
+pub fn note_withdrawing<B: LeaseLog>(book: &mut B, row: u32, ring: &Ring, from: u64, to: u64)
+    ensures { (list : List Lease) (h : Header) (k : Known) (ts : List Lent) (position : ℕ) → IsHeader h → ring_with h ring.now.id ≡ Some ring.now → is_transfer_kind ring.now.shape.kind ≡ true →
+        from ≡ max position (floor_number (k.ring ring.now.id)) → to ≡ position + length_from (k.ring ring.now.id).lengths 0 position → from ≤ to → AreOpen h k ts → B.holds list h ts book.old →
         B.holds list h (passed_on (open_leases h k) (open_leases h (on_ring h k ring.now.id (Withdraws position))) row ts) book.new }
 {
-    for number in position..position + count {
+    for number in from..to {
         book.end_block(row, ring, number);
     }
 }

@@ -5,6 +5,7 @@ ghost use Rattle.segments.specs.Places.{is_in};
 ghost use Rattle.segments.specs.ShapeValue.{Shape};
 ghost use Rattle.segments.specs.Spots.{number};
 ghost use Rattle.segments.specs.RingView.{RingView};
+ghost use Rattle.ring_knowledge.specs.RingRecords.{AreWholeBelow};
 
 use super::withdrawals::remove_numbers;
 use super::{RingRecord, number};
@@ -14,10 +15,10 @@ use std::collections::BTreeSet;
 const LAST_FORGOTTEN: u64 = 1 << 61;
 
 impl RingRecord {
-    ghost use Rattle.ring_knowledge.specs.RingRecords.{FollowsRing};
+    ghost use Rattle.ring_knowledge.specs.RingRecords.{FollowsMarks, FollowsRing};
 
-    /// Forgets what is declared below the floor, where that is a lap or more: no rule asks for it any more. So what is kept doesn't grow
-    /// with the rows, and is moved once a lap.
+    /// Forgets the descriptors that the floor has passed whole, where it has passed a lap or more: no rule asks for them any more. So what is
+    /// kept doesn't grow with the rows, and is moved once a lap.
     #[inline(always)]
     pub(super) fn forget_passed(&mut self, places: u64)
         ensures { (shape : Shape) (v : RingView) → FollowsRing shape v self.old → FollowsRing shape v self.new }
@@ -26,14 +27,30 @@ impl RingRecord {
         if floor.saturating_sub(self.forgotten) < places {
             return;
         }
-        self.forget_below(floor);
+        let end = self.passed_whole();
+        self.forget_below(end);
     }
 
-    /// Forgets what is declared below a number, up to the floor's.
+    /// The last number up to the floor below which each descriptor that isn't forgotten yet ends: the one inside which the floor lies may still be
+    /// withdrawn (xHCI 4.6.9). It is looked for along that descriptor alone.
+    fn passed_whole(&self) -> u64
+        ensures passed { (shape : Shape) (v : RingView) → FollowsMarks shape v self.now → result ≤ number self.now.floor }
+        ensures whole { (shape : Shape) (v : RingView) → FollowsMarks shape v self.now → AreWholeBelow v result }
+    {
+        let floor = number(self.floor);
+        for back in 0..floor.saturating_sub(self.forgotten) {
+            let position = floor - back;
+            if self.is_border(position) {
+                return position;
+            }
+        }
+        self.forgotten
+    }
+
+    /// Forgets what is declared below a number up to the floor's, where whole descriptors end.
     #[inline(never)]
     fn forget_below(&mut self, end: u64)
-        requires { end ≤ number self.old.floor }
-        ensures { (shape : Shape) (v : RingView) → FollowsRing shape v self.old → FollowsRing shape v self.new }
+        ensures { (shape : Shape) (v : RingView) → FollowsRing shape v self.old → end ≤ number self.old.floor → AreWholeBelow v end → FollowsRing shape v self.new }
     {
         if end > LAST_FORGOTTEN {
             return;

@@ -72,9 +72,9 @@ impl RingRecord {
         }
     }
 
-    /// Whether a descriptor begins at a position from the floor on, or ends right before it.
-    fn is_border(&self, position: u64) -> bool
-        ensures { (shape : Shape) (v : RingView) → FollowsMarks shape v self.now → floor_number v ≤ position → result ≡ is_border v.lengths 0 position }
+    /// Whether a descriptor begins at a position that isn't forgotten, or ends right before it.
+    pub(super) fn is_border(&self, position: u64) -> bool
+        ensures { (shape : Shape) (v : RingView) → FollowsMarks shape v self.now → self.now.forgotten ≤ position → result ≡ is_border v.lengths 0 position }
     {
         if self.length_at(position) > 0 {
             return true;

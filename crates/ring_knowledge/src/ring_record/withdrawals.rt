@@ -1,4 +1,4 @@
-ghost use Rattle.std.specs.Prelude.{◌≡◌, ◌+◌, ◌-◌, ◌%◌, ◌<◌, ◌≤◌, ◌^◌, ◌==◌, ◌&&◌, ◌||◌, not, ℕ, true, false, length, slice_get, slice_index, slice_set, if◌then◌else◌, IfOk, IfSome, OnOk, OnErr};
+ghost use Rattle.std.specs.Prelude.{◌≡◌, ◌+◌, ◌-◌, ◌%◌, ◌<◌, ◌≤◌, ◌^◌, ◌==◌, ◌&&◌, ◌||◌, not, ℕ, nat_le, true, false, length, slice_get, slice_index, slice_set, if◌then◌else◌, IfOk, IfSome, OnOk, OnErr};
 ghost use Rattle.std.specs.BTreeSet.{contains};
 ghost use Rattle.std.specs.List.{list_any, range_with_len};
 ghost use Rattle.std.specs.Ordering.{nat_cmp};
@@ -27,29 +27,40 @@ const NO_OP: Block = Block {
 };
 
 impl RingRecord {
-    ghost use Rattle.ring_knowledge.specs.RingRecords.{FollowsRing};
+    ghost use Rattle.ring_knowledge.specs.RingRecords.{FollowsRing, IsNotPassed};
 
-    /// How many blocks the descriptor has that begins at a position from the floor on; 0 where none begins.
+    /// How many blocks the descriptor has that begins at a position, which the floor hasn't passed whole; 0 where none begins.
     pub fn descriptor_length(&self, position: u64) -> u32
-        ensures { (shape : Shape) (v : RingView) → FollowsRing shape v self.now → floor_number v ≤ position → result ≡ descriptor_length v position }
+        ensures { (shape : Shape) (v : RingView) → FollowsRing shape v self.now → IsNotPassed v position → result ≡ descriptor_length v position }
     {
         self.length_at(position)
     }
 
-    /// Whether a descriptor begins at a position from the floor on, none of whose blocks was withdrawn before.
+    /// Whether the floor has passed whole the descriptor that begins at a position; where none begins, whether the position isn't behind the floor.
+    pub fn has_passed(&self, position: u64) -> bool
+        ensures { (shape : Shape) (v : RingView) → FollowsRing shape v self.now → result ≡ nat_le (position + descriptor_length v position) (floor_number v) }
+    {
+        let floor = number(self.floor);
+        if position > floor {
+            return false;
+        }
+        position + u64::from(self.length_at(position)) <= floor
+    }
+
+    /// Whether a descriptor begins at a position, which the floor hasn't passed whole, and none of its blocks was withdrawn before.
     pub fn may_withdraw(&self, position: u64) -> bool
-        ensures { (shape : Shape) (v : RingView) → FollowsRing shape v self.now → floor_number v ≤ position →
+        ensures { (shape : Shape) (v : RingView) → FollowsRing shape v self.now → IsNotPassed v position →
             result ≡ not (descriptor_length v position == 0 || list_any v.withdrawn (range_with_len position (descriptor_length v position))) }
     {
         let count = u64::from(self.length_at(position));
         count != 0 && !has_some(&self.withdrawn, position, count)
     }
 
-    /// Notes that the descriptor that begins at a position from the floor on is withdrawn (xHCI 4.6.9): No Ops stand in place of its blocks, and those
-    /// that were given are free. Want of memory changes nothing of what is known where none of its blocks was withdrawn before.
+    /// Notes that the descriptor that begins at a position is withdrawn, which the floor hasn't passed whole (xHCI 4.6.9): No Ops stand in place of its
+    /// blocks, and those that were given are free. Want of memory changes nothing of what is known where none of its blocks was withdrawn before.
     pub fn withdraw(&mut self, shape: &RingShape, position: u64) -> Result<(), AllocError>
-        ensures ok { OnOk result ((v : RingView) → FollowsRing shape.now v self.old → floor_number v ≤ position → FollowsRing shape.now (changed shape.now v (Withdraws position)) self.new) }
-        ensures err { OnErr result ((v : RingView) → FollowsRing shape.now v self.old → floor_number v ≤ position →
+        ensures ok { OnOk result ((v : RingView) → FollowsRing shape.now v self.old → IsNotPassed v position → FollowsRing shape.now (changed shape.now v (Withdraws position)) self.new) }
+        ensures err { OnErr result ((v : RingView) → FollowsRing shape.now v self.old → IsNotPassed v position →
             list_any v.withdrawn (range_with_len position (descriptor_length v position)) ≡ false → FollowsRing shape.now v self.new) }
     {
         let count = u64::from(self.length_at(position));

@@ -1,7 +1,7 @@
 //! Rows of a trace in which descriptors are withdrawn: of what was handed over some may be the driver's again, until the ring is started or moved
 //! (xHCI 4.6.9, 4.6.10).
 ghost use Rattle.std.specs.Prelude.{◌≡◌, ◌+◌, ◌<◌, ◌≤◌, ℕ, true, false, [], ◌∷◌, List, None, Some, length, IfErr, OnOk};
-ghost use Rattle.segments.specs.RingView.{Restores, Withdraws as WithdrawsAt, floor_number};
+ghost use Rattle.segments.specs.RingView.{Restores, Withdraws as WithdrawsAt};
 ghost use Rattle.traces.specs.Header.{ring_with};
 ghost use Rattle.traces.specs.AllowedHeaders.{IsHeader};
 ghost use Rattle.traces.specs.declared.header.Header.{Header};
@@ -12,6 +12,7 @@ ghost use Rattle.traces.specs.Rows.{is_ring_row};
 ghost use Rattle.ring_knowledge.specs.declared.lease.Lease.{Lease};
 ghost use Rattle.ring_knowledge.specs.Known.{Known};
 ghost use Rattle.ring_knowledge.specs.Learned.{learned};
+ghost use Rattle.ring_knowledge.specs.RingRecords.{IsNotPassed};
 ghost use Rattle.ring_knowledge.specs.Rings.{on_ring};
 ghost use Rattle.trace_record.specs.RingFinder.Finding.{IsFinder};
 ghost use Rattle.ownership_rules.specs.Leases.{without_end};
@@ -92,7 +93,7 @@ impl<B: LeaseLog + Drop, M: WordMemory + Drop> RingPass<B, M> {
         ensures memory { self.new.memory ≡ self.old.memory }
         ensures withdrawn { self.new.has_withdrawn ≡ self.old.has_withdrawn }
         ensures ended { (list : List Lease) (k : Known) (memory : ℕ → ℕ) (ts : List Lent) → FollowsTrace self.old.header k self.old.record memory →
-            floor_number (k.ring id) ≤ position → is_transfer_ring (ring_with self.old.header id) ≡ true → AreOpen self.old.header k ts → HoldsAll (B.holds list) self.old.header ts self.old.log self.old.ranges →
+            IsNotPassed (k.ring id) position → is_transfer_ring (ring_with self.old.header id) ≡ true → AreOpen self.old.header k ts → HoldsAll (B.holds list) self.old.header ts self.old.log self.old.ranges →
             HoldsAll (B.holds list) self.old.header (passed_on (open_leases self.old.header k) (open_leases self.old.header (on_ring self.old.header k id (WithdrawsAt position))) number ts) self.new.log self.new.ranges }
     {
         let Some(at) = transfer_ring(&self.header, &self.finder, id) else {
@@ -100,11 +101,13 @@ impl<B: LeaseLog + Drop, M: WordMemory + Drop> RingPass<B, M> {
         };
         let rings = self.header.rings.as_slice();
         let ring = &rings[at];
-        let count = u64::from(self.record.rings[at].descriptor_length(position));
+        let known = &self.record.rings[at];
+        let count = u64::from(known.descriptor_length(position));
         if position.checked_add(count).is_none() {
             return;
         }
-        note_withdrawing(&mut self.log, number, ring, position, count);
+        let from = position.max(known.floor_number());
+        note_withdrawing(&mut self.log, number, ring, from, position + count);
     }
 
     /// Checks a row of the driver where descriptors were withdrawn, and notes it and its leases.

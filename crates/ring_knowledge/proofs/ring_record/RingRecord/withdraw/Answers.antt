@@ -1,18 +1,18 @@
-use Rattle.ring_knowledge.proofs.Laws.{rules, length-no_ops, length, ◌-◌, ◌≤◌, arith, ◌≡◌, ◌∙◌, ◌%◌, ◌&&◌, ◌||◌, if◌then◌else◌, refl, ap, sym, number, floor_number, place_count, slice_index, is_in, is_noted, no_ops, contains, nat_cmp, same_note, back, from_in, none_before, none_free_before, same_sets, withdrawn_here, begins_at}
+use Rattle.ring_knowledge.proofs.Laws.{rules, length-no_ops, length, ◌-◌, ◌≤◌, arith, ◌≡◌, ◌∙◌, ◌%◌, ◌&&◌, ◌||◌, if◌then◌else◌, refl, ap, sym, number, floor_number, place_count, slice_index, is_in, is_noted, no_ops, contains, nat_cmp, same_note, back, from_in, none_before, none_free_before, same_sets, kept_from, withdrawn_here, begins_at}
 use Rattle.ring_knowledge.proofs.ring_record.RingRecord.withdraw.Goals as goal
 
 pub returns-in-Err-clause-err : goal.returns-in-Err-clause-err
-returns-in-Err-clause-err c = search (rules, slice_index, same_sets, back, from_in, is_in, none_before)
+returns-in-Err-clause-err c = search (rules, slice_index, same_sets, back, from_in, is_in, none_before, kept_from)
 
 pub returns-in-Err-add_given-clause-err : goal.returns-in-Err-add_given-clause-err
-returns-in-Err-add_given-clause-err c = search (rules, slice_index, same_sets, back, from_in, is_in, none_before, none_free_before)
+returns-in-Err-add_given-clause-err c = search (rules, slice_index, same_sets, back, from_in, is_in, none_before, none_free_before, kept_from)
 
 pub returns-clause-ok : goal.returns-clause-ok
 returns-clause-ok c = λ v known from.
     let shape = c.args.shape.now in
     let r = c.args.self.now in
     let p = c.args.position in
-    let kept : r.forgotten ≤ p = omega (arith, known.marks.passed, from) in
+    let kept : r.forgotten ≤ p = kept_from shape v r known.marks p from in
     let count = slice_index r.lengths.items (p - r.forgotten) in
     let many : c.from-count.result ≡ count = c.from-count.ensures ∙ c.length_at.ensures.value kept in
     let floor : c.number-floor.result ≡ floor_number v = c.number-floor.ensures ∙ sym (ap number known.marks.floor) in
