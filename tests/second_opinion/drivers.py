@@ -217,10 +217,17 @@ class Driver(DriverOfRuns):
             self.try_step(Driver.completion)
 
     def stopped(self):
-        """A Stopped event of the Stop Endpoint that is finished next."""
+        """A Stopped event of the Stop Endpoint that is finished next, from version 4 on often inside a descriptor."""
         command = self.known.command_at(self.known.next_command)
         if command and command.type == STOP_ENDPOINT:
-            self.transfer_of(command.slot, command.endpoint, [26, 27, 28])
+            inside = self.spots_inside(command.slot, command.endpoint)
+            self.transfer_of(command.slot, command.endpoint, [26, 27, 28], inside if self.trace.version >= 4 and self.pick.random() < 0.6 else [])
+
+    def spots_inside(self, slot, endpoint):
+        """Where an endpoint's controller may stand inside a descriptor that was given: at a block, or at a Link between two."""
+        ring = self.known.ring_of(slot, endpoint)
+        spots = ring.spots_from(self.known.floor(ring), self.known.given_count(ring) - 1) if ring else []
+        return [spot for spot in spots if not self.known.is_border(ring, spot.number)]
 
     def bind_anew(self):
         """An endpoint is dropped and added, mostly where its own ring stands, or where one stands that no endpoint has; before that it is mostly stopped."""
@@ -273,10 +280,13 @@ class Driver(DriverOfRuns):
         return ring.spot_address(spot) | ring.spot_cycle(spot) ^ other
 
     def some_target(self, slot, endpoint):
-        """A pointer and a cycle state on the endpoint's ring."""
+        """A pointer and a cycle state on the endpoint's ring; where that stands inside a withdrawn descriptor mostly past it."""
         ring = self.known.ring_of(slot, endpoint) or self.one_of(self.known.driver_rings)
         spots = ring.spots(self.known.floor(ring).number, self.known.declared(ring))
-        spot = self.pick.choice(spots)
+        inner = self.known.declarations(ring).inner if self.known.stands_inside(ring) and self.pick.random() < 0.8 else ()
+        least = self.known.ceiling(ring) if inner else 0
+        past = [spot for spot in spots if spot.number >= least and spot.number not in inner]
+        spot = self.pick.choice(past or spots)
         return ring.spot_address(spot) | ring.spot_cycle(spot)
 
     def write_context(self, kind, slot, endpoint, context):
@@ -362,11 +372,12 @@ class Driver(DriverOfRuns):
         is_isochronous = self.trace.has_isoch and (self.known.is_isochronous(slot, endpoint) or self.pick.random() < 0.1)
         self.transfer_of(slot, endpoint, ISOCHRONOUS_CODES if is_isochronous else CODES)
 
-    def transfer_of(self, slot, endpoint, codes):
+    def transfer_of(self, slot, endpoint, codes, spots=()):
+        """An event of an endpoint: it names one of these spots, where there are any, else one from the floor on."""
         ring = self.known.ring_of(slot, endpoint)
         if ring is None:
             return
-        spots = ring.spots_from(self.known.floor(ring), self.known.declared(ring))
+        spots = spots or ring.spots_from(self.known.floor(ring), self.known.declared(ring))
         spot = self.pick.choice(spots[:self.pick.choice([1, 2, 3, 20])])
         self.event(ring.spot_address(spot), self.pick.choice(codes), TRANSFER_EVENT << 10 | slot << 24 | endpoint << 16)
 
@@ -413,6 +424,8 @@ class Driver(DriverOfRuns):
         if self.known.endpoint_state(slot, index) == 'Running':
             for _ in range(self.pick.randrange(4)):
                 self.try_step(lambda driver: driver.declare_some(ring))
+            if self.trace.version >= 4 and self.pick.random() < 0.5:
+                self.try_step(lambda driver: driver.declare_form(ring, [NORMAL] * driver.pick.choice([2, 3, 4, 6])))
             self.try_step(lambda driver: driver.give_all(ring))
             self.try_step(lambda driver: driver.make(Doorbell(slot, index)))
             if self.pick.random() < 0.95:
@@ -440,9 +453,15 @@ class Driver(DriverOfRuns):
         return [at for at in ((slot, index) for slot in SLOTS for index in (1, 2, 3)) if self.known.endpoint_state(*at) in ('Running', 'Stopped')]
 
     def withdraw(self, ring):
-        """A descriptor, mostly one that the controller can't have come to, or from version 3 on isn't known to have passed; often one over a Link."""
-        least = self.known.ceiling(ring) if self.pick.random() < 0.6 else self.known.floor(ring).number
+        """A descriptor, mostly one that the controller can't have come to, or from version 3 on isn't known to have passed; from version 4 on mostly one that
+        it is known to have passed in part, where there is one; often one over a Link."""
+        floor = self.known.floor(ring).number
+        least = self.known.ceiling(ring) if self.pick.random() < 0.6 else floor
         begins = [p for p in range(self.known.declared(ring)) if self.known.descriptor_length(ring, p) > 0 and not self.known.was_withdrawn(ring, p)]
+        begun = [p for p in begins if p < floor < p + self.known.descriptor_length(ring, p)]
+        if begun and self.pick.random() < (0.8 if self.trace.version >= 4 else 0.1):
+            self.make(Withdraws(ring.number, begun[0]))
+            return
         fitting = [p for p in begins if p >= least]
         over_a_link = [p for p in fitting if ring.crossings(p + 1, p + self.known.descriptor_length(ring, p) - 1)]
         if fitting and self.pick.random() < 0.9:
@@ -480,7 +499,7 @@ class Driver(DriverOfRuns):
             self.try_step(lambda driver: driver.give_all(ring))
         if self.pick.random() < 0.4:
             self.try_step(lambda driver: driver.transfer_of(slot, index, [1, 1, 13]))
-        if self.pick.random() < 0.4:
+        if self.pick.random() < (0.85 if self.trace.version >= 4 and self.known.stands_inside(ring) else 0.4):
             self.try_step(lambda driver: driver.whole_command(SET_TR_DEQUEUE, slot, index))
         if self.pick.random() < 0.8:
             self.try_step(lambda driver: driver.make(Doorbell(slot, index)))

@@ -1,7 +1,7 @@
 """Traces that differ a little from worked ones, picked by a seed: text in, text out."""
 import random
 
-from blocks import CHAIN, LINK
+from blocks import CHAIN, LINK, NO_OP_COMMAND, SET_TR_DEQUEUE
 
 DIGITS = b'0123456789abcdef'
 
@@ -82,6 +82,39 @@ def with_a_descriptor_withdrawn(lines, i, pick):
     return lines[:i] + [b'nop ' + pick.choice(rings).split()[1] + b' %016x' % pick.randrange(6)] + lines[i:] if rings else lines
 
 
+def with_an_earlier_one_withdrawn(lines, i, pick):
+    """Behind a row that withdraws a descriptor one that was declared before on that ring is withdrawn too: it was passed, mostly."""
+    at = [j for j, line in enumerate(lines) if line.startswith(b'nop ') and len(line.split()) == 3]
+    if not at:
+        return lines
+    j = pick.choice(at)
+    _, ring, _ = lines[j].split()
+    begins = [0]
+    for line in lines[:j]:
+        if line.startswith(b'sub ' + ring + b' '):
+            begins.append(begins[-1] + (len(line.split()) - 2) // 4)
+    return lines[:j + 1] + [b'nop %s %016x' % (ring, pick.choice(begins))] + lines[j + 1:]
+
+
+def control_word(line):
+    """The last word of a row."""
+    return int(line.split()[-1], 16)
+
+
+def with_a_no_op_for_a_move(lines, i, pick):
+    """A Set TR Dequeue Pointer becomes a No Op Command: the ring isn't moved."""
+    moves = [j for j, line in enumerate(lines) if line.startswith(b'sub ') and len(line.split()) == 6 and control_word(line) >> 10 & 63 == SET_TR_DEQUEUE]
+    if not moves:
+        return lines
+    j = pick.choice(moves)
+    given = [k for k in range(j + 1, len(lines)) if lines[k].startswith(b'w ') and control_word(lines[k]) | 1 == control_word(lines[j]) | 1][:1]
+    lines = list(lines)
+    for k in [j, *given]:
+        word = control_word(lines[k]) ^ (SET_TR_DEQUEUE ^ NO_OP_COMMAND) << 10
+        lines[k] = lines[k][:-8] + b'%08x' % word
+    return lines
+
+
 def is_link(line):
     """It writes the control word of a Link."""
     return line.startswith(b'w ') and line.split()[1].endswith(b'c') and int(line.split()[2], 16) >> 10 & 63 == LINK
@@ -101,7 +134,8 @@ def with_another_version(lines, i, pick):
 
 
 OF_ROWS = [without_a_row, with_a_row_twice, with_two_rows_swapped, with_a_row_elsewhere, with_a_digit_changed, with_a_bit_changed]
-OF_RINGS = [with_a_ring_that_goes, with_a_ring_that_comes, with_a_ring_declared_later, with_a_descriptor_withdrawn, with_a_chain_bit_changed, with_another_version]
+OF_RINGS = [with_a_ring_that_goes, with_a_ring_that_comes, with_a_ring_declared_later, with_a_descriptor_withdrawn, with_an_earlier_one_withdrawn,
+            with_a_no_op_for_a_move, with_a_chain_bit_changed, with_another_version]
 CHANGES = OF_ROWS * 3 + OF_RINGS
 
 

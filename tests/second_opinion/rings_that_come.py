@@ -49,10 +49,17 @@ def has_stopped(known, ring):
 
 
 def may_be_withdrawn(known, ring, position):
-    """A descriptor begins there, not put there by a withdrawal, that the controller can't have come to; in version 3 one that it isn't known to have passed."""
-    least = known.floor(ring).number if known.trace.version >= 3 else known.ceiling(ring)
+    """A descriptor begins there, not put there by a withdrawal, that the version doesn't count as passed."""
     blocks = range(position, position + known.descriptor_length(ring, position))
-    return len(blocks) > 0 and not any(known.was_withdrawn(ring, p) for p in blocks) and position >= least
+    return len(blocks) > 0 and not any(known.was_withdrawn(ring, p) for p in blocks) and not is_passed(known, ring, blocks)
+
+
+def is_passed(known, ring, blocks):
+    """The controller may have come to the descriptor; in version 3 it is known to have passed its first block, from version 4 on its last one."""
+    floor = known.floor(ring).number
+    if known.trace.version >= 4:
+        return blocks[-1] < floor
+    return blocks[0] < (floor if known.trace.version == 3 else known.ceiling(ring))
 
 
 def stands_as_declared(known, ring, position):

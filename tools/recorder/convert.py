@@ -38,8 +38,8 @@ def add_options(parser):
 
 def add_format(parser):
     parser.add_argument('--format', type=int, choices=(1, 3, 4), default=4, help='version of the traces: 4, of all runs of the controller, with '
-                        'isochronous transfers and Links that lose their Chain bit, or 3 where there is one run and none of these; 3, in which rings '
-                        'come and go; or 1')
+                        'isochronous transfers, TDs withdrawn midway and Links that lose their Chain bit, or 3 where there is one run and none of these; '
+                        '3, in which rings come and go; or 1')
 
 
 def block_count(text):
@@ -79,9 +79,9 @@ class Trace:
     def __init__(self, runs, memory, context_size, options, is_joined=False):
         content = Content(runs, memory, context_size, options, is_joined)
         plain, finder = content.rows, content.finder
-        producers = descriptors.follow(plain, finder.rings, content.commands)
+        producers = descriptors.follow(plain, finder.rings, content.commands, options.version)
         rows, cut = descriptors.declared(plain, producers, options.version)
-        header = row_list.head(options.version, rows, context_size, finder.rings, is_joined or descriptors.unchain(producers, cut))
+        header = row_list.head(options.version, rows, context_size, finder.rings, is_joined or descriptors.is_latest(producers, cut))
         rows, full = limited(rows, len(header), options.version)
         ends_early = full or finder.cut is not None or cut is not None
         self.text = ''.join(line + '\n' for line in header + [row_list.text(row) for row in rows])

@@ -15,10 +15,10 @@ Left = namedtuple('Left', 'row why')
 class Producer:
     """What is known of one ring while the rows pass: the blocks that were given, by position, the floor, and what was withdrawn."""
 
-    def __init__(self, ring):
-        self.ring, self.floor, self.given = ring, 0, {}
+    def __init__(self, ring, version):
+        self.ring, self.floor, self.given, self.version = ring, 0, {}, version
         self.withdrawn, self.withdrawals = set(), []  # positions; pairs of a row number and a descriptor's first position
-        self.unchained = []  # numbers of the rows that clear the Chain bit of a Link beside a withdrawn block
+        self.latest = []  # numbers of the rows that are version 4's: a descriptor withdrawn midway, a Link that loses its Chain bit beside a withdrawn block
 
     def write(self, number, at, words):
         """A write of the control word of the block at `at`: gives its current position where the Cycle bit is that one's."""
@@ -32,15 +32,18 @@ class Producer:
         if position not in self.given or position in self.withdrawn:
             return
         positions = self.descriptor_with(position)
-        if positions and positions[0] >= self.floor:
-            self.withdrawn.update(positions)
-            self.withdrawals.append((number, positions[0]))
+        if not positions or positions[0] < self.floor and self.version < 4:
+            return
+        self.withdrawn.update(positions)
+        self.withdrawals.append((number, positions[0]))
+        if positions[0] < self.floor:
+            self.latest.append(number)
 
     def unchains(self, number, at, word):
         """The Chain bit alone of a Link's word is cleared while its endpoint is stopped: told where the controller has it and a block beside it is withdrawn."""
         crossing = self.ring.least(at, self.floor) if at in self.ring.crossing else None
         if crossing is not None and word & 1 == self.ring.cycle(crossing - 1) and not self.withdrawn.isdisjoint((crossing - 1, crossing)):
-            self.unchained.append(number)
+            self.latest.append(number)
 
     def descriptor_with(self, position):
         """The positions of the descriptor that has a given one; None where it wasn't given whole."""
@@ -89,8 +92,8 @@ def why_left(descriptor):
 class Follower:
     """Follows rows: which rings are there, which endpoints have stopped, and what is given and withdrawn on each ring."""
 
-    def __init__(self, rings, commands):
-        self.producers = [Producer(ring) for ring in rings if ring.kind != 'evt']
+    def __init__(self, rings, commands, version):
+        self.producers = [Producer(ring, version) for ring in rings if ring.kind != 'evt']
         self.by_ring = {producer.ring: producer for producer in self.producers}
         self.by_completion = {command.read: command for command in commands if command.read}
         self.owner = {}       # by the address of a block: the producer
@@ -149,17 +152,17 @@ class Follower:
             self.stopped -= {(blocks.slot(words), index) for index in placed_by(words, self.memory)}
 
 
-def follow(rows, rings, commands):
+def follow(rows, rings, commands, version):
     """What the rows give on each ring, and withdraw."""
-    follower = Follower(rings, commands)
+    follower = Follower(rings, commands, version)
     for number, row in enumerate(rows):
         follower.row(number, row)
     return follower.producers
 
 
-def unchain(producers, cut):
-    """Whether a Link that the controller has, beside a withdrawn block, loses its Chain bit before the rows end."""
-    return any(cut is None or number < cut.row for producer in producers for number in producer.unchained)
+def is_latest(producers, cut):
+    """Whether a descriptor is withdrawn midway before the rows end, or a Link that the controller has loses its Chain bit beside a withdrawn block."""
+    return any(cut is None or number < cut.row for producer in producers for number in producer.latest)
 
 
 def declared(rows, producers, version):

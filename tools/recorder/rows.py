@@ -39,7 +39,7 @@ def is_isochronous(row):
 
 def head(latest, rows, context_size, rings, is_latest=False):
     """The lines before these rows: of version 3 where the latest that was asked for is a later one, and nothing in them is that one's. Rows of
-    several runs are, and those by which a Link beside what is withdrawn loses its Chain bit: `is_latest` tells."""
+    several runs are, and those by which a TD is withdrawn midway, or a Link beside a withdrawn TRB loses its Chain bit: `is_latest` tells."""
     version = latest if latest < 4 or is_latest or any(map(is_isochronous, rows)) else 3
     return [f'xtrace {version}', f'ctx {context_size:02x}'] + [ring.line() for ring in rings if ring.comes is None]
 

@@ -464,7 +464,7 @@ def converted(lines, version=4):
     plain = [row._replace(key=number) for number, row in enumerate(run.rows)]
     moved = {row.key: number for number, row in enumerate(run.rows) if row.kind == 'ev'}
     commands = [command._replace(read=moved[command.read]) for command in run.commands]
-    producers = descriptors.follow(plain, run.rings, commands)
+    producers = descriptors.follow(plain, run.rings, commands, version)
     rows, cut = descriptors.declared(plain, producers, version)
     follower = run.follower
     header = row_list.head(version, rows, run.size, run.rings, follower.runs > 1 or follower.goes_on)
