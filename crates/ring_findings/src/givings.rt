@@ -187,13 +187,16 @@ fn withdrawable(
     if !case.header.version.has_ring_rows() || state != EndpointState::Stopped {
         return None;
     }
-    let least = if case.header.version.is_lenient() {
-        known.floor_number()
-    } else {
-        known.ceiling()
-    };
     let td = submission(case, ring.id, position?)?;
-    if td.first >= least && td.withdrawn.is_none() {
+    let version = case.header.version;
+    let is_ahead = if version.has_runs() {
+        td.first.saturating_add(td.count) > known.floor_number()
+    } else if version.is_lenient() {
+        td.first >= known.floor_number()
+    } else {
+        td.first >= known.ceiling()
+    };
+    if is_ahead && td.withdrawn.is_none() {
         Some(td.first)
     } else {
         None

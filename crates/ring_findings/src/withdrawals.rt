@@ -240,7 +240,10 @@ fn tell_passed(case: &mut Case, id: u8, known: &RingRecord, td: Submitted, back:
             "the first {} of the TD's {} TRBs came back: its rest is no TD",
             &[Number(back), Number(td.count)],
         );
-        case.help("Set TR Dequeue Pointer past the TD (xHCI 4.6.10)", &[]);
+        case.help(
+            "Set TR Dequeue Pointer past the TD (xHCI 4.6.10); or write `xtrace 4`, by which the rest of a TD may be withdrawn too",
+            &[],
+        );
     }
 }
 

@@ -343,7 +343,7 @@ impl Known {
         Ok(())
     }
 
-    /// A TD is withdrawn: what was handed over of it is the driver's until the ring is started or moved.
+    /// A TD is withdrawn: what was handed over of it, and didn't come back, is the driver's until the ring is started or moved.
     fn learn_withdrawn(
         &mut self,
         header: &Header,
@@ -362,7 +362,8 @@ impl Known {
         ) {
             if let Some(td) = past.td_with(position) {
                 past.withdraw(row, position);
-                for own in td.first..td.first.saturating_add(td.count) {
+                let first = td.first.max(known.floor_number());
+                for own in first..td.first.saturating_add(td.count) {
                     if is_handed_over(ring, known, own) {
                         past.set_free(row, own)?;
                     }
