@@ -41,7 +41,7 @@ impl TraceRecord {
         row: &Row,
         place: &RowPlace,
     ) -> bool
-        ensures owned { IsHeader header.now → (k : Known) → FollowsTrace header.now k self.now (M.words memory.now) → IsPlaced header.now k row.now place.now → IsOwnedSo header.now k row.now result }
+        ensures { IsHeader header.now → (k : Known) → FollowsTrace header.now k self.now (M.words memory.now) → IsPlaced header.now k row.now place.now → IsOwnedSo header.now k row.now result }
     {
         match row {
             Row::Write { at, word } => {
@@ -63,7 +63,7 @@ impl TraceRecord {
         word: u32,
         place: &RowPlace,
     ) -> bool
-        ensures disturbed { IsHeader header.now → (k : Known) → FollowsTrace header.now k self.now (M.words memory.now) → IsPlacedSo header.now k at word place.now →
+        ensures { IsHeader header.now → (k : Known) → FollowsTrace header.now k self.now (M.words memory.now) → IsPlacedSo header.now k at word place.now →
             is_lenient header.now.version ≡ true → is_leased header.now k at ≡ true → result ≡ writes_to_owned header.now k at word }
     {
         let standing = memory.word(at);
@@ -84,7 +84,7 @@ impl TraceRecord {
         word: u32,
         place: &RowPlace,
     ) -> bool
-        ensures unchained { IsHeader header.now → (k : Known) (memory : ℕ → ℕ) → FollowsTrace header.now k self.now memory → IsPlacedSo header.now k at word place.now →
+        ensures { IsHeader header.now → (k : Known) (memory : ℕ → ℕ) → FollowsTrace header.now k self.now memory → IsPlacedSo header.now k at word place.now →
             result ≡ (has_runs header.now.version && clears_chain standing word && stands_beside_free header.now k at && not (list_any (covers header.now at 4) (open_ranges header.now k))) }
     {
         header.version.has_runs()
@@ -95,7 +95,7 @@ impl TraceRecord {
 
     /// Whether a word that has this place is the control word of a Link under lease that stands beside a withdrawn TRB.
     fn stands_beside_free(&self, header: &Header, at: Addr, place: &RowPlace) -> bool
-        ensures beside { IsHeader header.now → (k : Known) (word : ℕ) → FollowsRings header.now k self.now.rings.items → IsPlacedSo header.now k at word place.now →
+        ensures { IsHeader header.now → (k : Known) (word : ℕ) → FollowsRings header.now k self.now.rings.items → IsPlacedSo header.now k at word place.now →
             result ≡ stands_beside_free header.now k at }
     {
         let Some(number) = place.ring else {

@@ -8,7 +8,7 @@ use Rattle.trace_record.proofs.trace_record.TraceRecord.may_unchain.Goals.{then-
 use Rattle.trace_record.proofs.trace_record.TraceRecord.may_unchain.Goals as goal
 
 pub returns-then-stands_beside_free : goal.returns-then-stands_beside_free
-returns-then-stands_beside_free c = λ k memory f placed.
+returns-then-stands_beside_free c = λ headed k memory f placed.
     let h = c.args.header.now in
     let clears : Bool = clears_chain c.args.standing c.args.word in
     let beside : Bool = stands_beside_free h k c.args.at in
@@ -18,7 +18,7 @@ returns-then-stands_beside_free c = λ k memory f placed.
       | else-has_runs w ↦ w.value-is ∙ w.if-has_runs.false ∙ sym (ap (λ b. b && clears) (sym c.has_runs.ensures ∙ w.if-has_runs.false))
     ] in
     let second : c.if-clears_chain.value ≡ ((has_runs h.version && clears) && beside) = elim c.if-clears_chain.branch [
-      | then-clears_chain w ↦ w.value-is ∙ w.stands_beside_free.ensures k c.args.word f.rings placed ∙ sym (ap (λ b. b && beside) (sym first ∙ w.if-clears_chain.true))
+      | then-clears_chain w ↦ w.value-is ∙ w.stands_beside_free.ensures headed k c.args.word f.rings placed ∙ sym (ap (λ b. b && beside) (sym first ∙ w.if-clears_chain.true))
       | else-clears_chain w ↦ w.value-is ∙ w.if-clears_chain.false ∙ sym (ap (λ b. b && beside) (sym first ∙ w.if-clears_chain.false))
     ] in
     ap not (c.is_in_range.ensures h k memory f) ∙ sym (ap (λ b. b && not ranges) (sym second ∙ c.if-stands_beside_free.true))
