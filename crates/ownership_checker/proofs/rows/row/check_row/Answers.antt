@@ -19,12 +19,12 @@ returns-in-Sub-clause-refused g c =
 pub returns-in-Write-clause-ok : goal.returns-in-Write-clause-ok
 returns-in-Write-clause-ok g c =
     word_ok c.args.header.now c.args.kept.now (g.M.WordMemory.words c.args.memory.now) (λ k f. sym (c.is_stopped.ensures k f.registers) ∙ c.if-is_stopped.false)
-    c.args.row.now (Write c.in-Write.at c.in-Write.word) c.in-Write.is c.args.place.now c.owns.result (λ k f placed. c.owns.ensures k f placed) c.check_word.new.kept (g.M.WordMemory.words c.check_word.new.memory) c.check_word.result c.check_word.ensures.ok
+    c.args.row.now (Write c.in-Write.at c.in-Write.word) c.in-Write.is c.args.place.now c.owns.result (c.owns.ensures c.requires.headed) c.check_word.new.kept (g.M.WordMemory.words c.check_word.new.memory) c.check_word.result c.check_word.ensures.ok
 
 pub returns-in-Write-clause-refused : goal.returns-in-Write-clause-refused
 returns-in-Write-clause-refused g c =
     word_bad c.args.header.now c.args.kept.now (g.M.WordMemory.words c.args.memory.now) (λ k f. sym (c.is_stopped.ensures k f.registers) ∙ c.if-is_stopped.false)
-    c.args.row.now (Write c.in-Write.at c.in-Write.word) c.in-Write.is c.args.place.now c.owns.result (λ k f placed. c.owns.ensures k f placed) c.check_word.result c.check_word.ensures.refused
+    c.args.row.now (Write c.in-Write.at c.in-Write.word) c.in-Write.is c.args.place.now c.owns.result (c.owns.ensures c.requires.headed) c.check_word.result c.check_word.ensures.refused
 
 pub returns-in-Reg-clause-ok : goal.returns-in-Reg-clause-ok
 returns-in-Reg-clause-ok g c =
