@@ -23,7 +23,8 @@ What to write instead
   a later one of its ring, or have moved the ring past it (Stop Endpoint, Set
   TR Dequeue Pointer). The same word stored once more does no harm. Versions
   1 and 2 refuse it too; versions from 3 on only in Device Contexts and the
-  Event Ring, where the controller writes.
+  Event Ring, where the controller writes. In version 4 the Chain bit of a Link
+  TRB beside a withdrawn TRB may be cleared, and nothing else with it.
 
 A trace that breaks it
   Row 5 hands a No Op over; row 6 stores into it, and is refused.
@@ -530,7 +531,9 @@ What it is for
   `nop` row (from `xtrace 2` on) says so before the first of these writes.
   An endpoint that has the ring is Stopped then, no unfinished command touches
   it, and at the position that the row names a TD begins of which nothing was
-  withdrawn before (xHCI 4.6.9, 6.4.1.4.1).
+  withdrawn before (xHCI 4.6.9, 6.4.1.4.1). In version 2 the controller can't
+  have come to that TD, in version 3 it isn't past its first TRB, and in
+  version 4 it isn't past its last one: then the rest of the TD is withdrawn.
 
 What a controller does to a driver that breaks it
   While the endpoint runs, it takes a TRB that is half the TD and half a No
@@ -542,7 +545,9 @@ What to write instead
   was handed over words 0 to 2 with 0 and word 3 with 00002000 and the Cycle
   bit that it has; then the doorbell. What the controller may have passed
   keeps its Cycle bit all the time: a write that turns it is refused as
-  WriteToOwned.
+  WriteToOwned. A controller that stopped inside the TD goes on with that, so
+  move the ring past it by Set TR Dequeue Pointer before the doorbell (xHCI
+  4.6.9, 4.6.10); no rule asks for it, since no row tells where it stopped.
 
 A trace that breaks it
   Row 29 withdraws the TD of row 28 while the endpoint is Running, and is
