@@ -545,9 +545,9 @@ What to write instead
   was handed over words 0 to 2 with 0 and word 3 with 00002000 and the Cycle
   bit that it has; then the doorbell. What the controller may have passed
   keeps its Cycle bit all the time: a write that turns it is refused as
-  WriteToOwned. A controller that stopped inside the TD goes on with that, so
-  move the ring past it by Set TR Dequeue Pointer before the doorbell (xHCI
-  4.6.9, 4.6.10); no rule asks for it, since no row tells where it stopped.
+  WriteToOwned. Of a TD inside which the controller stopped, move the ring past
+  it by Set TR Dequeue Pointer before the doorbell (xHCI 4.6.9, 4.6.10). No rule
+  asks for that: no row tells what the Endpoint Context said of the place.
 
 A trace that breaks it
   Row 29 withdraws the TD of row 28 while the endpoint is Running, and is
