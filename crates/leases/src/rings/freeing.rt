@@ -1,5 +1,5 @@
 //! Descriptors that are withdrawn, and rings that are restored (xHCI 4.6.9, 4.6.10).
-ghost use Rattle.std.specs.Prelude.{◌≡◌, ◌+◌, ◌≤◌, ℕ, max, true, List, Some, OnOk};
+ghost use Rattle.std.specs.Prelude.{◌≡◌, ◌+◌, ◌<◌, ◌≤◌, ℕ, max, true, List, Some, OnOk};
 ghost use Rattle.segments.specs.Descriptors.{length_from};
 ghost use Rattle.segments.specs.Givings.{unrestored};
 ghost use Rattle.segments.specs.RingView.{Restores, Withdraws, floor_number};
