@@ -56,6 +56,8 @@ class Driver(DriverOfRuns):
         self.array = ARRAY if self.pick.random() < 0.9 else self.odd_address(64)
         # (rows, rule): traces whose last row breaks a rule, and no earlier one does
         self.refused = []
+        # by the number of a ring: the position behind the last descriptor that was withdrawn midway
+        self.behind = {}
 
     def some_rings(self):
         def ring(number, kind, base, counts):
@@ -221,7 +223,7 @@ class Driver(DriverOfRuns):
         command = self.known.command_at(self.known.next_command)
         if command and command.type == STOP_ENDPOINT:
             inside = self.spots_inside(command.slot, command.endpoint)
-            self.transfer_of(command.slot, command.endpoint, [26, 27, 28], inside if self.trace.version >= 4 and self.pick.random() < 0.6 else [])
+            self.transfer_of(command.slot, command.endpoint, [26, 27, 28], inside if self.trace.version >= 4 and self.pick.random() < 0.8 else [])
 
     def spots_inside(self, slot, endpoint):
         """Where an endpoint's controller may stand inside a descriptor that was given: at a block, or at a Link between two."""
@@ -280,13 +282,11 @@ class Driver(DriverOfRuns):
         return ring.spot_address(spot) | ring.spot_cycle(spot) ^ other
 
     def some_target(self, slot, endpoint):
-        """A pointer and a cycle state on the endpoint's ring; where that stands inside a withdrawn descriptor mostly past it."""
+        """A pointer and a cycle state on the endpoint's ring; where that stands inside a descriptor withdrawn midway mostly past it."""
         ring = self.known.ring_of(slot, endpoint) or self.one_of(self.known.driver_rings)
         spots = ring.spots(self.known.floor(ring).number, self.known.declared(ring))
-        inner = self.known.declarations(ring).inner if self.known.stands_inside(ring) and self.pick.random() < 0.8 else ()
-        least = self.known.ceiling(ring) if inner else 0
-        past = [spot for spot in spots if spot.number >= least and spot.number not in inner]
-        spot = self.pick.choice(past or spots)
+        least = self.behind.get(ring.number, 0) if self.pick.random() < 0.8 else 0
+        spot = self.pick.choice([spot for spot in spots if spot.number >= least] or spots)
         return ring.spot_address(spot) | ring.spot_cycle(spot)
 
     def write_context(self, kind, slot, endpoint, context):
@@ -417,15 +417,18 @@ class Driver(DriverOfRuns):
     # ---- descriptors that are withdrawn
 
     def cancel(self):
-        """An endpoint is stopped while it has work, mostly; of its ring descriptors are withdrawn, and mostly No Ops put there; then it is rung, or its ring moved."""
+        """An endpoint is stopped while it has work, mostly, from version 4 on often a long descriptor; of its ring descriptors are withdrawn, and mostly No Ops put
+        there; then it is rung, or its ring moved."""
         self.finish_all()
         slot, index = self.some_endpoint_with_work() if self.pick.random() < 0.9 else self.some_enabled_endpoint()
         ring = self.known.ring_of(slot, index) or self.one_of(self.known.rings)
         if self.known.endpoint_state(slot, index) == 'Running':
-            for _ in range(self.pick.randrange(4)):
+            is_long = self.trace.version >= 4 and self.pick.random() < 0.7
+            if is_long:
+                self.try_step(lambda driver: driver.end_all(slot, index))
+                self.try_step(lambda driver: driver.declare_form(ring, [NORMAL] * driver.pick.choice([2, 2, 3, 4])))
+            for _ in range(self.pick.randrange(2 if is_long else 4)):
                 self.try_step(lambda driver: driver.declare_some(ring))
-            if self.trace.version >= 4 and self.pick.random() < 0.5:
-                self.try_step(lambda driver: driver.declare_form(ring, [NORMAL] * driver.pick.choice([2, 3, 4, 6])))
             self.try_step(lambda driver: driver.give_all(ring))
             self.try_step(lambda driver: driver.make(Doorbell(slot, index)))
             if self.pick.random() < 0.95:
@@ -436,6 +439,8 @@ class Driver(DriverOfRuns):
             self.try_step(lambda driver: driver.withdraw(ring))
             self.try_step(lambda driver: driver.scribble_freed(ring))
             self.try_step(lambda driver: driver.unchain(ring))
+        if self.pick.random() < 0.3:
+            self.try_step(lambda driver: driver.withdraw_passed(ring))
         self.go_on(slot, index, ring)
 
     def command_beside(self, slot, index):
@@ -458,16 +463,23 @@ class Driver(DriverOfRuns):
         floor = self.known.floor(ring).number
         least = self.known.ceiling(ring) if self.pick.random() < 0.6 else floor
         begins = [p for p in range(self.known.declared(ring)) if self.known.descriptor_length(ring, p) > 0 and not self.known.was_withdrawn(ring, p)]
-        begun = [p for p in begins if p < floor < p + self.known.descriptor_length(ring, p)]
-        if begun and self.pick.random() < (0.8 if self.trace.version >= 4 else 0.1):
+        ends = {p: p + self.known.descriptor_length(ring, p) for p in begins}
+        begun = [p for p in begins if p < floor < ends[p]]
+        if begun and self.pick.random() < (0.9 if self.trace.version >= 4 else 0.1):
             self.make(Withdraws(ring.number, begun[0]))
+            self.behind[ring.number] = ends[begun[0]]
             return
         fitting = [p for p in begins if p >= least]
-        over_a_link = [p for p in fitting if ring.crossings(p + 1, p + self.known.descriptor_length(ring, p) - 1)]
+        over_a_link = [p for p in fitting if ring.crossings(p + 1, ends[p] - 1)]
         if fitting and self.pick.random() < 0.9:
             self.make(Withdraws(ring.number, self.pick.choice(over_a_link if over_a_link and self.pick.random() < 0.5 else fitting)))
         else:
             self.make(Withdraws(self.pick.choice([ring.number, ring.number, self.pick.randrange(14)]), self.pick.randrange(self.known.declared(ring) + 2)))
+
+    def withdraw_passed(self, ring):
+        """A descriptor that the controller is known to have passed whole."""
+        floor = self.known.floor(ring).number
+        self.make(Withdraws(ring.number, self.one_of([p for p in range(floor) if 0 < self.known.descriptor_length(ring, p) <= floor - p])))
 
     def scribble_freed(self, ring):
         """Writes into a withdrawn block, of which any is let be; sometimes of its control word."""
@@ -493,13 +505,14 @@ class Driver(DriverOfRuns):
                 self.write(ring.address(position), *with_cycle(self.known.queue(ring)[position], ring.cycle(position)))
 
     def go_on(self, slot, index, ring):
-        """The endpoint is rung or moved, mostly with No Ops in place; what was withdrawn before it was given is mostly given first, or behind."""
+        """The endpoint is rung or moved, mostly with No Ops in place, and moved more often where it stands inside a descriptor withdrawn midway; what was
+        withdrawn before it was given is mostly given first, or behind."""
         self.try_step(lambda driver: driver.restore(ring, driver.pick.choice([1, 1, 1, 1, 0.7])))
         if self.pick.random() < 0.5:
             self.try_step(lambda driver: driver.give_all(ring))
         if self.pick.random() < 0.4:
             self.try_step(lambda driver: driver.transfer_of(slot, index, [1, 1, 13]))
-        if self.pick.random() < (0.85 if self.trace.version >= 4 and self.known.stands_inside(ring) else 0.4):
+        if self.pick.random() < (0.6 if self.known.floor(ring).number < self.behind.get(ring.number, 0) else 0.4):
             self.try_step(lambda driver: driver.whole_command(SET_TR_DEQUEUE, slot, index))
         if self.pick.random() < 0.8:
             self.try_step(lambda driver: driver.make(Doorbell(slot, index)))
@@ -613,7 +626,7 @@ class Driver(DriverOfRuns):
     # from version 2 on besides, from version 3 on, and from version 4 on
     STEPS_OF_TWO = [(cancel, 40), (replace_ring, 16), (ring_goes, 2), (ring_comes, 6)]
     STEPS_OF_THREE = [(suspend, 14), (bind_anew, 30)]
-    STEPS_OF_FOUR = [(play, 40)]
+    STEPS_OF_FOUR = [(play, 40), (cancel, 20)]
     STEPS_OF_RUNS = [(DriverOfRuns.rest, 30), (DriverOfRuns.next_of_rest, 15), (DriverOfRuns.stray_register, 8), (DriverOfRuns.stray_ring, 4)]
 
     def try_step(self, step):

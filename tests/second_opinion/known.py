@@ -68,14 +68,14 @@ class Memory:
 class Declared:
     """The declared descriptors of a ring, each a list of blocks, in order."""
 
-    def __init__(self, descriptors, withdrawn=frozenset(), inner=frozenset()):
+    def __init__(self, descriptors, withdrawn=frozenset()):
         self.descriptors = descriptors
-        # the positions whose blocks were put there by withdrawals, and those of them that weren't the first of their descriptor
-        self.withdrawn, self.inner = withdrawn, inner
+        # the positions whose blocks were put there by withdrawals
+        self.withdrawn = withdrawn
         self.queue = [block for blocks in descriptors for block in blocks]
 
     def and_one(self, blocks):
-        return Declared([*self.descriptors, blocks], self.withdrawn, self.inner)
+        return Declared([*self.descriptors, blocks], self.withdrawn)
 
     def without(self, position):
         """The descriptor that begins at a position becomes as many No Ops."""
@@ -84,8 +84,7 @@ class Declared:
             return self
         at = list(self.lengths).index(position)
         no_ops = [((0, 0, 0, NO_OP << 10),)] * length
-        positions = range(position, position + length)
-        return Declared([*self.descriptors[:at], *no_ops, *self.descriptors[at + 1:]], self.withdrawn.union(positions), self.inner.union(positions[1:]))
+        return Declared([*self.descriptors[:at], *no_ops, *self.descriptors[at + 1:]], self.withdrawn.union(range(position, position + length)))
 
     @cached_property
     def lengths(self):
@@ -277,10 +276,6 @@ class Known(RingList):
 
     def was_withdrawn(self, ring, position):
         return position in self.declarations(ring).withdrawn
-
-    def stands_inside(self, ring):
-        """The floor lies inside a descriptor that was withdrawn."""
-        return self.floor(ring).number in self.declarations(ring).inner
 
     @kept
     def restored_by(self, row):

@@ -105,17 +105,10 @@ def bad_erdp(known, row):
 
 # ---- 18: doorbells
 
-def is_left_inside(known, number, index):
-    """From version 4 on: the endpoint's ring stands inside a descriptor that was withdrawn."""
-    ring = known.ring_of(number, index)
-    return known.trace.version >= 4 and ring is not None and known.stands_inside(ring)
-
-
 def is_bad_bell(known, number, index):
     return (not 1 <= index <= 31
             or known.endpoint_state(number, index) not in ('Running', 'Stopped')
             or known.must_move(number, index)
-            or is_left_inside(known, number, index)
             or any(changes_endpoint(known, command, number, index) for command in known.unfinished))
 
 
