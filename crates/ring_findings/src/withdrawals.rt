@@ -205,7 +205,7 @@ fn tell_td(case: &mut Case, id: u8, known: &RingRecord, td: Submitted, had: Endp
         case.head("a TD is withdrawn that may not be", &[]);
         case.mark(going(case.before, id), "this row took the ring away", &[]);
         case.help(
-            "withdraw a whole TD that the controller still has, of a Stopped endpoint",
+            "withdraw a TD that the controller still has, of a Stopped endpoint",
             &[],
         );
     }
@@ -237,11 +237,11 @@ fn tell_passed(case: &mut Case, id: u8, known: &RingRecord, td: Submitted, back:
             &[],
         );
         case.note(
-            "the first {} of the TD's {} TRBs came back: its rest is no TD",
+            "the first {} of the TD's {} TRBs came back",
             &[Number(back), Number(td.count)],
         );
         case.help(
-            "Set TR Dequeue Pointer past the TD (xHCI 4.6.10); or write `xtrace 4`, by which the rest of a TD may be withdrawn too",
+            "Set TR Dequeue Pointer past the TD (xHCI 4.6.10); or write `xtrace 4`, by which a TD may be withdrawn of which a part came back",
             &[],
         );
     }
