@@ -5,6 +5,8 @@ ghost use Rattle.certificate.specs.Pieces.{IsFailed};
 ghost use Rattle.command_runs.specs.VerifyAnswers.{IsCertificateOf, IsNoCertificate};
 
 use certificate::{Unread, read_certificate};
+use diagnostics::lines_to;
+use memchr::memchr_iter;
 use ring_knowledge::Lease;
 use std::alloc::Global;
 use std::io::{self, ErrorKind, Read};
@@ -82,8 +84,7 @@ pub fn first_lines<R: Read>(alloc: Global, reader: &mut R, lines: u32) -> io::Re
 
 /// A text as far as the line with this number.
 pub fn through_line(mut text: Vec<u8>, line: u32) -> Vec<u8> {
-    let mut left = line;
-    let end = end_of_lines(&text, &mut left);
+    let end = lines_to(&text, line).len();
     text.truncate(end);
     text
 }
@@ -92,12 +93,10 @@ pub fn through_line(mut text: Vec<u8>, line: u32) -> Vec<u8> {
 fn end_of_lines(piece: &[u8], left: &mut u32) -> usize
     ensures { result ≤ length piece.now }
 {
-    for (at, byte) in piece.iter().enumerate() {
-        if *byte == b'\n' {
-            *left = left.saturating_sub(1);
-            if *left == 0 {
-                return at + 1;
-            }
+    for at in memchr_iter(b'\n', piece) {
+        *left = left.saturating_sub(1);
+        if *left == 0 {
+            return at.saturating_add(1).min(piece.len());
         }
     }
     piece.len()

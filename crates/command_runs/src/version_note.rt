@@ -10,7 +10,7 @@ use diagnostics::{Class, Colors, Explanation, note_line};
 use guest_memory::SparseMemory;
 use ownership_checker::{LeaseCount, Passed, pass_kept};
 use std::alloc::{AllocError, Global};
-use trace_reader::{ReadFault, Trace, read_long_trace};
+use trace_reader::{Counted, ReadFault, RowReader, Trace, read_long_trace};
 use traces::{Header, Version};
 
 /// What a person is told of a verdict, beside its line; of a refused row also which later version doesn't refuse it, and of an accepted
@@ -64,6 +64,9 @@ pub(crate) fn version_note(
     text: &[u8],
     row: u32,
 ) -> Result<Option<&'static str>, AllocError> {
+    if is_of_newest(alloc, text) {
+        return Ok(None);
+    }
     let trace = match read_long_trace(alloc, text) {
         Ok(trace) => trace,
         Err(ReadFault::Line { .. }) => return Ok(None),
@@ -77,6 +80,14 @@ pub(crate) fn version_note(
         return Ok(Some("judged by version 4 this row breaks no rule"));
     }
     Ok(None)
+}
+
+/// Whether a trace is of the newest version, by its header alone.
+fn is_of_newest(alloc: Global, text: &[u8]) -> bool {
+    match RowReader::open(alloc, true, &mut Counted::new(text)) {
+        Ok(reader) => reader.header().version.has_isoch(),
+        Err(_) => false,
+    }
 }
 
 /// Whether a version refuses neither this row of a trace nor one before it.

@@ -20,4 +20,4 @@ pub use faults::{
 };
 pub use layout::{error_line, help_line, note_line};
 pub use replays::diagnostic_of_step;
-pub use source::quote;
+pub use source::{lines_to, quote};

@@ -2,15 +2,28 @@
 ghost use Rattle.std.specs.Prelude.{◌≡◌, IfOk};
 
 use crate::diagnostic::Quote;
+use memchr::memchr_iter;
 use std::alloc::{AllocError, Global};
 
 /// How many bytes of a line are quoted.
 const QUOTED: usize = 76;
 
+/// The first so many lines of a text, with their line feeds.
+pub fn lines_to(text: &[u8], lines: u32) -> &[u8] {
+    let Some(before) = lines.checked_sub(1) else {
+        return &[];
+    };
+    match memchr_iter(b'\n', text).nth(before as usize) {
+        Some(at) => text.get(..=at).unwrap_or(text),
+        None => text,
+    }
+}
+
 /// The bytes of a line, which is counted from 1, without its line feed.
 pub(crate) fn line_at(text: &[u8], line: u32) -> &[u8] {
-    let before = line.saturating_sub(1) as usize;
-    text.split(|b| *b == b'\n').nth(before).unwrap_or(&[])
+    let before = lines_to(text, line.saturating_sub(1)).len();
+    let rest = text.get(before..).unwrap_or(&[]);
+    rest.split(|b| *b == b'\n').next().unwrap_or(&[])
 }
 
 /// A line of a text, with what it has to do with the matter.

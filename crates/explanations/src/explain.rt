@@ -9,7 +9,7 @@ use command_findings::{
 };
 use commands::Command;
 use controller_findings::impossible_event;
-use diagnostics::{Diagnostic, Explanation, Matter, View, quote};
+use diagnostics::{Diagnostic, Explanation, Matter, View, lines_to, quote};
 use guest_memory::Addr;
 use move_findings::bad_move;
 use ownership_rules::Refusal;
@@ -49,15 +49,6 @@ pub fn diagnostic_of_refused(
         Some(trace) => diagnostic_of(alloc, text, &trace, row, refusal),
         None => diagnostic_alone(alloc, text, row, refusal),
     }
-}
-
-/// The lines of a text up to one.
-fn lines_to(text: &[u8], line: u32) -> &[u8] {
-    let mut end = 0usize;
-    for bytes in text.split(|b| *b == b'\n').take(line as usize) {
-        end = end.saturating_add(bytes.len()).saturating_add(1);
-    }
-    &text[..end.min(text.len())]
 }
 
 /// The diagnostic of a row of which nothing but its rule is told.
