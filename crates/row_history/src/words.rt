@@ -86,7 +86,7 @@ pub fn why_refused(refusal: Refusal) -> &'static str {
         Refusal::BadMove =>
             "Set TR Dequeue Pointer names the beginning of a TD, or the end of all, that the controller cannot have passed, with all before it handed over; an endpoint gets a ring that no other had, at its first TRB, with DCS 1",
         Refusal::BadWithdraw =>
-            "an endpoint that has the ring is Stopped, no unfinished command touches it, and a TD begins there that was neither passed nor withdrawn before",
+            "an endpoint that has the ring is Stopped, no unfinished command touches it, and the TD is there whole",
         Refusal::NotRestored =>
             "a withdrawn TRB that was handed over stands as a No Op, words 0 to 2 being 0 and word 3 00002000 with its Cycle bit, before the doorbell or the Set TR Dequeue Pointer",
         Refusal::BadFree =>
