@@ -1,5 +1,6 @@
 ghost use Rattle.std.specs.Prelude.{◌≡◌, ◌+◌, ◌-◌, ◌%◌, ◌<◌, ◌≤◌, ◌^◌, ◌==◌, ◌||◌, not, ℕ, max, true, false, [], ◌∷◌, length, slice_get, slice_index, slice_index_or, slice_set, IfOk, IfSome, OnOk, OnErr};
 ghost use Rattle.std.specs.List.{list_any};
+ghost use Rattle.trb.specs.Descriptor.{most_blocks};
 ghost use Rattle.segments.specs.Spots.{number};
 ghost use Rattle.segments.specs.ShapeValue.{Shape};
 ghost use Rattle.segments.specs.Places.{address_of, cycle_of, ends, link_address, link_crossed, links, overlap, place_count};
@@ -70,7 +71,7 @@ pub struct RingRecord {
     count: u64,
     ghost floor_fits: { number floor < 2 ^ 63 },
     ghost forgotten_fits: { forgotten ≤ 2 ^ 61 },
-    ghost end_fits: { forgotten + length blocks.items ≤ 2 ^ 62 + 256 },
+    ghost end_fits: { forgotten + length blocks.items ≤ 2 ^ 62 + most_blocks },
 }
 
 impl RingRecord {
@@ -108,7 +109,7 @@ impl RingRecord {
     /// of what is known.
     pub fn declare(&mut self, blocks: &[Block]) -> Result<(), AllocError>
         requires some { 0 < length blocks.now }
-        requires few { length blocks.now ≤ 256 }
+        requires few { length blocks.now ≤ most_blocks }
         ensures ok { OnOk result ((shape : Shape) (v : RingView) → FollowsRing shape v self.old →
             has_no_room shape v (length blocks.now) ≡ false → FollowsRing shape (changed shape v (Declares blocks.now)) self.new) }
         ensures err { OnErr result ((shape : Shape) (v : RingView) → FollowsRing shape v self.old → FollowsRing shape v self.new) }
@@ -144,7 +145,7 @@ impl RingRecord {
     fn declare_several(&mut self, blocks: &[Block]) -> Result<(), AllocError>
         requires room { self.old.forgotten + length self.old.blocks.items ≤ 2 ^ 62 }
         requires some { 0 < length blocks.now }
-        requires few { length blocks.now ≤ 256 }
+        requires few { length blocks.now ≤ most_blocks }
         ensures ok { OnOk result ((shape : Shape) (v : RingView) → FollowsRing shape v self.old →
             has_no_room shape v (length blocks.now) ≡ false → FollowsRing shape (changed shape v (Declares blocks.now)) self.new) }
         ensures err { OnErr result ((shape : Shape) (v : RingView) → FollowsRing shape v self.old → FollowsRing shape v self.new) }

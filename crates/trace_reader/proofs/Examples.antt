@@ -1,9 +1,10 @@
 -- Texts that are read and printed, on literals
 use Rattle.trace_reader.proofs.Words.{◌≡◌, ℕ, false, ⊤, List, [], ◌∷◌, ◌++◌, Result, Ok, Err, codes, refl, Bytes32, Evt, Xfer, lines_of, fields_of, number_of, digits_of, LineFault, Number, Shape, Usbcmd, Usbsts, Crcr, Ring, One, Two, Version, Row, RingRow, FreeRow, NopRow, Sub, Write, Reg, Bell, Read, most_lines_of, kind_named, register_named, form_of, said_of, block_of, blocks_of, register_value_of, segments_of, word_address_of, TraceText, after, form_in, is_bad_number, is_bad_row, is_bad_shape, is_past_limit, is_too_long, line_fault, read_line, read_lines, row_fault, said_in, size_of, trace_of, version_of, printed_line, printed_trace, ring_fields, row_fields, trace_lines, hex_on_literals, BadHeader, BadRow, version_word, RegRead, Three, Four}
 use Rattle.trace_reader.specs.Values.{segment_of}
+use Rattle.traces.specs.Limits.{most_bytes_of, most_declared_of}
 
 unfoldable texts_on_literals : ⊤
-unfolding most_lines_of trace_of read_lines read_line line_fault row_fault after lines_of fields_of number_of hex_on_literals form_of kind_named register_named block_of blocks_of register_value_of said_of segment_of segments_of word_address_of form_in is_bad_number is_bad_row is_bad_shape is_past_limit is_too_long version_of said_in size_of printed_trace trace_lines printed_line row_fields ring_fields digits_of
+unfolding most_lines_of most_bytes_of most_declared_of trace_of read_lines read_line line_fault row_fault after lines_of fields_of number_of hex_on_literals form_of kind_named register_named block_of blocks_of register_value_of said_of segment_of segments_of word_address_of form_in is_bad_number is_bad_row is_bad_shape is_past_limit is_too_long version_of said_in size_of printed_trace trace_lines printed_line row_fields ring_fields digits_of
 texts_on_literals = tt
 
 -- what is read in this version behind the header of one transfer ring

@@ -1,6 +1,7 @@
 -- Lines whose fields stand at fixed places
 use Rattle.trace_reader.proofs.LowerLaws.{rules, ◌≡◌, ◌+◌, ◌≤◌, ◌<◌, ◌∷◌, ◌++◌, ◌∙◌, ℕ, suc, Bool, true, false, List, [], length, slice_index, take, drop, nat_lt, Some, Ok, All, refl, ap, sym, subst, arith, codes, w8, w32, w64, digits_without_space, take-append-drop, slice_split_at, slice_split_none, SaysAlone, HasBytes, Width, byte_len, bytes_of_8, bytes_of_32, bytes_of_64, length-digits_of, number_of, said, fields_of, has_empty_field, is_empty, is_space, All-cons, All-nil, All-head, All-tail, nat_tests, common_steps, slice_split, str_to_ascii_lowercase, to_ascii_lowercase, content_fault, said_by_fields, most_bytes, form_of, said_of, block_of, word_address_of, Block, blocks_of, register_value_of, Row, Sub, Write, Bell, Read, Reg, Register, register_name, append_assoc, bytes_eq, SaysRow, Version, drop-cons, drop-drop, get_or-drop, length-drop, then_there, words_there}
 use Rattle.trace_reader.proofs.SpelledWords.{value_there, word_register}
+use Rattle.trace_reader.proofs.Limits.{short_in_each}
 
 -- ---- a number is a field
 
@@ -67,7 +68,9 @@ pub by_name : (content name : List ℕ) (n : ℕ) (fields : List (List ℕ)) (ro
     slice_index content n ≡ 32 → fields_of (drop (suc n) content) ≡ fields → has_empty_field (name ∷ fields) ≡ false →
     ((version : Version) (begun : Bool) → said_by_fields version begun (name ∷ fields) ≡ Ok (SaysRow row)) → SaysAlone row content
 unfolding content_fault
-by_name content name n fields row short inside is plain space behind full says = grind (arith, field_from, rw (is, behind) at (field_from content 0 n n (omega arith) inside space (rw is plain)))
+by_name content name n fields row short inside is plain space behind full says = λ version begun.
+    let few = short_in_each version (length content) short in
+    rw few (grind (arith, field_from, rw (is, behind) at (field_from content 0 n n (omega arith) inside space (rw is plain))))
 
 same_name : (register : Register) → bytes_eq (register_name register) (register_name register) ≡ true
 same_name register = search rules

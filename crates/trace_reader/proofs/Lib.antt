@@ -22,6 +22,7 @@ pub mod SpelledTraces
 pub mod Spelled
 pub mod Printed
 pub mod Unspelled
+pub mod Limits
 pub mod Lowered
 pub mod LineByLine
 pub mod SpelledPlans

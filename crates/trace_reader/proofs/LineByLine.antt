@@ -6,14 +6,14 @@ module _ {Form Value : Type 0} (form_of : List (List ℕ) → Option Form) (valu
   -- ---- by its content and its fields
 
   pub by_content : (line : TextLine) →
-      line_says form_of value_of fault_of line ≡ option_map_or Err (content_fault line) (faulted_by fault_of (valued_by value_of (form_of (fields_of line.content))))
+      line_says form_of value_of fault_of line ≡ option_map_or Err (content_fault most_bytes line) (faulted_by fault_of (valued_by value_of (form_of (fields_of line.content))))
   unfolding line_says content_fault is_too_long
   by_content line = search rules
 
   -- ---- a line without a fault
 
   record IsGoodLine (line : TextLine) (value : Value) : Type 0 where
-    short : is_too_long line ≡ false
+    short : is_too_long most_bytes line ≡ false
     ended : line.is_ended ≡ true
     filled : has_empty_field (fields_of line.content) ≡ false
     form : Form

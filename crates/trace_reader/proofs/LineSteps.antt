@@ -1,14 +1,15 @@
 -- One line more of a text whose lines don't depend on each other
 use Rattle.trace_reader.proofs.LowerLaws.{rules, ◌≡◌, ◌+◌, ◌∷◌, ◌++◌, ◌∙◌, ℕ, List, [], Option, Some, None, Result, Ok, Err, refl, ap, length, arith, common_steps, fields_of, TextLine, lines_of, LineError, LineFault, IfBadLine, at_line, content_fault, AnswersBy, faulted_by, valued_by, line_says, lines_say, next_value, by_content}
+use Rattle.traces.specs.Limits.{most_bytes}
 
 -- ---- a line
 
 module _ {Form Value : Type 0} (form_of : List (List ℕ) → Option Form) (value_of : Form → Option Value) (fault_of : Value → Option LineFault) where
   -- a fault of its content is the line's
-  pub content_faulty : (line : TextLine) (fault : LineFault) → content_fault line ≡ Some fault → line_says form_of value_of fault_of line ≡ Err fault
+  pub content_faulty : (line : TextLine) (fault : LineFault) → content_fault most_bytes line ≡ Some fault → line_says form_of value_of fault_of line ≡ Err fault
   content_faulty line fault is = search (rules, by_content)
 
-  pub content_whole : (line : TextLine) (content : List ℕ) → content_fault line ≡ None → content ≡ line.content →
+  pub content_whole : (line : TextLine) (content : List ℕ) → content_fault most_bytes line ≡ None → content ≡ line.content →
       line_says form_of value_of fault_of line ≡ faulted_by fault_of (valued_by value_of (form_of (fields_of content)))
   content_whole line content whole is = search (rules, by_content)
 

@@ -1,6 +1,8 @@
 -- The row of a text's first line, found by the places of its fields
-use Rattle.trace_reader.proofs.MiddleLaws.{rules, ◌≡◌, ◌≤◌, ◌<◌, ◌+◌, ◌∷◌, ◌++◌, ◌∙◌, ℕ, zero, suc, List, [], true, false, Option, None, Some, IfSome, Ok, All, length, take, slice_index, refl, ap, subst, arith, ne_eqb, nat_tests, and_parts, All-join, All-cons, All-head, All-nil, All-tail, All-weaker, join-fields_of, str_to_ascii_lowercase, to_ascii_lowercase, is_line_feed, fields_of, TextLine, Field, may_be_written, are_written, Row, begins_with_ring, SaysRow, One, most_of, is_too_much, next_number, behind_row, read_line, State, start, said_by_line, SaysAlone, BeginsWithRow, alone, fewer_kept, not_limited, line_entry, AllSound, same_bytes, said_sound, step_from_read, fields_said}
+use Rattle.trace_reader.proofs.MiddleLaws.{rules, ◌≡◌, ◌≤◌, ◌<◌, ◌+◌, ◌∷◌, ◌++◌, ◌∙◌, ℕ, zero, suc, List, [], true, false, Option, None, Some, IfSome, Ok, All, length, take, slice_index, refl, ap, subst, arith, ne_eqb, nat_tests, and_parts, All-join, All-cons, All-head, All-nil, All-tail, All-weaker, join-fields_of, str_to_ascii_lowercase, to_ascii_lowercase, is_line_feed, fields_of, TextLine, Field, may_be_written, are_written, Row, begins_with_ring, SaysRow, One, most_of, next_number, behind_row, read_line, State, start, said_by_line, SaysAlone, BeginsWithRow, alone, fewer_kept, not_limited, line_entry, AllSound, same_bytes, said_sound, step_from_read, fields_said}
 use Rattle.trace_reader.proofs.RowLines.{plain_placed}
+use Rattle.traces.specs.TraceRows.{declares_too_much}
+use Rattle.traces.specs.declared.version.Version.{Version}
 
 -- ---- the bytes of a line that is read
 
@@ -31,15 +33,15 @@ without_line_feed st line row behind is =
 
 -- ---- the first line
 
--- no ring comes by it, and it has not too many blocks
+-- no ring comes by it, and it has not too many blocks for any version
 abbrev pub IsOrdinary : Row → Type 0
-IsOrdinary row = (begins_with_ring (row ∷ []) ≡ false) × (is_too_much (SaysRow row) ≡ false)
+IsOrdinary row = (begins_with_ring (row ∷ []) ≡ false) × ((version : Version) → declares_too_much version row ≡ false)
 
 says_behind : (st : State) (content : List ℕ) (row : Row) → SaysAlone row content → IsOrdinary row → 2 ≤ st.lines → next_number st ≤ most_of st →
     read_line st (record { content = content; is_ended = true }) ≡ Ok (behind_row st row, Some row)
 says_behind st content row says is behind within =
     let line : TextLine = record { content = content; is_ended = true } in
-    let said : said_by_line st line ≡ Ok (SaysRow row) = alone st line st.version st.begun refl refl ∙ not_limited (most_of st) (next_number st) (SaysRow row) _ (says st.version st.begun) within is.1 in
+    let said : said_by_line st line ≡ Ok (SaysRow row) = alone st line st.version st.begun refl refl ∙ not_limited st.version (most_of st) (next_number st) (SaysRow row) _ (says st.version st.begun) within (is.1 st.version) in
     line_entry st line (SaysRow row) behind said ∙ plain_placed st row is.0
 
 abbrev somewhere : State

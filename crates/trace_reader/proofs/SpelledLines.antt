@@ -1,8 +1,12 @@
 -- A line without a fault: what it says, and that it spells it
-use Rattle.trace_reader.proofs.LowerLaws.{rules, ◌≡◌, ◌≤◌, ◌||◌, ◌∙◌, ℕ, Bool, true, false, not, nat_lt, Option, Some, None, Ok, Err, is_none, refl, sym, ap, arith, le-ltb, ltb-false, ne_eqb, option_and_then, option_map_or, not-false, or_parts, fields_of, has_empty_field, TextLine, length-fields_of, is_shape, LineFault, Ring, Row, row_fields, Form, most_of, most_declared, State, next_number, form_in, said_in, is_bad_row, is_bad_number, is_too_much, is_past_limit, is_too_long, is_misplaced, is_bad_shape, row_fault, line_fault, with_said, after, read_line, said_of, Said, SaysRing, AllSound, all_filled, then_there, written_lengths}
-use Rattle.trace_reader.proofs.SpelledSaid.{IsRead, IsSpelled, fields_said, read_from_spelled, spelled_from_read, stands}
+use Rattle.trace_reader.proofs.LowerLaws.{rules, ◌≡◌, ◌≤◌, ◌||◌, ◌∙◌, ℕ, Bool, true, false, not, nat_lt, Option, Some, None, Ok, Err, is_none, refl, sym, ap, arith, le-ltb, ltb-false, ne_eqb, option_and_then, option_map_or, not-false, or_parts, fields_of, has_empty_field, TextLine, length-fields_of, is_shape, LineFault, Ring, Row, row_fields, Form, most_of, State, next_number, form_in, said_in, is_bad_row, is_bad_number, is_too_much, is_past_limit, is_too_long, is_misplaced, is_bad_shape, row_fault, line_fault, with_said, after, read_line, said_of, Said, SaysRing, AllSound, all_filled, then_there, written_lengths}
+use Rattle.trace_reader.proofs.SpelledSaid.{FitsSaid, IsRead, IsSpelled, fields_said, read_from_spelled, spelled_from_read, stands}
 use Rattle.trace_reader.proofs.SpelledHeaders.{shape_says}
 use Rattle.trace_reader.proofs.SpelledSizes.{row_sound, ring_sound, sub_length, write_length, reg_length, reg_read_length, bell_length, read_length, ring_length, goes_length, withdraws_length}
+use Rattle.std.proofs.Common.{List, length, map}
+use Rattle.trace_reader.proofs.Words.{printed, spaced_length}
+use Rattle.traces.specs.Limits.{most_bytes_of}
+use Rattle.traces.specs.declared.version.Version.{Version}
 
 -- the line spells it, and it may stand there
 pub record IsGood (st : State) (line : TextLine) (s : Said) : Type 0 where
@@ -10,13 +14,13 @@ pub record IsGood (st : State) (line : TextLine) (s : Said) : Type 0 where
   pub spelled : IsSpelled s (fields_of line.content)
   pub ordered : stands st.version st.begun s ≡ true
   pub within : next_number st ≤ most_of st
-  pub few : is_too_much s ≡ false
+  pub few : is_too_much st.version s ≡ false
   pub placed : is_misplaced st.rings st.later s ≡ false
 
 -- ---- from no fault
 
 record NoFaults (st : State) (line : TextLine) : Type 0 where
-  short : is_too_long line ≡ false
+  short : is_too_long (most_bytes_of st.version) line ≡ false
   row : is_bad_row st line ≡ false
   number : is_bad_number st line ≡ false
   limit : is_past_limit st line ≡ false
@@ -70,7 +74,7 @@ unfolding is_bad_number is_past_limit is_bad_shape
 good_from_none st line none =
     let n = no_faults st line none in
     let is = there (said_in st line) n.number in
-    let limits = or_parts (nat_lt (most_of st) (next_number st)) (option_map_or is_too_much (said_in st line) false) n.limit in (
+    let limits = or_parts (nat_lt (most_of st) (next_number st)) (option_map_or (is_too_much st.version) (said_in st line) false) n.limit in (
       is.0,
       is.1,
       record {
@@ -88,15 +92,23 @@ good_from_none st line none =
 pub said_sound : (s : Said) → AllSound (fields_said s)
 said_sound s = search (rules, row_sound, ring_sound)
 
-pub few_blocks : (n : ℕ) → nat_lt most_declared n ≡ false → n ≤ most_declared
-few_blocks n few = ltb-false most_declared n few
-
 allowed : (ring : Ring) (other : Bool) → (not (is_shape ring.shape) || other) ≡ false → is_shape ring.shape ≡ true
 allowed ring other placed = not-false (is_shape ring.shape) ((or_parts (not (is_shape ring.shape)) other placed).0)
 
-short_line : (st : State) (line : TextLine) (s : Said) → IsGood st line s → is_too_long line ≡ false
-unfolding is_too_long row_fields
-short_line st line s good = search (rules, length-fields_of, written_lengths, fields_said, sub_length, few_blocks, write_length, reg_length, reg_read_length, bell_length, read_length, ring_length, shape_says, allowed, goes_length, withdraws_length)
+short_said : (version : Version) (rings : List Ring) (later : List ℕ) (s : Said) → FitsSaid s → is_too_much version s ≡ false → is_misplaced rings later s ≡ false →
+    spaced_length (map printed (fields_said s)) ≤ most_bytes_of version
+unfolding row_fields
+short_said version rings later s fits few placed = search (rules, fields_said, sub_length, write_length, reg_length, reg_read_length, bell_length, read_length, ring_length, shape_says, allowed, goes_length, withdraws_length)
+
+short_line : (st : State) (line : TextLine) (s : Said) → IsGood st line s → is_too_long (most_bytes_of st.version) line ≡ false
+unfolding is_too_long
+short_line st line s good =
+    le-ltb (most_bytes_of st.version) (length line.content) (omega (
+      arith,
+      length-fields_of line.content,
+      written_lengths (fields_said s) (fields_of line.content) good.spelled.written,
+      short_said st.version st.rings st.later s good.spelled.fits good.few good.placed,
+    ))
 
 read_in : (st : State) (line : TextLine) (s : Said) → IsRead st.version st.begun s (fields_of line.content) → said_in st line ≡ Some s
 unfolding said_in form_in

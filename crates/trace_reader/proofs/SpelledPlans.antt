@@ -1,5 +1,8 @@
 -- What is read of a text is the valid plan that the text spells
-use Rattle.trace_reader.proofs.UpperLaws.{rules, ◌≡◌, ◌<◌, ◌≤◌, ◌^◌, ◌∷◌, ◌∙◌, ℕ, inl, inr, true, false, List, [], length, map, None, Result, Ok, All, IsTrue, refl, sym, ap, arith, codes, le-ltb, and_parts, and_from, cases_Bool, or_parts, fields_of, TextLine, lines_of, is_shape, IsBlock, RingKind, Evt, LineFault, PlanLine, Ret, Ring, is_event_kind, most_lines, lines_say, PlanText, declares_too_much, is_plan_version, plan_form_of, plan_in, plan_line, plan_line_fault, plan_of, plan_ring, plan_ring_fault, plan_value, ret_line, ring_alone, ring_line_form, ring_value, plan_sub_line, with_ring, IsPlan, plan_line_fields, plan_text_lines, plan_version_fields, spells_plan, IsPlanLine, are_written, is_written, lines_written, ring_fields, AreLines, IsSaid, table_read, table_written, AreSpelled, IsSpelling, line_read, line_spells, lines_read, lines_spell, two_words, words_written, are_same_bytes, FitsRing, ring_fits, shape_says, few_blocks, blocks_length, blocks_sound, digits_64, digits_8, ring_length, ring_sound, sixteen_digits, sound_named, two_digits}
+use Rattle.trace_reader.proofs.UpperLaws.{rules, ◌≡◌, ◌<◌, ◌≤◌, ◌^◌, ◌∷◌, ◌∙◌, ℕ, inl, inr, true, false, List, [], length, map, None, Result, Ok, All, IsTrue, refl, sym, ap, arith, codes, le-ltb, and_parts, and_from, cases_Bool, or_parts, fields_of, TextLine, lines_of, is_shape, IsBlock, RingKind, Evt, LineFault, PlanLine, Ret, Ring, is_event_kind, most_lines, lines_say, PlanText, plans_too_much, is_plan_version, plan_form_of, plan_in, plan_line, plan_line_fault, plan_of, plan_ring, plan_ring_fault, plan_value, ret_line, ring_alone, ring_line_form, ring_value, plan_sub_line, with_ring, IsPlan, plan_line_fields, plan_text_lines, plan_version_fields, spells_plan, IsPlanLine, are_written, is_written, lines_written, ring_fields, AreLines, IsSaid, table_read, table_written, AreSpelled, IsSpelling, line_read, line_spells, lines_read, lines_spell, two_words, words_written, are_same_bytes, FitsRing, ring_fits, shape_says, blocks_length, blocks_sound, digits_64, digits_8, ring_length, ring_sound, sixteen_digits, sound_named, two_digits}
+use Rattle.trace_reader.proofs.Limits.{few_blocks}
+use Rattle.traces.specs.Limits.{most_bytes_of}
+use Rattle.traces.specs.declared.version.Version.TheVariants.{One}
 use Rattle.traces.specs.declared.plan.PlanLine.TheVariants.{Sub}
 
 -- ---- the ring's line
@@ -17,12 +20,12 @@ ring_is_said ring =
     record { line = ring_alone; says = (ring.id, (ring.shape.kind, ring.shape.segments)); makes = refl; named = refl; spelled = refl; fits = λ is. (is.id, (tt, (is.segments, is.some))) }
 
 ring_spelling : IsSpelling ring_line_form ring_value plan_ring_fault ring_fields FitsRing
-unfolding ring_line_form ring_value
+unfolding ring_line_form ring_value most_bytes_of
 ring_spelling = record {
   to_fields = table_written ring_fields FitsRing (ring_alone ∷ []) ring_is_line;
   to_form = table_read ring_fields FitsRing (ring_alone ∷ []) ring_is_said;
   sound = ring_sound;
-  short = λ ring fits none. ring_length ring ((shape_says ring.shape ((plan_ring_tests ring none).0)).few);
+  short = λ ring fits none. ring_length One ring ((shape_says ring.shape ((plan_ring_tests ring none).0)).few);
 }
 
 -- ---- the other lines
@@ -40,7 +43,7 @@ unfolding plan_line_fields FitsPlanLine
 each_is_said (Sub ring blocks) = record { line = plan_sub_line; says = (ring, blocks); makes = refl; named = refl; spelled = refl; fits = λ is. (is.0, (is.1, is.2)) }
 each_is_said (Ret upto) = record { line = ret_line; says = (upto, tt); makes = refl; named = refl; spelled = refl; fits = λ is. (is, tt) }
 
-line_limits : (number : ℕ) (line : PlanLine) → plan_line_fault number line ≡ None → (number ≤ most_lines) × (declares_too_much line ≡ false)
+line_limits : (number : ℕ) (line : PlanLine) → plan_line_fault number line ≡ None → (number ≤ most_lines) × (plans_too_much line ≡ false)
 line_limits number line none = search (rules, or_parts)
 
 line_spelling : (number : ℕ) → IsSpelling plan_form_of plan_value (plan_line_fault number) plan_line_fields FitsPlanLine
@@ -52,7 +55,7 @@ line_spelling number = record {
   short = (search (rules, few_blocks, line_limits, two_digits, blocks_length, sixteen_digits));
 }
 
-fits_from_line : (line : PlanLine) → IsPlanLine line → FitsPlanLine line × (declares_too_much line ≡ false)
+fits_from_line : (line : PlanLine) → IsPlanLine line → FitsPlanLine line × (plans_too_much line ≡ false)
 unfolding FitsPlanLine
 fits_from_line line is = search rules
 

@@ -1,13 +1,6 @@
 -- What a line of a trace says, and how it is written
-use Rattle.trace_reader.proofs.LowerLaws.{rules, ◌≡◌, ◌≢◌, ◌<◌, ◌^◌, ◌&&◌, ◌||◌, ◌∷◌, ℕ, Bool, true, not, List, [], length, Some, All, refl, is_wide, IsRow, Ring, Row, Sub, Write, Reg, Bell, Read, RingRow, FreeRow, NopRow, Version, begins_with_ring, is_of_version, Field, are_written, row_fields, ring_fields, Form, form_of, said_of, sub_line, write_line, reg_line, bell_line, event_line, ring_line, comes_line, goes_line, withdraws_line, Said, SaysRow, SaysRing, FitsSegment, reg_read_line, said_lines, RegRead, has_runs, KindOfRing}
+use Rattle.trace_reader.proofs.LowerLaws.{rules, ◌≡◌, ◌≢◌, ◌<◌, ◌^◌, ◌&&◌, ◌||◌, ◌∷◌, ℕ, Bool, true, not, List, [], length, Some, All, refl, FitsLine, IsRow, Ring, Row, Sub, Write, Reg, Bell, Read, RingRow, FreeRow, NopRow, Version, begins_with_ring, is_of_version, Field, are_written, row_fields, ring_fields, Form, form_of, said_of, sub_line, write_line, reg_line, bell_line, event_line, ring_line, comes_line, goes_line, withdraws_line, Said, SaysRow, SaysRing, FitsSegment, reg_read_line, said_lines, RegRead, has_runs, KindOfRing}
 use Rattle.trace_reader.proofs.Grammar.{AreLines, Fits, IsSaid, said_read, table_written}
-
--- a declaration has a block at least, and a register of 32 bits a value of 32
-abbrev pub FitsText : Row → Type 0
-FitsText (Sub ring blocks) = 0 < length blocks
-FitsText (Reg register value) = is_wide register ≢ true → value < 2 ^ 32
-FitsText (RegRead register value) = is_wide register ≢ true → value < 2 ^ 32
-FitsText row = Unit {0}
 
 -- its numbers fit the digits for them
 pub record FitsRing (ring : Ring) : Type 0 where
@@ -17,7 +10,7 @@ pub record FitsRing (ring : Ring) : Type 0 where
 
 abbrev pub FitsRow : Row → Type 0
 FitsRow (RingRow ring) = FitsRing ring
-FitsRow row = IsRow row × FitsText row
+FitsRow row = IsRow row × FitsLine row
 
 abbrev pub FitsSaid : Said → Type 0
 FitsSaid (SaysRow row) = FitsRow row

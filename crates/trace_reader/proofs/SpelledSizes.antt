@@ -1,5 +1,8 @@
 -- The fields of rows and rings: none is empty or has a space, and all fit a line
-use Rattle.trace_reader.proofs.LowerLaws.{rules, common_steps, ◌≡◌, ◌*◌, ◌<◌, ◌≤◌, ◌∷◌, ◌∙◌, ℕ, true, List, [], length, map, All, refl, ap, arith, codes, nat_lt, w8, w32, w64, ltb-true, flat_map, list_all, map-append, AllPass-from_list_all, All-weaker, All-append, All-head, All-tail, digits_of, digits_stay_lower, length-digits_of, spaced_length, IsBlock, ring_name, Block, RingKind, Segment, register_name, most_bytes, most_declared, Word, Digits, printed, block_fields, segment_field, row_fields, ring_fields, Register, Ring, Sub, Write, Reg, Bell, Read, Row, FreeRow, NopRow, IsSound, AllSound, sound_word, sound_digits, sound_append, sound_map, plain_digits, are_same_bytes, spaced_length-append, word_field, RegRead}
+use Rattle.trace_reader.proofs.LowerLaws.{rules, common_steps, ◌≡◌, ◌*◌, ◌<◌, ◌≤◌, ◌∷◌, ◌∙◌, ℕ, true, false, List, [], length, map, All, refl, ap, arith, codes, nat_lt, w8, w32, w64, ltb-true, flat_map, list_all, map-append, AllPass-from_list_all, All-weaker, All-append, All-head, All-tail, digits_of, digits_stay_lower, length-digits_of, spaced_length, IsBlock, ring_name, Block, RingKind, Segment, register_name, Word, Digits, printed, block_fields, segment_field, row_fields, ring_fields, Register, Ring, Sub, Write, Reg, Bell, Read, Row, FreeRow, NopRow, IsSound, AllSound, sound_word, sound_digits, sound_append, sound_map, plain_digits, are_same_bytes, spaced_length-append, word_field, RegRead}
+use Rattle.traces.specs.Limits.{most_bytes_of, most_declared_of}
+use Rattle.traces.specs.declared.version.Version.{Version}
+use Rattle.trace_reader.proofs.Limits.{blocks_fit, bytes_within}
 
 -- ---- soundness
 
@@ -77,38 +80,38 @@ eight_digits n = length-digits_of w32 n
 pub sixteen_digits : (n : ℕ) → length (digits_of w64 n) ≡ 16
 sixteen_digits n = length-digits_of w64 n
 
-pub sub_length : (ring : ℕ) (blocks : List Block) → All IsBlock blocks → length blocks ≤ most_declared → spaced_length (map printed (row_fields (Sub ring blocks))) ≤ most_bytes
+pub sub_length : (version : Version) (ring : ℕ) (blocks : List Block) → All IsBlock blocks → nat_lt (most_declared_of version) (length blocks) ≡ false → spaced_length (map printed (row_fields (Sub ring blocks))) ≤ most_bytes_of version
 unfolding row_fields
-sub_length ring blocks are few = omega (arith, two_digits ring, blocks_length blocks are)
+sub_length version ring blocks are few = omega (arith, two_digits ring, blocks_length blocks are, blocks_fit version (length blocks) few)
 
-pub write_length : (at word : ℕ) → spaced_length (map printed (row_fields (Write at word))) ≤ most_bytes
+pub write_length : (version : Version) (at word : ℕ) → spaced_length (map printed (row_fields (Write at word))) ≤ most_bytes_of version
 unfolding row_fields
-write_length at word = omega (arith, sixteen_digits at, eight_digits word)
+write_length version at word = omega (arith, bytes_within version, sixteen_digits at, eight_digits word)
 
-pub reg_length : (register : Register) (value : ℕ) → spaced_length (map printed (row_fields (Reg register value))) ≤ most_bytes
+pub reg_length : (version : Version) (register : Register) (value : ℕ) → spaced_length (map printed (row_fields (Reg register value))) ≤ most_bytes_of version
 unfolding row_fields
-reg_length register value = omega (arith, register_length register, sixteen_digits value)
+reg_length version register value = omega (arith, bytes_within version, register_length register, sixteen_digits value)
 
-pub reg_read_length : (register : Register) (value : ℕ) → spaced_length (map printed (row_fields (RegRead register value))) ≤ most_bytes
+pub reg_read_length : (version : Version) (register : Register) (value : ℕ) → spaced_length (map printed (row_fields (RegRead register value))) ≤ most_bytes_of version
 unfolding row_fields
-reg_read_length register value = omega (arith, register_length register, sixteen_digits value)
+reg_read_length version register value = omega (arith, bytes_within version, register_length register, sixteen_digits value)
 
-pub bell_length : (slot target : ℕ) → spaced_length (map printed (row_fields (Bell slot target))) ≤ most_bytes
+pub bell_length : (version : Version) (slot target : ℕ) → spaced_length (map printed (row_fields (Bell slot target))) ≤ most_bytes_of version
 unfolding row_fields
-bell_length slot target = omega (arith, two_digits slot, two_digits target)
+bell_length version slot target = omega (arith, bytes_within version, two_digits slot, two_digits target)
 
-pub read_length : (event : Block) → IsBlock event → spaced_length (map printed (row_fields (Read event))) ≤ most_bytes
+pub read_length : (version : Version) (event : Block) → IsBlock event → spaced_length (map printed (row_fields (Read event))) ≤ most_bytes_of version
 unfolding row_fields
-read_length event is = omega (arith, block_length event is)
+read_length version event is = omega (arith, bytes_within version, block_length event is)
 
-pub ring_length : (ring : Ring) → length ring.shape.segments ≤ 64 → spaced_length (map printed (ring_fields ring)) ≤ most_bytes
+pub ring_length : (version : Version) (ring : Ring) → length ring.shape.segments ≤ 64 → spaced_length (map printed (ring_fields ring)) ≤ most_bytes_of version
 unfolding ring_fields
-ring_length ring few = omega (arith, two_digits ring.id, kind_length ring.shape.kind, segments_length ring.shape.segments)
+ring_length version ring few = omega (arith, bytes_within version, two_digits ring.id, kind_length ring.shape.kind, segments_length ring.shape.segments)
 
-pub goes_length : (ring : ℕ) → spaced_length (map printed (row_fields (FreeRow ring))) ≤ most_bytes
+pub goes_length : (version : Version) (ring : ℕ) → spaced_length (map printed (row_fields (FreeRow ring))) ≤ most_bytes_of version
 unfolding row_fields
-goes_length ring = omega (arith, two_digits ring)
+goes_length version ring = omega (arith, bytes_within version, two_digits ring)
 
-pub withdraws_length : (ring position : ℕ) → spaced_length (map printed (row_fields (NopRow ring position))) ≤ most_bytes
+pub withdraws_length : (version : Version) (ring position : ℕ) → spaced_length (map printed (row_fields (NopRow ring position))) ≤ most_bytes_of version
 unfolding row_fields
-withdraws_length ring position = omega (arith, two_digits ring, sixteen_digits position)
+withdraws_length version ring position = omega (arith, bytes_within version, two_digits ring, sixteen_digits position)

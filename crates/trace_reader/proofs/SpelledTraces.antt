@@ -112,7 +112,7 @@ rows_read (row ∷ rows) (line ∷ lines) st behind fit begins new_ids written w
       spelled = record { written = w.1; fits = (search (rules, ring_fits)) };
       ordered = (search (rules, and_from));
       within = omega (arith, within);
-      few = search rules;
+      few = is.2;
       placed = or_from (has_no_shape row) (has_used_id st.rings st.later row) (search rules) (not-true (has_used_id st.rings st.later row) ids.0);
     } in
     let ih = rows_read rows lines (behind_row st row) (omega arith) (All-tail (IsRowOf st.version) row rows fit) (λ e. cc e) ids.1 w.2 (omega (arith, within)) in

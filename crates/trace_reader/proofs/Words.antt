@@ -52,7 +52,7 @@ pub use Rattle.trace_reader.specs.LineByLine.{next_value}
 unfoldable pub use Rattle.trace_reader.specs.LineByLine.{line_says, lines_say}
 pub use Rattle.trace_reader.specs.PlanSpelling.{IsPlan, plan_version_fields}
 unfoldable pub use Rattle.trace_reader.specs.PlanSpelling.{plan_line_fields, plan_text_lines, spells_plan}
-pub use Rattle.trace_reader.specs.Plans.{PlanText, declares_too_much, plan_behind, plan_in, plan_line, plan_line_fault, plan_ring, plan_ring_fault, plan_sub_line, ret_line, ring_alone, with_ring}
+pub use Rattle.trace_reader.specs.Plans.{PlanText, plans_too_much, plan_behind, plan_in, plan_line, plan_line_fault, plan_ring, plan_ring_fault, plan_sub_line, ret_line, ring_alone, with_ring}
 unfoldable pub use Rattle.trace_reader.specs.Plans.{is_plan_version, plan_form_of, plan_of, plan_value, ring_line_form, ring_value}
 pub use Rattle.trace_reader.specs.Printing.{in_a_row, spaced}
 pub use Rattle.trace_reader.specs.Reading.{State, behind_row, go_on, has_no_shape, is_misplaced, is_too_much, most_of, next_number, start, whole, with_row, with_said}

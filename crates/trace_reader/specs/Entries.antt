@@ -31,7 +31,7 @@ use Rattle.trace_reader.specs.Grammar.{form_as}
 use Rattle.trace_reader.specs.Grammar as grammar
 use Rattle.trace_reader.specs.TraceLines.{Form, form_of, said_of, sub_line, write_line, reg_line, bell_line, event_line, ring_line, comes_line, goes_line, withdraws_line, reg_read_line}
 use Rattle.trace_reader.specs.LineAnswers.{valued_by}
-use Rattle.traces.specs.Limits.{most_bytes}
+use Rattle.traces.specs.Limits.{most_bytes_of}
 use Rattle.trace_reader.specs.Reading.{State, behind_row, is_bad_row, is_past_limit, is_misplaced, is_too_long, read_line, said_in, with_said}
 use Rattle.trace_reader.specs.TraceOfText.{TraceText}
 use Rattle.trace_reader.specs.Values.{Said, SaysRow, SaysRing}
@@ -119,17 +119,17 @@ said_by form = valued_by said_of form
 unfoldable pub said_by_fields : Version → Bool → List (List ℕ) → Result Said LineFault
 said_by_fields version begun fields = said_by (form_of version begun fields)
 
--- the fault of a line before its fields are looked at
-unfoldable pub content_fault : TextLine → Option LineFault
-content_fault line =
-    if nat_lt most_bytes (length line.content) then Some Limit
+-- the fault of a line of at most so many bytes before its fields are looked at
+unfoldable pub content_fault : ℕ → TextLine → Option LineFault
+content_fault most line =
+    if nat_lt most (length line.content) then Some Limit
     else if not line.is_ended then Some BadRow
     else if has_empty_field (fields_of line.content) then Some BadRow
     else None
 
 -- a line by itself: its content's fault, or what its fields say
 abbrev pub said_alone : Version → Bool → TextLine → Result Said LineFault
-said_alone version begun line = option_map_or Err (content_fault line) (said_by_fields version begun (fields_of line.content))
+said_alone version begun line = option_map_or Err (content_fault (most_bytes_of version) line) (said_by_fields version begun (fields_of line.content))
 
 -- a line of these bytes says what the driver did, in each version, behind rings and behind rows
 abbrev pub SaysAlone : Row → List ℕ → Type 0
@@ -138,7 +138,7 @@ SaysAlone row content = (version : Version) (begun : Bool) → said_alone versio
 -- a line behind the header, before its ring is placed among the others
 unfoldable pub said_by_line : State → TextLine → Result Said LineFault
 said_by_line st line =
-    if is_too_long line then Err Limit
+    if is_too_long (most_bytes_of st.version) line then Err Limit
     else if is_bad_row st line then Err BadRow
     else option_map_or (λ said. if is_past_limit st line then Err Limit else Ok said) (said_in st line) (Err Number)
 

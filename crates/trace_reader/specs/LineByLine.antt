@@ -5,6 +5,7 @@ use Rattle.line_text.specs.Lines.{TextLine}
 use Rattle.line_text.specs.Fields.{fields_of, has_empty_field}
 use Rattle.trace_reader.specs.declared.fault.LineFault.{LineFault}
 use Rattle.trace_reader.specs.declared.fault.LineFault.TheVariants.{Row as BadRow, Number, Limit}
+use Rattle.traces.specs.Limits.{most_bytes}
 use Rattle.trace_reader.specs.Reading.{is_too_long}
 
 -- 2 Row: no line feed at the end, an empty field, or no form
@@ -22,7 +23,7 @@ unless_fault fault_of value = option_map_or Err (fault_of value) (Ok value)
 -- what a line says, or its least fault; a line of too many bytes has that fault alone
 unfoldable pub line_says : {Form Value : Type 0} → (List (List ℕ) → Option Form) → (Form → Option Value) → (Value → Option LineFault) → TextLine → Result Value LineFault
 line_says form_of value_of fault_of line =
-    if is_too_long line then Err Limit
+    if is_too_long most_bytes line then Err Limit
     else if has_no_form form_of line then Err BadRow
     else option_map_or (unless_fault fault_of) (value_in form_of value_of line) (Err Number)
 

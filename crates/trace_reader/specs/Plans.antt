@@ -54,13 +54,13 @@ plan_form_of fields = form_in (plan_sub_line ∷ ret_line ∷ []) fields
 unfoldable pub plan_value : FormOf PlanLine → Option PlanLine
 plan_value form = value_in form
 
-abbrev pub declares_too_much : PlanLine → Bool
-declares_too_much (Sub ring blocks) = nat_lt most_declared (length blocks)
-declares_too_much (Ret upto) = false
+abbrev pub plans_too_much : PlanLine → Bool
+plans_too_much (Sub ring blocks) = nat_lt most_declared (length blocks)
+plans_too_much (Ret upto) = false
 
 -- 4 Limit: a line past the limit, or too many blocks in one declaration
 abbrev pub is_past_plan_limit : ℕ → PlanLine → Bool
-is_past_plan_limit number line = nat_lt most_lines number || declares_too_much line
+is_past_plan_limit number line = nat_lt most_lines number || plans_too_much line
 
 abbrev pub plan_line_fault : ℕ → PlanLine → Option LineFault
 plan_line_fault number line = if is_past_plan_limit number line then Some Limit else None

@@ -14,11 +14,11 @@ use Rattle.traces.specs.declared.version.Version.{Version}
 use Rattle.traces.specs.declared.version.Version.TheVariants.{One, Two, Three, Four}
 use Rattle.traces.specs.declared.ring.Ring.{Ring}
 use Rattle.traces.specs.declared.row.Row.{Row}
-use Rattle.traces.specs.declared.row.Row.TheVariants.{Ring as RingRow, Sub}
-use Rattle.traces.specs.TraceRows.{has_used_id, ids_with}
+use Rattle.traces.specs.declared.row.Row.TheVariants.{Ring as RingRow}
+use Rattle.traces.specs.TraceRows.{declares_too_much, has_used_id, ids_with}
 use Rattle.trace_reader.specs.TraceLines.{Form, form_of, said_of}
 use Rattle.traces.specs.AllowedHeaders.{clash}
-use Rattle.traces.specs.Limits.{most_lines_of, most_bytes, most_declared}
+use Rattle.traces.specs.Limits.{most_lines_of, most_bytes_of}
 use Rattle.trace_reader.specs.Values.{Said, SaysRow, SaysRing}
 use Rattle.trace_reader.specs.TraceOfText.{TraceText}
 
@@ -79,16 +79,16 @@ is_bad_row st line = not line.is_ended || has_empty_field (fields_of line.conten
 unfoldable pub is_bad_number : State → TextLine → Bool
 is_bad_number st line = is_none (said_in st line)
 
-abbrev pub is_too_much : Said → Bool
-is_too_much (SaysRow (Sub ring blocks)) = nat_lt most_declared (length blocks)
-is_too_much _ = false
+abbrev pub is_too_much : Version → Said → Bool
+is_too_much version (SaysRow row) = declares_too_much version row
+is_too_much version (SaysRing ring) = false
 
 -- 4 Limit: a line past the limit, or too many blocks in one declaration; a line of too many bytes has this fault alone
 unfoldable pub is_past_limit : State → TextLine → Bool
-is_past_limit st line = nat_lt (most_of st) (next_number st) || option_map_or is_too_much (said_in st line) false
+is_past_limit st line = nat_lt (most_of st) (next_number st) || option_map_or (is_too_much st.version) (said_in st line) false
 
-unfoldable pub is_too_long : TextLine → Bool
-is_too_long line = nat_lt most_bytes (length line.content)
+unfoldable pub is_too_long : ℕ → TextLine → Bool
+is_too_long most line = nat_lt most (length line.content)
 
 -- its ring's segments make none
 abbrev pub has_no_shape : Row → Bool
@@ -107,7 +107,7 @@ is_bad_shape st line = option_map_or (is_misplaced st.rings st.later) (said_in s
 -- the least fault of a line behind the header
 unfoldable pub row_fault : State → TextLine → Option LineFault
 row_fault st line =
-    if is_too_long line then Some Limit
+    if is_too_long (most_bytes_of st.version) line then Some Limit
     else if is_bad_row st line then Some BadRow
     else if is_bad_number st line then Some Number
     else if is_past_limit st line then Some Limit

@@ -1,4 +1,4 @@
-//! Declarations of several blocks, read by the places of their words.
+//! Declarations of several blocks, as many as a row of each version may have, read by the places of their words.
 ghost use Rattle.std.specs.Prelude.{◌≡◌, ◌≤◌, ◌∷◌, ◌++◌, ℕ, List, length, IfSome};
 ghost use Rattle.trace_reader.specs.Entries.{SaysAlone};
 ghost use Rattle.trace_reader.specs.RowsAhead.{AreBlocks, BeginsWithBlock, BeginsWithRow};
@@ -6,9 +6,9 @@ ghost use Rattle.traces.specs.Limits.{most_declared};
 ghost use Rattle.traces.specs.declared.row.Row.{Row};
 
 use crate::entry::block_of;
-use crate::line::MOST_BLOCKS;
 use line_text::u8_of;
 use std::alloc::Global;
+use traces::MOST_DECLARED;
 use trb::{Block, Blocks};
 
 /// Bytes that a block's words take in a line, with a space before each.
@@ -34,7 +34,7 @@ fn declaring_content(text: &[u8]) -> Option<&[u8]>
     if text.is_empty() || text[0] != b's' {
         return None;
     }
-    for count in 2..MOST_BLOCKS + 1 {
+    for count in 2..MOST_DECLARED + 1 {
         let end = FRONT + BLOCK * count;
         if text.len() <= end {
             return None;
@@ -49,12 +49,12 @@ fn declaring_content(text: &[u8]) -> Option<&[u8]>
     None
 }
 
-/// The ring and the blocks of a `sub` line of at most as many blocks as one may have.
+/// The ring and the blocks of a `sub` line of at most as many blocks as one of each version may have.
 pub fn quick_declarations(alloc: Global, content: &[u8]) -> Option<(u8, Blocks)>
     ensures says { IfSome result (λ said. SaysAlone (Row.Sub said.0 said.1) content.now) }
     ensures within { IfSome result (λ said. length said.1 ≤ most_declared) }
 {
-    if content.len() <= FRONT || content.len() > FRONT + BLOCK * MOST_BLOCKS {
+    if content.len() <= FRONT || content.len() > FRONT + BLOCK * MOST_DECLARED {
         return None;
     }
     if content[0] != b's' || content[1] != b'u' || content[2] != b'b' || content[3] != b' ' {

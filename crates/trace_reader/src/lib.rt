@@ -23,7 +23,9 @@ pub use declarations::declarations_ahead;
 pub use entry::block_of;
 pub use fault::{LineError, LineFault, ReadFault};
 pub use later::note_id;
-pub use line::{MOST_BYTES, MOST_LINES, MOST_STREAMED_LINES, most_lines_of, row_in};
+pub use line::{
+    MOST_LINES, MOST_STREAMED_LINES, MOST_TRACE_BYTES, most_bytes_of, most_lines_of, row_in,
+};
 pub use plans::read_plan;
 pub use print::{print_trace, with_ring, with_row, with_sub, with_write};
 pub use quick::{

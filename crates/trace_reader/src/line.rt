@@ -1,7 +1,6 @@
 ghost use Rattle.std.specs.Prelude.{◌≡◌, ◌≤◌, ◌+◌, Some, None, true, OnOk, IfOk, IfErr};
 ghost use Rattle.trace_reader.specs.Entries.{Answers, AnswersRow, content_fault, said_alone, said_by_line, value_of};
-ghost use Rattle.trace_reader.specs.Values.{SaysRow};
-ghost use Rattle.traces.specs.Limits.{most_lines_of};
+ghost use Rattle.traces.specs.Limits.{most_bytes_of, most_lines_of};
 ghost use Rattle.trace_reader.specs.Reading.{State, is_too_much, size_of, version_of};
 
 use crate::entry::{Entry, RowEntry, entry_of};
@@ -22,11 +21,11 @@ pub const MOST_STREAMED_LINES: u32 = 4294967294;
 /// Lines of a schedule.
 pub const MOST_SCHEDULE_LINES: u32 = 4194304;
 
-/// Bytes of a line before its line feed.
+/// Bytes of a line before its line feed, in a plan or a schedule.
 pub const MOST_BYTES: usize = 16384;
 
-/// Blocks of one declaration.
-pub const MOST_BLOCKS: usize = 256;
+/// And in a trace of any version.
+pub const MOST_TRACE_BYTES: usize = 163840;
 
 /// Lines of a trace of a version, whose rows are all kept in memory or not.
 #[tactic(auto, unfolding(traces::specs::Limits::most_lines_of))]
@@ -39,6 +38,17 @@ pub fn most_lines_of(keeps: bool, version: Version) -> u32
     match version {
         Version::One | Version::Two => MOST_LINES,
         Version::Three | Version::Four => MOST_STREAMED_LINES,
+    }
+}
+
+/// Bytes of a line of a trace of a version, before its line feed.
+#[tactic(auto, unfolding(traces::specs::Limits::most_bytes_of))]
+pub fn most_bytes_of(version: Version) -> usize
+    ensures { result ≡ most_bytes_of version }
+{
+    match version {
+        Version::One | Version::Two | Version::Three => MOST_BYTES,
+        Version::Four => MOST_TRACE_BYTES,
     }
 }
 
@@ -91,7 +101,7 @@ pub fn entry_in(
     if lines >= most {
         return Err(LineFault::Limit.into());
     }
-    if is_too_much(&entry) {
+    if is_too_much(version, &entry) {
         return Err(LineFault::Limit.into());
     }
     Ok(entry)
@@ -129,7 +139,7 @@ fn entry_alone(
     if let Some(row) = quick_row(alloc, line) {
         return Ok(Entry::Row(RowEntry::Plain(row)));
     }
-    let content = content_of(line)?;
+    let content = content_of(most_bytes_of(version), line)?;
     entry_of(
         alloc,
         version,
@@ -139,15 +149,15 @@ fn entry_alone(
     )
 }
 
-/// The bytes of a line that has not too many, ends with a line feed, and has no empty field.
+/// The bytes of a line that has at most so many, ends with a line feed, and has no empty field.
 #[tactic(auto, unfolding(crate::specs::Entries::content_fault))]
-pub fn content_of<'a>(line: &Line<'a>) -> Result<&'a [u8], LineFault>
+pub fn content_of<'a>(most: usize, line: &Line<'a>) -> Result<&'a [u8], LineFault>
     ensures content { IfOk result (λ content. content.now ≡ line.now.content) }
-    ensures whole { OnOk result (content_fault line.now ≡ None) }
-    ensures fault { IfErr result (λ fault. content_fault line.now ≡ Some fault) }
+    ensures whole { OnOk result (content_fault most line.now ≡ None) }
+    ensures fault { IfErr result (λ fault. content_fault most line.now ≡ Some fault) }
 {
     let content = line.content();
-    if content.len() > MOST_BYTES {
+    if content.len() > most {
         return Err(LineFault::Limit);
     }
     if !line.is_ended() {
@@ -159,21 +169,12 @@ pub fn content_of<'a>(line: &Line<'a>) -> Result<&'a [u8], LineFault>
     Ok(content)
 }
 
-/// It declares too many blocks.
-fn is_too_much(entry: &Entry) -> bool
-    ensures { result ≡ is_too_much (value_of entry.now) }
+/// It declares more blocks than a row of the version may.
+fn is_too_much(version: Version, entry: &Entry) -> bool
+    ensures { result ≡ is_too_much version (value_of entry.now) }
 {
     match entry {
-        Entry::Row(RowEntry::Plain(plain)) => declares_too_much(&plain.row),
-        _ => false,
-    }
-}
-
-fn declares_too_much(row: &Row) -> bool
-    ensures { result ≡ is_too_much (SaysRow row.now) }
-{
-    match row {
-        Row::Sub { blocks, .. } => blocks.as_slice().len() > MOST_BLOCKS,
+        Entry::Row(RowEntry::Plain(plain)) => plain.row.declares_too_much(version),
         _ => false,
     }
 }

@@ -4,22 +4,22 @@ ghost use Rattle.traces.specs.Limits.{most_lines};
 ghost use Rattle.trace_reader.specs.Grammar.{form_as, value_in};
 ghost use Rattle.trace_reader.specs.LineAnswers.{AnswersBy, valued_by};
 ghost use Rattle.trace_reader.specs.LineByLine.{unless_fault};
-ghost use Rattle.trace_reader.specs.Plans.{declares_too_much, is_past_plan_limit, plan_form_of, plan_line, plan_ring, plan_ring_fault, plan_value, ret_line, ring_line_form, ring_value, plan_sub_line};
+ghost use Rattle.trace_reader.specs.Plans.{plans_too_much, is_past_plan_limit, plan_form_of, plan_line, plan_ring, plan_ring_fault, plan_value, ret_line, ring_line_form, ring_value, plan_sub_line};
 
 use crate::entry::{RingEntry, blocks_of, ring_behind};
 use crate::fault::{LineError, LineFault};
-use crate::line::{MOST_BLOCKS, MOST_LINES, content_of};
+use crate::line::{MOST_BYTES, MOST_LINES, content_of};
 use line_text::{Fields, Line, Survey, u8_of, u64_of};
 use segments::RingShape;
 use std::alloc::Global;
-use traces::{PlanLine, Ring};
+use traces::{MOST_DECLARED, PlanLine, Ring};
 use trb::{Blocks, RingKind};
 
 /// The ring of a plan's second line.
 pub fn plan_ring(alloc: Global, line: &Line) -> Result<Ring, LineError>
     ensures { AnswersBy (λ ring. ring) result (plan_ring line.now) }
 {
-    let content = content_of(line)?;
+    let content = content_of(MOST_BYTES, line)?;
     let entry = ring_in(alloc, Survey::of(content).count, Fields::of(content))?;
     made_ring(alloc, entry)
 }
@@ -56,7 +56,7 @@ pub fn plan_line(alloc: Global, number: u32, line: &Line) -> Result<PlanLine, Li
     ensures answer { AnswersBy (λ said. said) result (plan_line number line.now) }
     ensures within { OnOk result (number ≤ most_lines) }
 {
-    let content = content_of(line)?;
+    let content = content_of(MOST_BYTES, line)?;
     let said = said_by(alloc, Survey::of(content).count, Fields::of(content))?;
     if is_past_limit(number, &said) {
         return Err(LineFault::Limit.into());
@@ -114,14 +114,14 @@ fn ret_line(mut fields: Fields) -> Result<PlanLine, LineError>
 fn is_past_limit(number: u32, said: &PlanLine) -> bool
     ensures { result ≡ is_past_plan_limit number said.now }
 {
-    number > MOST_LINES || declares_too_much(said)
+    number > MOST_LINES || plans_too_much(said)
 }
 
-fn declares_too_much(said: &PlanLine) -> bool
-    ensures { result ≡ declares_too_much said.now }
+fn plans_too_much(said: &PlanLine) -> bool
+    ensures { result ≡ plans_too_much said.now }
 {
     match said {
-        PlanLine::Sub { blocks, .. } => blocks.as_slice().len() > MOST_BLOCKS,
+        PlanLine::Sub { blocks, .. } => blocks.as_slice().len() > MOST_DECLARED,
         PlanLine::Ret { .. } => false,
     }
 }

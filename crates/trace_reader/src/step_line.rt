@@ -6,7 +6,7 @@ ghost use Rattle.trace_reader.specs.Schedules.{finish_line, halt_line, look_line
 
 use crate::entry::{event_behind, word_address_of};
 use crate::fault::{LineError, LineFault};
-use crate::line::{MOST_SCHEDULE_LINES, content_of};
+use crate::line::{MOST_BYTES, MOST_SCHEDULE_LINES, content_of};
 use line_text::{Fields, Line, u8_of, u32_of};
 use traces::Step;
 
@@ -15,7 +15,7 @@ pub fn step_line(number: u32, line: &Line) -> Result<Step, LineError>
     ensures answer { AnswersBy (λ step. step) result (step_line number line.now) }
     ensures within { OnOk result (number ≤ most_schedule_lines) }
 {
-    let content = content_of(line)?;
+    let content = content_of(MOST_BYTES, line)?;
     let step = step_of(Fields::of(content))?;
     if number > MOST_SCHEDULE_LINES {
         return Err(LineFault::Limit.into());

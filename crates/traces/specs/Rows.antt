@@ -3,7 +3,6 @@ use Rattle.std.specs.Prelude.{◌≢◌, ◌<◌, ◌≤◌, ◌^◌, Bool, true
 use Rattle.std.proofs.Props.{props}
 use Rattle.trb.specs.Block.{IsBlock}
 use Rattle.segments.specs.Shape.{IsShape}
-use Rattle.traces.specs.Limits.{most_declared}
 use Rattle.traces.specs.Register.{is_wide}
 use Rattle.traces.specs.declared.ring.Ring.{Ring}
 use Rattle.traces.specs.declared.row.Row.{Row}
@@ -35,9 +34,9 @@ is_ring_row (FreeRow ring) = true
 is_ring_row (NopRow ring position) = true
 is_ring_row row = false
 
--- what a row's line can say: a declaration has a block at least and not too many, and a register of 32 bits a value of 32
+-- what a row's line can say: a declaration has a block at least, and a register of 32 bits a value of 32
 abbrev pub FitsLine : Row → Type 0
-FitsLine (Sub ring blocks) = (0 < length blocks) × (length blocks ≤ most_declared)
+FitsLine (Sub ring blocks) = 0 < length blocks
 FitsLine (Reg register value) = is_wide register ≢ true → value < 2 ^ 32
 FitsLine (RegRead register value) = is_wide register ≢ true → value < 2 ^ 32
 FitsLine row = Unit {0}

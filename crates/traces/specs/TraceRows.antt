@@ -1,14 +1,15 @@
 -- Rows of a trace, by its version, and the IDs of the rings that come
-use Rattle.std.specs.Prelude.{◌≡◌, Bool, true, false, not, ◌||◌, ◌&&◌, ℕ, List, All, [], ◌∷◌, ◌++◌, ◌==◌}
+use Rattle.std.specs.Prelude.{◌≡◌, Bool, true, false, not, ◌||◌, ◌&&◌, ℕ, nat_lt, List, length, All, [], ◌∷◌, ◌++◌, ◌==◌}
 use Rattle.std.specs.List.{list_any}
 use Rattle.std.proofs.Props.{props}
 use Rattle.traces.specs.Rows.{IsRow, FitsLine, is_ring_row, line_is_fact, row_is_fact}
 use Rattle.traces.specs.Header.{is_transfer_kind}
+use Rattle.traces.specs.Limits.{most_declared_of}
 use Rattle.traces.specs.Versions.{has_ring_rows, has_runs}
 use Rattle.traces.specs.declared.ring.Ring.{Ring}
 use Rattle.traces.specs.declared.version.Version.{Version}
 use Rattle.traces.specs.declared.row.Row.{Row}
-use Rattle.traces.specs.declared.row.Row.TheVariants.{Ring as RingRow, RegRead}
+use Rattle.traces.specs.declared.row.Row.TheVariants.{Sub, Ring as RingRow, RegRead}
 
 -- what a row's line can say
 abbrev pub IsTraceRow : Row → Type 0
@@ -20,13 +21,18 @@ is_run_row (RegRead register value) = true
 is_run_row (RingRow ring) = not (is_transfer_kind ring.shape.kind)
 is_run_row row = false
 
--- a trace of this version may have the row
+-- the version has rows of this kind
 abbrev pub is_of_version : Version → Row → Bool
 is_of_version version row = (not (is_ring_row row) || has_ring_rows version) && (not (is_run_row row) || has_runs version)
 
+-- it declares more blocks than a row of the version may
+abbrev pub declares_too_much : Version → Row → Bool
+declares_too_much version (Sub ring blocks) = nat_lt (most_declared_of version) (length blocks)
+declares_too_much version row = false
+
 -- what a row of a trace of this version can say
 abbrev pub IsRowOf : Version → Row → Type 0
-IsRowOf version row = IsTraceRow row × (is_of_version version row ≡ true)
+IsRowOf version row = IsTraceRow row × (is_of_version version row ≡ true) × (declares_too_much version row ≡ false)
 
 abbrev pub AreRowsOf : Version → List Row → Type 0
 AreRowsOf version rows = All (IsRowOf version) rows

@@ -1,4 +1,6 @@
 ghost use Rattle.std.specs.Prelude.{◌≡◌, ◌<◌, ◌∷◌, ◌++◌, [], length, remove, IfOk, OnErr, OnOk};
+ghost use Rattle.std.specs.List.{list_any};
+ghost use Rattle.traces.specs.AllowedHeaders.{clash, may_stand_together};
 
 use crate::ring::Ring;
 use crate::version::Version;
@@ -85,6 +87,34 @@ impl Header {
             rings: Rings::new(copy_rings(alloc, self.rings.as_slice())?),
         })
     }
+
+    /// Whether its rings may stand together: so it is of each header that was read, and asked of one that is made by hand. Each two rings are
+    /// compared. (That shapes are allowed is so of every `RingShape`.)
+    pub fn fits(&self) -> bool
+        ensures { result ≡ may_stand_together self.now.rings }
+    {
+        may_stand_together(self.rings.as_slice())
+    }
+}
+
+/// No two of the rings clash.
+fn may_stand_together(rings: &[Ring]) -> bool
+    ensures { result ≡ may_stand_together rings.now }
+{
+    let mut rest = rings;
+    while let Some((ring, others)) = rest.split_first() {
+        if clashes_with_one(ring, others) {
+            return false;
+        }
+        rest = others;
+    }
+    true
+}
+
+fn clashes_with_one(ring: &Ring, others: &[Ring]) -> bool
+    ensures { result ≡ list_any (clash ring.now) others.now }
+{
+    others.iter().any(|other| ring.clashes_with(other))
 }
 
 fn copy_rings(alloc: Global, rings: &[Ring]) -> Result<Vec<Ring>, AllocError>

@@ -23,4 +23,4 @@ pub use row::Row;
 pub use schedule::{Schedule, Steps};
 pub use step::Step;
 pub use trace::{Rows, Trace};
-pub use version::Version;
+pub use version::{MOST_DECLARED, Version};

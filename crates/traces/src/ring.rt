@@ -1,7 +1,10 @@
 ghost use Rattle.std.specs.Prelude.{◌≡◌, IfOk};
+ghost use Rattle.traces.specs.AllowedHeaders.{clash};
+ghost use Rattle.traces.specs.Header.{is_command_kind, is_event_kind};
 
 use segments::RingShape;
 use std::alloc::AllocError;
+use trb::RingKind;
 
 /// A ring that the driver declares (xHCI 4.9).
 #[derive(Debug, Drop)]
@@ -21,5 +24,30 @@ impl Ring {
             id: self.id,
             shape: self.shape.copy()?,
         })
+    }
+
+    /// It can't stand beside the other ring: both have the ID, a segment of one overlaps one of the other, or both are the Command Ring, or
+    /// the Event Ring.
+    pub fn clashes_with(&self, other: &Ring) -> bool
+        ensures { result ≡ clash self.now other.now }
+    {
+        self.id == other.id
+            || self.shape.overlaps_ring(&other.shape)
+            || (self.is_command() && other.is_command())
+            || (self.is_event() && other.is_event())
+    }
+
+    /// It is the Command Ring.
+    fn is_command(&self) -> bool
+        ensures { result ≡ is_command_kind self.now.shape.kind }
+    {
+        matches!(self.shape.kind(), RingKind::Cmd)
+    }
+
+    /// It is the Event Ring.
+    fn is_event(&self) -> bool
+        ensures { result ≡ is_event_kind self.now.shape.kind }
+    {
+        matches!(self.shape.kind(), RingKind::Evt)
     }
 }

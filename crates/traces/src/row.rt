@@ -1,7 +1,14 @@
+ghost use Rattle.std.specs.Prelude.{◌≡◌, ◌≢◌, ◌<◌, ◌^◌, true, false};
+ghost use Rattle.traces.specs.Header.{is_transfer_kind};
+ghost use Rattle.traces.specs.Register.{is_wide};
+ghost use Rattle.traces.specs.Rows.{FitsLine, IsRow, is_ring_row};
+ghost use Rattle.traces.specs.TraceRows.{IsRowOf, declares_too_much, is_of_version, is_run_row};
+
 use crate::boxed_ring::BoxedRing;
 use crate::register::Register;
+use crate::version::Version;
 use guest_memory::Addr;
-use trb::{Block, Blocks};
+use trb::{Block, Blocks, RingKind};
 
 /// One row of a trace: what the driver did, an event that it has read, or what it declares of its rings.
 #[derive(Debug, Drop)]
@@ -24,4 +31,67 @@ pub enum Row {
     Nop { ring: u8, position: u64 },
     /// It has read a register; only USBSTS says something (xHCI 5.4.2).
     RegRead { register: Register, value: u64 },
+}
+
+impl Row {
+    /// Whether a row of a trace of the version may be this one: so it is of each row that was read, and asked of one that is made by hand. A
+    /// declaration has a block at least and not too many, a register of 32 bits a value of 32, and the version has rows of the kind. (That
+    /// numbers fit the fields of their types is so of every value.)
+    pub fn fits(&self, version: Version) -> bool
+        ensures fits { result ≡ true → IsRow self.now → IsRowOf version self.now }
+        ensures unfit { IsRowOf version self.now → result ≡ true }
+    {
+        self.fits_line() && self.is_of_version(version) && !self.declares_too_much(version)
+    }
+
+    /// It declares more blocks than a row of the version may.
+    pub fn declares_too_much(&self, version: Version) -> bool
+        ensures { result ≡ declares_too_much version self.now }
+    {
+        match self {
+            Row::Sub { blocks, .. } => blocks.as_slice().len() > version.most_declared(),
+            _ => false,
+        }
+    }
+
+    /// The version has rows of this kind.
+    pub fn is_of_version(&self, version: Version) -> bool
+        ensures { result ≡ is_of_version version self.now }
+    {
+        (!self.is_ring_row() || version.has_ring_rows())
+            && (!self.is_run_row() || version.has_runs())
+    }
+
+    /// A ring comes or goes, or a descriptor is withdrawn.
+    #[inline(always)]
+    pub fn is_ring_row(&self) -> bool
+        ensures { result ≡ is_ring_row self.now }
+    {
+        matches!(self, Row::Ring { .. } | Row::Free { .. } | Row::Nop { .. })
+    }
+
+    /// It is of a controller that runs more than once: a register was read, or a Command Ring or an Event Ring comes.
+    fn is_run_row(&self) -> bool
+        ensures { result ≡ is_run_row self.now }
+    {
+        match self {
+            Row::RegRead { .. } => true,
+            Row::Ring { ring } => !matches!(ring.as_ring().shape.kind(), RingKind::Xfer),
+            _ => false,
+        }
+    }
+
+    /// A line can say it.
+    fn fits_line(&self) -> bool
+        ensures fits { result ≡ true → FitsLine self.now }
+        ensures unfit { FitsLine self.now → result ≡ true }
+    {
+        match self {
+            Row::Sub { blocks, .. } => !blocks.as_slice().is_empty(),
+            Row::Reg { register, value } | Row::RegRead { register, value } => {
+                register.is_wide() || *value < 1 << 32
+            }
+            _ => true,
+        }
+    }
 }

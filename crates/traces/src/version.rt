@@ -1,7 +1,11 @@
 ghost use Rattle.std.specs.Prelude.{◌≡◌};
+ghost use Rattle.traces.specs.Limits.{most_declared_of};
 ghost use Rattle.traces.specs.Versions.{has_isoch, has_ring_rows, has_runs, is_lenient, profile_of};
 
-use trb::Profile;
+use trb::{MAX_BLOCKS, Profile};
+
+/// Blocks of one declaration before version 4, and in a plan.
+pub const MOST_DECLARED: usize = 256;
 
 /// The version of a trace, which its first line names. Versions 1 and 2 judge by the rules that came first; version 3 by
 /// those that a harm needs; version 4 has isochronous transfers and second runs of the controller too.
@@ -54,6 +58,17 @@ impl Version {
             Profile::WithIsoch
         } else {
             Profile::WithoutIsoch
+        }
+    }
+
+    /// How many blocks a row declares at most: a limit of this project.
+    #[tactic(auto, unfolding(crate::specs::Limits::most_declared_of))]
+    pub fn most_declared(self) -> usize
+        ensures { result ≡ most_declared_of self }
+    {
+        match self {
+            Version::One | Version::Two | Version::Three => MOST_DECLARED,
+            Version::Four => MAX_BLOCKS,
         }
     }
 }

@@ -52,7 +52,7 @@ status_stage = refl
 pub no_op_block : fault_of Xfer (plain 8 ∷ []) ≡ None
 no_op_block = refl
 
-pub longest : fault_of Xfer (replicate 255 (chained 1) ++ plain 1 ∷ []) ≡ None
+pub longest : fault_of Xfer (replicate 4095 (chained 1) ++ plain 1 ∷ []) ≡ None
 longest = refl
 
 -- ---- transfer rings: each way to be wrong
@@ -60,7 +60,7 @@ longest = refl
 pub no_block : fault_of Xfer [] ≡ Some BadDescriptor
 no_block = refl
 
-pub too_long : fault_of Xfer (replicate 256 (chained 1) ++ plain 1 ∷ []) ≡ Some BadDescriptor
+pub too_long : fault_of Xfer (replicate 4096 (chained 1) ++ plain 1 ∷ []) ≡ Some BadDescriptor
 too_long = refl
 
 pub cycle_bit : fault_of Xfer (block 0 1 1 ∷ []) ≡ Some BadDescriptor

@@ -29,9 +29,13 @@ is_chain [] = false
 is_chain (b ∷ []) = not (is_chained b)
 is_chain (b ∷ c ∷ rest) = is_chained b && is_chain (c ∷ rest)
 
--- an empty list, one of more than 256 blocks, a Cycle bit of 1, a wrong Chain bit
+-- how many blocks a descriptor has at most: this project's limit
+abbrev pub most_blocks : ℕ
+most_blocks = 4096
+
+-- an empty list, one of too many blocks, a Cycle bit of 1, a wrong Chain bit
 abbrev pub is_badly_formed : List Block → Bool
-is_badly_formed blocks = nat_lt 256 (length blocks) || list_any (λ b. cycle b == 1) blocks || not (is_chain blocks)
+is_badly_formed blocks = nat_lt most_blocks (length blocks) || list_any (λ b. cycle b == 1) blocks || not (is_chain blocks)
 
 -- eight bytes of setup data in the block itself (IDT), and no reserved transfer type (TRT)
 abbrev pub has_setup_data : Block → Bool

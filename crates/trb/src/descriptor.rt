@@ -10,8 +10,8 @@ use crate::kind::BlockKind;
 use crate::profile::Profile;
 use crate::ring_kind::RingKind;
 
-/// The most blocks of a descriptor in the profile.
-const MAX_BLOCKS: usize = 256;
+/// The most blocks of a descriptor: a limit of this project.
+pub const MAX_BLOCKS: usize = 4096;
 
 /// What is wrong with these blocks as a descriptor (TD) of such a ring, in a trace without isochronous transfers.
 #[inline(always)]

@@ -19,7 +19,9 @@ pub use blocks::Blocks;
 pub use completion_code::{
     counted_code, is_halting, is_of_service, is_stopping, is_success, is_trb_error,
 };
-pub use descriptor::{descriptor_fault, descriptor_fault_in, is_command_left_out, is_no_command};
+pub use descriptor::{
+    MAX_BLOCKS, descriptor_fault, descriptor_fault_in, is_command_left_out, is_no_command,
+};
 pub use fault::Fault;
 pub use flags::BlockFlags;
 pub use kind::BlockKind;

@@ -1,4 +1,5 @@
 ghost use Rattle.std.specs.Prelude.{◌≡◌, ◌<◌, ◌≤◌, Some, length, IfErr, IfNone, OnOk};
+ghost use Rattle.trb.specs.Descriptor.{most_blocks};
 ghost use Rattle.segments.specs.RingView.{RingView};
 ghost use Rattle.ring_knowledge.specs.RingRecords.{FollowsRing};
 ghost use Rattle.ownership_rules.specs.FirstBroken.{first_broken};
@@ -40,7 +41,7 @@ fn declaration_refusal(
 ) -> Option<Refusal>
     ensures first { (v : RingView) → FollowsRing shape.now v known.now → result ≡ first_broken (room_tests profile shape.now v blocks.now) }
     ensures some { IfNone result (0 < length blocks.now) }
-    ensures few { IfNone result (length blocks.now ≤ 256) }
+    ensures few { IfNone result (length blocks.now ≤ most_blocks) }
 {
     if !known.has_room(shape, blocks.len()) {
         return Some(Refusal::RingFull);
@@ -52,7 +53,7 @@ fn declaration_refusal(
 fn form_refusal(profile: Profile, kind: RingKind, blocks: &[Block]) -> Option<Refusal>
     ensures first { result ≡ first_broken (form_tests profile kind blocks.now) }
     ensures some { IfNone result (0 < length blocks.now) }
-    ensures few { IfNone result (length blocks.now ≤ 256) }
+    ensures few { IfNone result (length blocks.now ≤ most_blocks) }
 {
     match descriptor_fault_in(profile, kind, blocks) {
         Some(Fault::BadDescriptor) => Some(Refusal::BadDescriptor),

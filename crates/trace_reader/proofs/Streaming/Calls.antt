@@ -1,6 +1,9 @@
 -- What one call answers, by the first line of the bytes that stand ahead
-use Rattle.trace_reader.proofs.MiddleLaws.{rules, ◌≡◌, ◌≤◌, ◌<◌, ◌∷◌, ◌++◌, ◌∙◌, ℕ, List, [], Bool, true, false, Option, Some, None, Result, Ok, Err, refl, ap, sym, subst, append-nil, append_assoc, drop, length, length-append, arith, lt-ltb, Consumes-nil, drop_at, IsAtEnd, most_bytes, ids_with, Row, lines_of-ended, lines_of-nothing, TextLine, behind_content, lines_of, LineFault, LineError, Fault, Memory, AnswersRow, State, behind_row, most_of, next_number, read_line, BeginsWithRow, is_too_long, StreamFault, IsFilled, IsHeld, OfText, IsCall, behind_answer, fault_of, Call, call_in, call_on, next_row, Line, IsCut, NoFeed, ended_behind, ended_lines, long_line, no_feed_in, unended_whole, Comes}
+use Rattle.trace_reader.proofs.MiddleLaws.{rules, ◌≡◌, ◌≤◌, ◌<◌, ◌∷◌, ◌++◌, ◌∙◌, ℕ, List, [], Bool, true, false, Option, Some, None, Result, Ok, Err, refl, ap, sym, subst, append-nil, append_assoc, drop, length, length-append, arith, lt-ltb, Consumes-nil, drop_at, IsAtEnd, ids_with, Row, lines_of-ended, lines_of-nothing, TextLine, behind_content, lines_of, LineFault, LineError, Fault, Memory, AnswersRow, State, behind_row, most_of, next_number, read_line, BeginsWithRow, is_too_long, StreamFault, IsFilled, IsHeld, OfText, IsCall, behind_answer, fault_of, Call, call_in, call_on, next_row, Line, IsCut, NoFeed, ended_behind, ended_lines, long_line, no_feed_in, unended_whole, Comes}
 use Rattle.trace_reader.proofs.Streaming.LineEnds.{ended_if_read, long_alike}
+use Rattle.traces.specs.Limits.{most_bytes_of, most_trace_bytes}
+use Rattle.traces.specs.declared.version.Version.{Version}
+use Rattle.trace_reader.proofs.Limits.{bytes_within}
 
 -- ---- the bytes that came, and those that may still come
 
@@ -44,9 +47,9 @@ pub record IsBadAhead (st : State) (held : Option (List ℕ)) (ahead : List ℕ)
   pub are : lines_of (ahead ++ later) ≡ first ∷ others
   pub bad : read_line st first ≡ Err fault
 
-long_is : (line : TextLine) → most_bytes < length line.content → is_too_long line ≡ true
+long_is : (version : Version) (line : TextLine) → most_trace_bytes < length line.content → is_too_long (most_bytes_of version) line ≡ true
 unfolding is_too_long
-long_is line many = lt-ltb most_bytes (length line.content) many
+long_is version line many = let within = bytes_within version in lt-ltb (most_bytes_of version) (length line.content) (omega (arith, within, many))
 
 module _ (st : State) (held : Option (List ℕ)) (ahead rest : List ℕ) (line : TextLine) (fault : LineFault) (cut : IsCut ahead line rest) (is : read_line st line ≡ Err fault) where
   ended_bad : line.is_ended ≡ true → IsBadAhead st held ahead fault
@@ -61,8 +64,8 @@ module _ (st : State) (held : Option (List ℕ)) (ahead rest : List ℕ) (line :
     same : ahead ≡ line.content
     same = unended_whole ahead rest line cut unended ∙ append-nil line.content
 
-    long_bad : 0 < length ahead → most_bytes < length ahead → IsBadAhead st held ahead fault
-    long_bad some many = grind (arith, some_held, long_line, NoFeed, same, long_alike, long_is, some_held held, long_line ahead (some_held held).0 some (subst NoFeed (sym same) cut.one))
+    long_bad : 0 < length ahead → most_trace_bytes < length ahead → IsBadAhead st held ahead fault
+    long_bad some many = grind (arith, some_held, long_line, NoFeed, same, long_alike, long_is st.version, some_held held, long_line ahead (some_held held).0 some (subst NoFeed (sym same) cut.one))
 
     no_feed : (content more : List ℕ) → ahead ≡ content ++ 10 ∷ more → ⊥
     no_feed content more feed = no_feed_in content more (subst NoFeed (sym same ∙ feed) cut.one)

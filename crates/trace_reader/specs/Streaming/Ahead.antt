@@ -1,7 +1,7 @@
 -- The bytes that were read ahead, and those that the device still holds
 use Rattle.std.specs.Prelude.{◌≡◌, ◌⊎◌, ◌<◌, ℕ, Bool, true, false, List, [], ◌∷◌, ◌++◌, drop, take, length, Option, Some, None}
 use Rattle.std.specs.Io.KnownBytes.{Consumes, IsAtEnd}
-use Rattle.traces.specs.Limits.{most_bytes}
+use Rattle.traces.specs.Limits.{most_trace_bytes}
 use Rattle.trace_reader.specs.declared.row_reader.ahead.Ahead.{Ahead}
 
 abbrev pub ahead_of : Ahead → List ℕ
@@ -18,7 +18,7 @@ has_come false held held' ahead ahead' = Comes held held' ahead ahead' × IsAtEn
 
 -- a line feed stands among the bytes, or they are too many for one line
 abbrev pub IsLong : List ℕ → Type 0
-IsLong bytes = ((content : List ℕ) × (rest : List ℕ) × (bytes ≡ content ++ 10 ∷ rest)) ⊎ (most_bytes < length bytes)
+IsLong bytes = ((content : List ℕ) × (rest : List ℕ) × (bytes ≡ content ++ 10 ∷ rest)) ⊎ (most_trace_bytes < length bytes)
 
 -- the first line stands among the bytes, as far as it counts; or none is left
 abbrev pub IsFilled : Bool → Option (List ℕ) → List ℕ → Type 0

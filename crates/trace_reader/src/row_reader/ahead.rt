@@ -1,5 +1,5 @@
 ghost use Rattle.std.specs.Prelude.{◌≤◌, ◌<◌, vec_len};
-ghost use Rattle.traces.specs.Limits.{most_bytes};
+ghost use Rattle.traces.specs.Limits.{most_trace_bytes};
 
 /// The bytes that were read ahead of the lines.
 #[derive(Drop)]
@@ -12,5 +12,5 @@ pub struct Ahead {
     pub end: usize,
     pub ghost within: { done ≤ end },
     pub ghost came: { end ≤ vec_len bytes },
-    pub ghost room: { most_bytes < vec_len bytes },
+    pub ghost room: { most_trace_bytes < vec_len bytes },
 }

@@ -2,9 +2,9 @@
 ghost use Rattle.std.specs.Prelude.{◌≡◌, ◌++◌, ◌≤◌, ◌<◌, List, ℕ, [], drop, take, length, vec_len, false, true, IfErr, IfOk, OnOk};
 ghost use Rattle.trace_reader.specs.Streaming.Ahead.{Comes, IsFilled, IsLong, ahead_of, has_come};
 ghost use Rattle.trace_reader.specs.Streaming.Answers.{IsNoLine, told_failures};
-ghost use Rattle.traces.specs.Limits.{most_bytes};
+ghost use Rattle.traces.specs.Limits.{most_trace_bytes};
 
-use crate::MOST_BYTES;
+use crate::MOST_TRACE_BYTES;
 use crate::row_reader::ahead::Ahead;
 use crate::row_reader::fault::StreamFault;
 use crate::row_reader::source::{Failed, Source};
@@ -12,7 +12,7 @@ use line_text::first_line;
 use std::alloc::{AllocError, Global};
 
 /// Bytes that there is room for.
-const ROOM: usize = 65536;
+const ROOM: usize = 262144;
 
 impl Ahead {
     /// No byte was read.
@@ -68,7 +68,7 @@ impl Ahead {
 
     /// Reads one piece more, and says whether it has a byte.
     fn read_on<S: Source>(&mut self, source: &mut S) -> Result<bool, StreamFault>
-        requires { length (ahead_of self.old) ≤ most_bytes }
+        requires { length (ahead_of self.old) ≤ most_trace_bytes }
         ensures came { IfOk result (λ some. has_come some (S.held source.old) (S.held source.new) (ahead_of self.old) (ahead_of self.new)) }
         ensures no_line { IfErr result IsNoLine }
         ensures failures { S.failed source.new ≡ told_failures (S.failed source.old) result }
@@ -98,7 +98,7 @@ impl Ahead {
 /// A line feed stands among the bytes, or they are too many for one line.
 fn is_long(bytes: &[u8]) -> bool
     ensures long { result ≡ true → IsLong bytes.now }
-    ensures short { result ≡ false → length bytes.now ≤ most_bytes }
+    ensures short { result ≡ false → length bytes.now ≤ most_trace_bytes }
 {
     if bytes.is_empty() {
         return false;
@@ -107,5 +107,5 @@ fn is_long(bytes: &[u8]) -> bool
     if line.is_ended() {
         return true;
     }
-    bytes.len() > MOST_BYTES
+    bytes.len() > MOST_TRACE_BYTES
 }

@@ -1,4 +1,5 @@
-use Rattle.trace_reader.proofs.Words.{◌≡◌, ◌+◌, ◌-◌, length, most_bytes, ahead_of, Comes}
+use Rattle.trace_reader.proofs.Words.{◌≡◌, ◌+◌, ◌-◌, length, ahead_of, Comes}
+use Rattle.traces.specs.Limits.{most_trace_bytes}
 use Rattle.trace_reader.proofs.row_reader.ahead.Ahead.fill_line.Given as goal
 
 abbrev pub invariant-loop-self : goal.invariant-loop-self
@@ -6,4 +7,4 @@ invariant-loop-self g l = Comes (g.S.Source.held l.fn.source) (g.S.Source.held l
 
 -- the bytes that the line may still have
 abbrev pub decreases-loop-self : goal.decreases-loop-self
-decreases-loop-self g l = most_bytes + 1 - length (ahead_of l.self)
+decreases-loop-self g l = most_trace_bytes + 1 - length (ahead_of l.self)
