@@ -7,7 +7,8 @@ use crate::fields::{Field, TextKind, first_field, number_fault, word_count};
 use crate::ring_lines::{plan_ring_fault, ring_fault};
 use crate::source::{line_at, quote};
 use std::alloc::{AllocError, Global};
-use trace_reader::LineFault;
+use trace_reader::{LineFault, most_bytes_of};
+use traces::Version;
 
 /// What some editors write before a text.
 const BYTE_ORDER_MARK: &[u8] = b"\xef\xbb\xbf";
@@ -431,12 +432,8 @@ fn limit_fault(
     line: u32,
     kind: TextKind,
 ) -> Result<Why, AllocError> {
-    if bytes.len() > 16384 {
-        return Why::plain(
-            alloc,
-            "the line has more than 16384 bytes",
-            "no line that says something is so long: a ring has at most 64 segments, a TD 256 TRBs",
-        );
+    if bytes.len() > most_bytes(text, kind) {
+        return long_line(alloc, text, kind);
     }
     match kind {
         TextKind::Schedule => Why::plain(
@@ -450,12 +447,56 @@ fn limit_fault(
             "take the first ones: head -n 1048576",
         ),
         TextKind::Trace if line > 1048576 => too_many_lines(alloc, text, line),
-        TextKind::Plan | TextKind::Trace => Why::plain(
+        TextKind::Plan => Why::plain(
             alloc,
             "a `sub` row has at most 256 TRBs",
             "write a `sub` row for each TD",
         ),
+        TextKind::Trace => many_trbs(alloc, text),
     }
+}
+
+/// How many bytes a line has at most.
+fn most_bytes(text: &[u8], kind: TextKind) -> usize {
+    match kind {
+        TextKind::Trace if has_runs(text) => most_bytes_of(Version::Four),
+        _ => most_bytes_of(Version::Three),
+    }
+}
+
+fn long_line(alloc: Global, text: &[u8], kind: TextKind) -> Result<Why, AllocError> {
+    match kind {
+        TextKind::Trace if has_runs(text) => Why::plain(
+            alloc,
+            "the line has more than 163840 bytes",
+            "no line that says something is so long: a ring has at most 64 segments, a TD 4096 TRBs",
+        ),
+        TextKind::Trace => Why::plain(
+            alloc,
+            "the line has more than 16384 bytes",
+            "no line that says something is so long: a ring has at most 64 segments, a TD 256 TRBs, or 4096 with `xtrace 4` in line 1",
+        ),
+        _ => Why::plain(
+            alloc,
+            "the line has more than 16384 bytes",
+            "no line that says something is so long",
+        ),
+    }
+}
+
+fn many_trbs(alloc: Global, text: &[u8]) -> Result<Why, AllocError> {
+    if has_runs(text) {
+        return Why::plain(
+            alloc,
+            "a `sub` row has at most 4096 TRBs",
+            "write a `sub` row for each TD",
+        );
+    }
+    Why::plain(
+        alloc,
+        "a `sub` row has at most 256 TRBs",
+        "write a `sub` row for each TD; with `xtrace 4` in line 1 it has at most 4096 TRBs",
+    )
 }
 
 /// A trace of more lines than its version has, or than a command takes that keeps its rows.

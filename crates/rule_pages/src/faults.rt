@@ -77,16 +77,17 @@ const LIMIT: &str = "\
 a line too many, too long, or with too many TRBs
 
 What is wrong
-  A line has at most 16,384 bytes, a `sub` row 256 TRBs. A trace of `xtrace 3`
-  or `4` has at most 4,294,967,294 lines, and 1,048,576 for `check --show`,
-  `schedule` and `replay`; so have traces of `xtrace 1` and `2`, and plans; a
-  schedule has 4,194,304. Of a replay `harm 4` is another matter: xhcitrace
-  explain harm-4.
+  A line has at most 16,384 bytes, a `sub` row 256 TRBs; with `xtrace 4` in
+  line 1 a line has 163,840, a `sub` row 4,096. A trace of `xtrace 3` or `4` has
+  at most 4,294,967,294 lines, and 1,048,576 for `check --show`, `schedule` and
+  `replay`; so have traces of `xtrace 1` and `2`, and plans; a schedule has
+  4,194,304. Of a replay `harm 4` is another matter: xhcitrace explain harm-4.
 
 What to write instead
-  A `sub` row for each TD. Of a long trace `xtrace 3` in line 1: then `check`,
-  `verify`, `show` and `tools/picture` take it whole. For the other commands the
-  first rows, up to those that matter: head -n 1048576.
+  A `sub` row for each TD, and `xtrace 4` in line 1 where one has more than 256
+  TRBs. Of a long trace `xtrace 3` in line 1: then `check`, `verify`, `show` and
+  `tools/picture` take it whole. For the other commands the first rows, up to
+  those that matter: head -n 1048576.
 
 A trace that has it
   None so short that a page could hold it.

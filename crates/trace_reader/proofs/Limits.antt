@@ -30,7 +30,7 @@ pub few_in_each : (version : Version) (n : ℕ) → n ≤ most_declared → nat_
 few_in_each version n few = let within = declared_within version in grind (arith, nat_tests, few, within)
 
 -- a line of that many blocks isn't too long
-pub blocks_fit : (version : Version) (n : ℕ) → nat_lt (most_declared_of version) n ≡ false → 6 + 36 * n ≤ most_bytes_of version
+pub blocks_fit : (version : Version) (n : ℕ) → nat_lt (most_declared_of version) n ≡ false → 7 + 36 * n ≤ most_bytes_of version
 unfolding most_declared_of most_bytes_of
 blocks_fit One n few = grind (arith, nat_tests, few)
 blocks_fit Two n few = grind (arith, nat_tests, few)

@@ -4,7 +4,7 @@ use Rattle.trace_reader.proofs.SpelledSaid.{FitsSaid, IsRead, IsSpelled, fields_
 use Rattle.trace_reader.proofs.SpelledHeaders.{shape_says}
 use Rattle.trace_reader.proofs.SpelledSizes.{row_sound, ring_sound, sub_length, write_length, reg_length, reg_read_length, bell_length, read_length, ring_length, goes_length, withdraws_length}
 use Rattle.std.proofs.Common.{List, length, map}
-use Rattle.trace_reader.proofs.Words.{printed, spaced_length}
+use Rattle.trace_reader.proofs.Words.{Bell, FreeRow, NopRow, Read, Reg, RegRead, RingRow, SaysRow, Sub, Write, printed, spaced_length}
 use Rattle.traces.specs.Limits.{most_bytes_of}
 use Rattle.traces.specs.declared.version.Version.{Version}
 
@@ -98,7 +98,16 @@ allowed ring other placed = not-false (is_shape ring.shape) ((or_parts (not (is_
 short_said : (version : Version) (rings : List Ring) (later : List ℕ) (s : Said) → FitsSaid s → is_too_much version s ≡ false → is_misplaced rings later s ≡ false →
     spaced_length (map printed (fields_said s)) ≤ most_bytes_of version
 unfolding row_fields
-short_said version rings later s fits few placed = search (rules, fields_said, sub_length, write_length, reg_length, reg_read_length, bell_length, read_length, ring_length, shape_says, allowed, goes_length, withdraws_length)
+short_said version rings later (SaysRow (Sub ring blocks)) fits few placed = sub_length version ring blocks fits.0.1 few
+short_said version rings later (SaysRow (Write at word)) fits few placed = write_length version at word
+short_said version rings later (SaysRow (Reg register value)) fits few placed = reg_length version register value
+short_said version rings later (SaysRow (Bell slot target)) fits few placed = bell_length version slot target
+short_said version rings later (SaysRow (Read event)) fits few placed = read_length version event fits.0
+short_said version rings later (SaysRow (RingRow ring)) fits few placed = ring_length version ring (shape_says ring.shape (allowed ring _ placed)).few
+short_said version rings later (SaysRow (FreeRow ring)) fits few placed = goes_length version ring
+short_said version rings later (SaysRow (NopRow ring position)) fits few placed = withdraws_length version ring position
+short_said version rings later (SaysRow (RegRead register value)) fits few placed = reg_read_length version register value
+short_said version rings later (SaysRing ring) fits few placed = ring_length version ring (shape_says ring.shape (allowed ring _ placed)).few
 
 short_line : (st : State) (line : TextLine) (s : Said) → IsGood st line s → is_too_long (most_bytes_of st.version) line ≡ false
 unfolding is_too_long

@@ -1,5 +1,5 @@
 -- What a line of a trace says, and how it is written
-use Rattle.trace_reader.proofs.LowerLaws.{rules, ◌≡◌, ◌≢◌, ◌<◌, ◌^◌, ◌&&◌, ◌||◌, ◌∷◌, ℕ, Bool, true, not, List, [], length, Some, All, refl, FitsLine, IsRow, Ring, Row, Sub, Write, Reg, Bell, Read, RingRow, FreeRow, NopRow, Version, begins_with_ring, is_of_version, Field, are_written, row_fields, ring_fields, Form, form_of, said_of, sub_line, write_line, reg_line, bell_line, event_line, ring_line, comes_line, goes_line, withdraws_line, Said, SaysRow, SaysRing, FitsSegment, reg_read_line, said_lines, RegRead, has_runs, KindOfRing}
+use Rattle.trace_reader.proofs.LowerLaws.{rules, ◌≡◌, ◌<◌, ◌&&◌, ◌||◌, ◌∷◌, ℕ, Bool, true, not, List, [], length, Some, All, refl, FitsLine, IsRow, Ring, Row, Sub, Write, Reg, Bell, Read, RingRow, FreeRow, NopRow, Version, begins_with_ring, is_of_version, Field, are_written, row_fields, ring_fields, Form, form_of, said_of, sub_line, write_line, reg_line, bell_line, event_line, ring_line, comes_line, goes_line, withdraws_line, Said, SaysRow, SaysRing, FitsSegment, reg_read_line, said_lines, RegRead, has_runs, KindOfRing}
 use Rattle.trace_reader.proofs.Grammar.{AreLines, Fits, IsSaid, said_read, table_written}
 
 -- its numbers fit the digits for them

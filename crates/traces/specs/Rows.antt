@@ -1,5 +1,5 @@
 -- Rows and steps whose numbers fit the fields of their types
-use Rattle.std.specs.Prelude.{◌≢◌, ◌<◌, ◌≤◌, ◌^◌, Bool, true, false, All, List, length}
+use Rattle.std.specs.Prelude.{◌≢◌, ◌<◌, ◌^◌, Bool, true, false, All, List, length}
 use Rattle.std.proofs.Props.{props}
 use Rattle.trb.specs.Block.{IsBlock}
 use Rattle.segments.specs.Shape.{IsShape}

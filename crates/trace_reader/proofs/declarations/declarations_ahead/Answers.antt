@@ -1,4 +1,4 @@
-use Rattle.trace_reader.proofs.Laws.{arith, nat_tests, refl, Sub, begins_with}
+use Rattle.trace_reader.proofs.Laws.{refl, Sub, begins_with}
 use Rattle.trace_reader.proofs.declarations.declarations_ahead.Goals as goal
 use Rattle.trace_reader.proofs.Limits.{few_in_each}
 
