@@ -1,5 +1,5 @@
 -- Worked examples: the state tables at every pair of command and state, other codes, and what a block says
-use Rattle.std.proofs.Common.{◌≡◌, ℕ, true, false, List, [], ◌∷◌, map, Option, Some, None, refl}
+use Rattle.std.proofs.Common.{◌≡◌, ◌==◌, if◌then◌else◌, ℕ, true, false, List, [], ◌∷◌, map, Option, Some, None, refl}
 use Rattle.trb.specs.declared.block.Block.{Block}
 use Rattle.commands.specs.declared.command.Command.{Command}
 use Rattle.commands.specs.declared.command.Command.TheVariants.{NoOp, EnableSlot, DisableSlot, AddressDevice, ConfigureEndpoint, EvaluateContext, ResetEndpoint, StopEndpoint, SetTrDequeue, ResetDevice}
@@ -7,7 +7,8 @@ use Rattle.commands.specs.declared.state.SlotState.{SlotState}
 use Rattle.commands.specs.declared.state.SlotState.TheVariants.{Disabled, Enabled, Default, Addressed, Configured}
 use Rattle.commands.specs.declared.state.EndpointState.{EndpointState}
 use Rattle.commands.specs.declared.state.EndpointState.TheVariants.{Disabled as Off, Running, Halted, Stopped, Error}
-use Rattle.commands.specs.Command.{command_of, exclude, may_answer_slot, named_slot, named_endpoint, named_context}
+use Rattle.commands.specs.Command.{command_of, may_answer_slot, named_slot, named_endpoint, named_context}
+use Rattle.commands.specs.SideBySide.{exclude}
 use Rattle.commands.specs.States.{slot_after, endpoint_after}
 
 -- ---- a success, from each state of a slot
@@ -175,26 +176,45 @@ answered_for_its_slot = (refl, refl)
 
 -- ---- which commands may not be unfinished side by side
 
-pub endpoints_of_one_slot : exclude (StopEndpoint 1 1) (StopEndpoint 1 2) ≡ false
+-- an input context at 0x1000 drops endpoint 2 and adds endpoint 3
+abbrev flags : ℕ → ℕ
+flags a = if a == 0x1000 then 4 else if a == 0x1004 then 9 else 0
+
+pub endpoints_of_one_slot : exclude flags (StopEndpoint 1 1) (StopEndpoint 1 2) ≡ false
 endpoints_of_one_slot = refl
 
-pub a_move_beside_a_stop : exclude (SetTrDequeue 1 3 0x30000 true) (StopEndpoint 1 2) ≡ false
+pub a_move_beside_a_stop : exclude flags (SetTrDequeue 1 3 0x30000 true) (StopEndpoint 1 2) ≡ false
 a_move_beside_a_stop = refl
 
-pub one_endpoint : exclude (StopEndpoint 1 2) (SetTrDequeue 1 2 0x30000 true) ≡ true
+pub one_endpoint : exclude flags (StopEndpoint 1 2) (SetTrDequeue 1 2 0x30000 true) ≡ true
 one_endpoint = refl
 
-pub an_endpoint_beside_its_slot : exclude (ResetEndpoint 1 2) (ConfigureEndpoint 1 false 0x1000) ≡ true
-an_endpoint_beside_its_slot = refl
+pub an_endpoint_that_is_dropped : exclude flags (ResetEndpoint 1 2) (ConfigureEndpoint 1 false 0x1000) ≡ true
+an_endpoint_that_is_dropped = refl
 
-pub a_slot_beside_its_endpoint : exclude (DisableSlot 1) (StopEndpoint 1 2) ≡ true
+pub an_endpoint_that_is_added : exclude flags (ConfigureEndpoint 1 false 0x1000) (StopEndpoint 1 3) ≡ true
+an_endpoint_that_is_added = refl
+
+pub an_endpoint_that_is_left_alone : exclude flags (ConfigureEndpoint 1 false 0x1000) (StopEndpoint 1 4) ≡ false
+an_endpoint_that_is_left_alone = refl
+
+pub a_configuration_that_goes : (exclude flags (StopEndpoint 1 1) (ConfigureEndpoint 1 true 0) ≡ false) × (exclude flags (StopEndpoint 1 4) (ConfigureEndpoint 1 true 0) ≡ true)
+a_configuration_that_goes = (refl, refl)
+
+pub an_endpoint_that_is_evaluated : (exclude flags (StopEndpoint 1 3) (EvaluateContext 1 0x1000) ≡ true) × (exclude flags (StopEndpoint 1 2) (EvaluateContext 1 0x1000) ≡ false)
+an_endpoint_that_is_evaluated = (refl, refl)
+
+pub two_of_the_slot : exclude flags (EvaluateContext 1 0x1000) (ConfigureEndpoint 1 false 0x2000) ≡ true
+two_of_the_slot = refl
+
+pub a_slot_beside_its_endpoint : exclude flags (DisableSlot 1) (StopEndpoint 1 2) ≡ true
 a_slot_beside_its_endpoint = refl
 
-pub one_slot : exclude (DisableSlot 1) (ResetDevice 1) ≡ true
+pub one_slot : exclude flags (DisableSlot 1) (ResetDevice 1) ≡ true
 one_slot = refl
 
-pub two_slots : exclude (StopEndpoint 1 2) (StopEndpoint 2 2) ≡ false
+pub two_slots : exclude flags (StopEndpoint 1 2) (StopEndpoint 2 2) ≡ false
 two_slots = refl
 
-pub none_named : exclude EnableSlot EnableSlot ≡ false
+pub none_named : exclude flags EnableSlot EnableSlot ≡ false
 none_named = refl

@@ -79,9 +79,9 @@ other_endpoint None _ = false
 abbrev pub name_two_endpoints : Command → Command → Bool
 name_two_endpoints c d = other_endpoint (named_endpoint c) (named_endpoint d)
 
--- of one slot, and not of two endpoints: the one may not be given while the other is unfinished
-abbrev pub exclude : Command → Command → Bool
-exclude c d = name_one_slot c d && not (name_two_endpoints c d)
+-- of one slot, and not of two endpoints
+abbrev pub exclude_by_slot : Command → Command → Bool
+exclude_by_slot c d = name_one_slot c d && not (name_two_endpoints c d)
 
 abbrev pub is_slot_or_any : Option ℕ → ℕ → Bool
 is_slot_or_any None n = true

@@ -1,4 +1,5 @@
 pub mod Command
 pub mod States
 pub mod Changes
+pub mod SideBySide
 pub mod OnLiterals

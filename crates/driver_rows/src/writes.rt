@@ -6,6 +6,7 @@ mod crossings;
 mod given_commands;
 mod plain;
 mod positions;
+mod side_by_side;
 mod word_write;
 
 pub use checks::check_write;

@@ -9,7 +9,7 @@ use Rattle.ownership_rules.specs.declared.refusal.Refusal.TheVariants.{WriteToOw
 use Rattle.ownership_rules.specs.Commands as commands
 use Rattle.ownership_rules.specs.Moves as moves
 use Rattle.ownership_rules.specs.Writes as writes
-use Rattle.ownership_rules.specs.Older.{stricter}
+use Rattle.ownership_rules.specs.Older.{is_busy_before, stricter}
 
 module _ (h : Header) where
   -- the write breaks WriteToOwned, by the trace's version
@@ -18,7 +18,7 @@ module _ (h : Header) where
 
   -- of a command that is given: an unfinished command of its slot excludes it, or merely shares the slot where the version refuses that
   unfoldable pub has_busy_slot : Known → Command → Bool
-  has_busy_slot k c = (commands.shares_slot h k c && not (is_lenient h.version)) || commands.is_busy h k c
+  has_busy_slot k c = is_busy_before h k c || commands.is_busy h k c
 
   -- of a command that is given: an endpoint that is added has streams, or is isochronous where the version refuses that
   unfoldable pub has_left_out_endpoint : Known → Command → Bool

@@ -4,7 +4,8 @@ use Rattle.std.specs.List.{list_any}
 use Rattle.segments.specs.Places.{overlap}
 use Rattle.commands.specs.declared.command.Command.{Command}
 use Rattle.commands.specs.declared.command.Command.TheVariants.{AddressDevice, ConfigureEndpoint}
-use Rattle.commands.specs.Command.{named_slot, named_endpoint, named_context, name_one_slot, exclude}
+use Rattle.commands.specs.Command.{named_slot, named_endpoint, named_context, name_one_slot, exclude_by_slot}
+use Rattle.commands.specs.SideBySide.{exclude}
 use Rattle.commands.specs.States.{is_disabled, is_off}
 use Rattle.contexts.specs.Contexts.{added_endpoints, input_add_flag, input_drop_flag, input_endpoint, endpoint_type, endpoint_streams, is_isochronous, device_context_bytes, input_context_bytes}
 use Rattle.traces.specs.declared.header.Header.{Header}
@@ -66,7 +67,11 @@ module _ (h : Header) where
 
   -- an unfinished command of its slot excludes it
   unfoldable pub is_busy : Known → Command → Bool
-  is_busy k c = list_any (exclude c) (unfinished h k)
+  is_busy k c = list_any (exclude k.memory c) (unfinished h k)
+
+  -- its slot has an unfinished command, and not one of another endpoint beside one of an endpoint
+  unfoldable pub is_busy_by_slot : Known → Command → Bool
+  is_busy_by_slot k c = list_any (exclude_by_slot c) (unfinished h k)
 
   -- its slot has an unfinished command
   unfoldable pub shares_slot : Known → Command → Bool

@@ -70,7 +70,7 @@ module _ (h : Header) (is : IsHeader h) (k : Known) (d : DriverKeeps h k) (e : B
       elim (cases_option (k.ring_of s 1)) [
         | inl none ↦ ap is_off (d.states.off s 1 none)
         | inr has ↦
-            absurd (behind_keeps.states.on s 1 has.0 (rings_behind h is k d e may p (AddressDevice s bsr n) s 1 u (refl, tt) ∙ has.1) (off_is (l.endpoint_state s 1) off))
+            absurd (behind_keeps.states.on s 1 has.0 (rings_behind h is k d e may p (AddressDevice s bsr n) s 1 u (refl, refl) ∙ has.1) (off_is (l.endpoint_state s 1) off))
       ]
 
   binds_before : (p r : ℕ) (c : Command) → IsUnfinished h l p c → binds_ring h l r c ≡ true → binds_ring h k r c ≡ true

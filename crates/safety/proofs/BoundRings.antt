@@ -12,7 +12,7 @@ unfolding binds_ring ring_bound
 bound_transfer h is k r c bound = grind (arith, Any-from_list_any, having_transfer, ring_is)
 
 -- so it concerns that endpoint
-pub drops_concerns : (k : Known) (c : Command) (s i : ℕ) → drops k c s i ≡ true → Concerns c s i
+pub drops_concerns : (k : Known) (c : Command) (s i : ℕ) → drops k c s i ≡ true → Concerns k.memory c s i
 unfolding drops
 drops_concerns k o s i is = grind (arith, false, eqb-true, and_parts, is_dropped, false≢true)
 

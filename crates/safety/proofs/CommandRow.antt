@@ -1,5 +1,5 @@
 -- Behind an event that is read before it, a write that gives a command breaks no rule: what is tested of its bindings and its slot
-use Rattle.safety.proofs.UpperLaws.{[], ◌≡◌, ◌||◌, ◌∷◌, ◌∙◌, ℕ, not, true, false, List, map, All, Some, refl, sym, ap, subst, inl, inr, eq-eqb, rules, MayCome, list_any, or_from, not_from_true, false≢true, false_from_ne_true, All-head, All-tail, cases_option, Block, Command, NoOp, EnableSlot, DisableSlot, AddressDevice, ConfigureEndpoint, EvaluateContext, ResetEndpoint, StopEndpoint, SetTrDequeue, ResetDevice, Header, Write, Read, IsHeader, command_id, is_ring, Known, unfinished, command_given, learned, Binding, binding_in, binds, ring_bound, binds_ring, has_repeats, drops, is_kept, is_taken, is_placed, is_bad_place, is_being_bound, is_bad_binding, lenient, IsIn, some_of, any_of, IsUnfinished, CommandKeeps, DriverKeeps, exclude, adds_streams, is_busy, streams_in, arith, none_fewer, beside_old, command_same, listed_unfinished, listed_before, none_kept, binds_ring_beside}
+use Rattle.safety.proofs.UpperLaws.{[], ◌≡◌, ◌||◌, ◌∷◌, ◌∙◌, ℕ, not, true, false, List, map, All, Some, refl, sym, ap, subst, inl, inr, eq-eqb, rules, MayCome, list_any, or_from, not_from_true, false≢true, false_from_ne_true, All-head, All-tail, cases_option, Block, Command, NoOp, EnableSlot, DisableSlot, AddressDevice, ConfigureEndpoint, EvaluateContext, ResetEndpoint, StopEndpoint, SetTrDequeue, ResetDevice, Header, Write, Read, IsHeader, command_id, is_ring, Known, unfinished, command_given, learned, Binding, binding_in, binds, ring_bound, binds_ring, has_repeats, drops, is_kept, is_taken, is_placed, is_bad_place, is_being_bound, is_bad_binding, lenient, IsIn, some_of, any_of, IsUnfinished, CommandKeeps, DriverKeeps, exclude, adds_streams, is_busy, streams_in, arith, none_fewer, beside_old, command_same, listed_unfinished, listed_before, none_kept, binds_ring_beside, event_behind}
 use Rattle.safety.proofs.CommandBeneath.{rings_there, floors_alike, alike_there}
 use Rattle.safety.proofs.GivenBehind.{between, there, kept, keeps, facts, beside, beside_given, own_between}
 
@@ -21,7 +21,9 @@ module _ (h : Header) (is : IsHeader h) (k : Known) (d : DriverKeeps h k) (a w :
   -- no unfinished command excludes it
   pub idle_behind : is_busy h l c ≡ false
   unfolding is_busy
-  idle_behind = none_fewer (exclude c) (unfinished h k) (unfinished h l) (listed_before h is k d e may) (facts h is k d a w e clean may c given).busy
+  idle_behind =
+      subst (λ m. list_any (exclude m c) (unfinished h l) ≡ false) (sym (event_behind h is k d e may).driver.memory)
+      (none_fewer (exclude k.memory c) (unfinished h k) (unfinished h l) (listed_before h is k d e may) (facts h is k d a w e clean may c given).busy)
 
   pub profile_behind : adds_streams h l c ≡ false
   unfolding adds_streams streams_in

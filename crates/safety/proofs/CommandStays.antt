@@ -12,7 +12,7 @@ module _ (h : Header) (is : IsHeader h) (k : Known) (d : DriverKeeps h k) (a w :
   m = learned h k (Write a w)
 
   -- the rings of the endpoints that the command concerns are those that they had
-  pub rings_concerned : (t i : ℕ) → Concerns c t i → l.ring_of t i ≡ k.ring_of t i
+  pub rings_concerned : (t i : ℕ) → Concerns m.memory c t i → l.ring_of t i ≡ k.ring_of t i
   rings_concerned t i its =
       let at = there h is k d a w e clean may c given in
       sym (ap (λ f. f t i) (alike_there h is k d a w e clean may).ring_of)
@@ -22,7 +22,7 @@ module _ (h : Header) (is : IsHeader h) (k : Known) (d : DriverKeeps h k) (a w :
   -- nor is anything behind the event
   pub left_behind : (s n r : ℕ) (bsr : Bool) → c ≡ AddressDevice s bsr n → l.ring_of s 1 ≡ Some r → declared (l.ring r) ≡ floor_number (l.ring r)
   left_behind s n r bsr same at =
-      let left = (facts h is k d a w e clean may c given).nothing_left s n r bsr same (sym (rings_concerned s 1 (subst (λ x. Concerns x s 1) (sym same) (refl, tt))) ∙ at) in
+      let left = (facts h is k d a w e clean may c given).nothing_left s n r bsr same (sym (rings_concerned s 1 (subst (λ x. Concerns m.memory x s 1) (sym same) (refl, refl))) ∙ at) in
       elim ((event_behind h is k d e may).rings r) [
         | inl still ↦ ap (λ (v : RingView). declared v) still ∙ left ∙ sym (ap (λ (v : RingView). floor_number v) still)
         | inr on ↦

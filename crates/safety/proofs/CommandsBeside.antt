@@ -1,7 +1,16 @@
 -- What the rules say of a command holds still where nothing that the command reads has changed
-use Rattle.safety.proofs.Words.{[], ◌≡◌, ◌≢◌, ◌<◌, ◌==◌, ◌&&◌, ◌||◌, if◌then◌else◌, ◌∷◌, ◌∙◌, ℕ, not, Bool, false, map, Option, None, Some, is_none, nat_lt, arith, refl, ap, nat_le, rules, list_any, or_parts, or_from, and_left, Command, AddressDevice, ConfigureEndpoint, named_slot, named_context, is_disabled, is_off, added_endpoints, input_add_flag, Header, is_ring, Known, binding_in, binds, ring_bound, binds_ring, drops, adds_streams, has_bad_content, has_bad_context, is_bad_added, is_bad_command, names_disabled_endpoint, names_disabled_slot, streams_in, takes_bad_device, type_in}
-use Rattle.safety.proofs.Concerned.{Concerns}
-use Rattle.safety.proofs.ContextReads.{AgreeIn, any_same, map_same, added_indices, added_same, add_flag_same, drop_flag_same, type_same, streams_same, pointer_same, cycle_same}
+use Rattle.safety.proofs.Words.{[], ◌≡◌, ◌≢◌, ◌<◌, ◌==◌, ◌&&◌, ◌||◌, if◌then◌else◌, ◌∷◌, ◌∙◌, ℕ, not, Bool, false, map, Option, None, Some, is_none, nat_lt, arith, refl, ap, nat_le, rules, list_any, or_parts, or_from, and_left, Command, AddressDevice, ConfigureEndpoint, named_slot, named_context, is_disabled, is_off, added_endpoints, input_add_flag, Header, is_ring, Known, binding_in, binds, ring_bound, binds_ring, drops, adds_streams, has_bad_content, has_bad_context, is_bad_added, is_bad_command, names_disabled_endpoint, names_disabled_slot, streams_in, takes_bad_device, type_in, true, EvaluateContext, named_endpoint, concerns, concerns_named, exclude, List, IsIn, inl, inr, sym, subst}
+use Rattle.safety.proofs.Concerned.{Concerns, added_concerned}
+use Rattle.safety.proofs.ContextReads.{AgreeIn, AreIndices, any_same, map_same, added_indices, added_same, add_flag_same, drop_flag_same, type_same, streams_same, pointer_same, cycle_same}
+
+any_same_in : (p q : ℕ → Bool) (xs : List ℕ) → ((i : ℕ) → IsIn i xs → p i ≡ q i) → list_any p xs ≡ list_any q xs
+any_same_in p q [] same = refl
+any_same_in p q (i ∷ rest) same =
+    ap (λ b. b || list_any p rest) (same i (inl refl)) ∙ ap (λ b. q i || b) (any_same_in p q rest (λ j there. same j (inr there)))
+
+index_low : (xs : List ℕ) → AreIndices xs → (i : ℕ) → IsIn i xs → i < 32
+index_low [] below i there = absurd there
+index_low (x ∷ rest) below i there = elim there [ inl here ↦ subst (λ n. n < 32) (sym here) below.1 | inr later ↦ index_low rest below.0 i later ]
 
 none_is : (o : Option ℕ) → o ≢ None → is_none o ≡ false
 none_is o some = grind arith
@@ -12,7 +21,7 @@ module _ (h : Header) where
     pub memory : (n : ℕ) → named_context c ≡ Some n → AgreeIn h.context_size k.memory l.memory n
     pub context : (n : ℕ) → named_context c ≡ Some n → has_bad_context h l (Some n) ≡ false
     pub slot : (s : ℕ) → named_slot c ≡ Some s → is_disabled (k.slot_state s) ≡ false → is_disabled (l.slot_state s) ≡ false
-    pub off : (s i : ℕ) → Concerns c s i → is_off (l.endpoint_state s i) ≡ is_off (k.endpoint_state s i)
+    pub off : (s i : ℕ) → Concerns k.memory c s i → is_off (l.endpoint_state s i) ≡ is_off (k.endpoint_state s i)
     pub device : (s n : ℕ) (bsr : Bool) → c ≡ AddressDevice s bsr n → l.device s ≢ None
 
   -- ---- single parts
@@ -45,7 +54,7 @@ module _ (h : Header) where
     pub binds_beside : (c : Command) → Beside k l c → binds h l c ≡ binds h k c
     unfolding binds
     binds_beside (AddressDevice s bsr n) b =
-        ap (λ t. if t then binding_in h l n 1 ∷ [] else []) (b.off s 1 (refl, tt))
+        ap (λ t. if t then binding_in h l n 1 ∷ [] else []) (b.off s 1 (refl, refl))
         ∙ ap (λ x. if is_off (k.endpoint_state s 1) then x ∷ [] else []) (binding k l n (b.memory n refl) 1 (omega arith))
     binds_beside (ConfigureEndpoint s false n) b =
         let same = b.memory n refl in
@@ -82,8 +91,8 @@ module _ (h : Header) where
     content_beside (ConfigureEndpoint s false n) b good =
         let same = b.memory n refl in
         ap (λ xs. list_any (is_bad_added h l s n) xs) (added_same h.context_size k.memory l.memory n same)
-        ∙ any_same (is_bad_added h l s n) (is_bad_added h k s n) (added_endpoints k.memory n) (added_indices k.memory n)
-        (λ i low. bad_added k l n same s i low (b.off s i (refl, tt)))
+        ∙ any_same_in (is_bad_added h l s n) (is_bad_added h k s n) (added_endpoints k.memory n)
+        (λ i there. bad_added k l n same s i (index_low (added_endpoints k.memory n) (added_indices k.memory n) i there) (b.off s i (refl, added_concerned k.memory s n i there)))
         ∙ good
     content_beside _ b good = refl
 
@@ -93,3 +102,21 @@ module _ (h : Header) where
 
     pub in_profile_beside : (c : Command) → Beside k l c → adds_streams h k c ≡ false → adds_streams h l c ≡ false
     in_profile_beside c b good = profile_beside c b ∙ good
+
+  -- ---- two commands
+
+  module _ (k l : Known) where
+    concerns_beside : (c : Command) → Beside k l c → (i : ℕ) → concerns l.memory c i ≡ concerns k.memory c i
+    concerns_beside (ConfigureEndpoint s false n) b i =
+        let same = b.memory n refl in
+        rw (drop_flag_same h.context_size k.memory l.memory n same i, add_flag_same h.context_size k.memory l.memory n same i) refl
+    concerns_beside (EvaluateContext s n) b i = let same = b.memory n refl in rw (add_flag_same h.context_size k.memory l.memory n same i) refl
+    concerns_beside (ConfigureEndpoint s true n) b i = refl
+    concerns_beside _ b i = refl
+
+    named_beside : (c : Command) → Beside k l c → (o : Option (ℕ × ℕ)) → concerns_named l.memory c o ≡ concerns_named k.memory c o
+    named_beside c b None = refl
+    named_beside c b (Some e) = concerns_beside c b e.1
+
+    pub exclude_beside : (c d : Command) → Beside k l c → Beside k l d → exclude l.memory c d ≡ exclude k.memory c d
+    exclude_beside c d b e = rw (named_beside c b (named_endpoint d), named_beside d e (named_endpoint c)) refl

@@ -1,5 +1,5 @@
 -- A completion keeps what is kept of the commands that stay unfinished
-use Rattle.safety.proofs.MiddleLaws.{◌≡◌, ◌≢◌, ◌==◌, if◌then◌else◌, ◌∙◌, ℕ, not, true, false, nat_lt, Option, None, Some, arith, refl, sym, ap, subst, inl, inr, ltb-true, cases_Bool, cond-true, cond-false, or_parts, and_parts, not-false, false≢true, Block, code, slot, Spot, after, Reaches, ceiling, Command, NoOp, EnableSlot, DisableSlot, AddressDevice, ConfigureEndpoint, EvaluateContext, ResetEndpoint, StopEndpoint, SetTrDequeue, ResetDevice, exclude, named_slot, may_answer_slot, is_disabled, can_succeed, Header, Config, IsHeader, shape_of, command_id, register_or_zero, Known, command_at, next_command, on_ring, succeeded, stop_ended, finished, completed, may_be_taken, can_finish, was_stop_seen, is_impossible_completion, IsDriverRing, IsUnfinished, DriverKeeps, CommandsKeep, names_disabled_slot, rules, ring_shape, ceiling_given, AtFloor, at_floor, command_is_ring, completion_same, IsPart, OtherSlots, same_others, both_others, on_others, Concerns, not_both, own_keeps, pair_keeps, commands_stay, changed_slot, changed_part, OfCommand, Commands, of_slot, success_others, named_if_taken}
+use Rattle.safety.proofs.MiddleLaws.{◌≡◌, ◌≢◌, ◌==◌, if◌then◌else◌, ◌∙◌, ℕ, not, true, false, nat_lt, Option, None, Some, arith, refl, sym, ap, subst, inl, inr, ltb-true, cases_Bool, cond-true, cond-false, or_parts, and_parts, not-false, false≢true, Block, code, slot, Spot, after, Reaches, ceiling, Command, NoOp, EnableSlot, DisableSlot, AddressDevice, ConfigureEndpoint, EvaluateContext, ResetEndpoint, StopEndpoint, SetTrDequeue, ResetDevice, exclude, named_slot, may_answer_slot, is_disabled, can_succeed, Header, Config, IsHeader, shape_of, command_id, register_or_zero, Known, command_at, next_command, on_ring, succeeded, stop_ended, finished, completed, may_be_taken, can_finish, was_stop_seen, is_impossible_completion, IsDriverRing, IsUnfinished, DriverKeeps, CommandsKeep, names_disabled_slot, rules, ring_shape, ceiling_given, AtFloor, at_floor, command_is_ring, completion_same, IsPart, OtherSlots, same_others, both_others, on_others, Concerns, not_both, own_keeps, pair_keeps, commands_stay, changed_slot, changed_part, OfCommand, Commands, of_slot, success_others, named_if_taken, Bool}
 use Rattle.safety.proofs.TakenDevices.{slot_above, slot_named}
 use Rattle.safety.proofs.CommandsFinished.{beside_finished, rings_finished, unfinished_before}
 
@@ -8,7 +8,7 @@ enabled_slot : (k : Known) (n : ℕ) → can_succeed k.slot_state k.endpoint_sta
 unfolding can_succeed
 enabled_slot k n can = grind (arith, false≢true)
 
-stop_others : (h : Header) (k x : Known) (s : ℕ) (part : Option ℕ) (B : ℕ → Type 0) (e : Command) → OtherSlots k x s part B → OtherSlots k (stop_ended h x e) s part B
+stop_others : (h : Header) (k x : Known) (s : ℕ) (part : Option (ℕ → Bool)) (B : ℕ → Type 0) (e : Command) → OtherSlots k x s part B → OtherSlots k (stop_ended h x e) s part B
 unfolding stop_ended
 stop_others h k x s part B (StopEndpoint t i) o = search rules
 stop_others h k x s part B _ o = o
@@ -19,7 +19,7 @@ module _ (h : Header) (is : IsHeader h) (k : Known) (d : DriverKeeps h k) (b : B
   l = completed h k b
 
   -- all that changed is of one slot, or of one endpoint, or a ring that the command names, or the command ring
-  finished_others : (s : ℕ) (part : Option ℕ) → OtherSlots k (if code b == 1 then succeeded h k (slot b) e else k) s part (OfCommand h k s part e) →
+  finished_others : (s : ℕ) (part : Option (ℕ → Bool)) → OtherSlots k (if code b == 1 then succeeded h k (slot b) e else k) s part (OfCommand h k s part e) →
       OtherSlots k l s part (OfCommand h k s part e)
   unfolding completed finished
   finished_others s part o =
@@ -40,29 +40,26 @@ module _ (h : Header) (is : IsHeader h) (k : Known) (d : DriverKeeps h k) (b : B
   not_zero p c t u named same = let above = slot_above h k d t (named_above p c t u named) in absurd (omega arith)
 
   not_concerned : (f : Command) (n p : ℕ) (c : Command) (t i : ℕ) → can_succeed k.slot_state k.endpoint_state (register_or_zero k.register Config) n f ≡ true → IsUnfinished h k p c →
-      exclude f c ≡ false → Concerns c t i → t ≡ changed_slot f n → IsPart (changed_part f) i → ⊥
+      exclude k.memory f c ≡ false → Concerns k.memory c t i → t ≡ changed_slot f n → IsPart (changed_part k.memory f) i → ⊥
   unfolding names_disabled_slot
   not_concerned NoOp n p c t i can u apart its same part = not_zero p c t u its.0 same
   not_concerned EnableSlot n p c t i can u apart its same part =
       false≢true (sym ((named_above p c t u its.0)) ∙ ap (λ x. is_disabled (k.slot_state x)) same ∙ enabled_slot k n can)
-  not_concerned (DisableSlot s) n p c t i can u apart its same part = not_both (DisableSlot s) c t i apart (ap (λ x. Some x) (sym same), tt) its
-  not_concerned (AddressDevice s bsr x) n p c t i can u apart its same part = not_both (AddressDevice s bsr x) c t i apart (ap (λ x. Some x) (sym same), tt) its
-  not_concerned (ConfigureEndpoint s dc x) n p c t i can u apart its same part = not_both (ConfigureEndpoint s dc x) c t i apart (ap (λ x. Some x) (sym same), tt) its
-  not_concerned (EvaluateContext s x) n p c t i can u apart its same part = not_both (EvaluateContext s x) c t i apart (ap (λ x. Some x) (sym same), tt) its
-  not_concerned (ResetEndpoint s j) n p c t i can u apart its same part =
-      not_both (ResetEndpoint s j) c t i apart (ap (λ x. Some x) (sym same), (sym same, sym part)) its
-  not_concerned (StopEndpoint s j) n p c t i can u apart its same part =
-      not_both (StopEndpoint s j) c t i apart (ap (λ x. Some x) (sym same), (sym same, sym part)) its
-  not_concerned (SetTrDequeue s j x cycle) n p c t i can u apart its same part =
-      not_both (SetTrDequeue s j x cycle) c t i apart (ap (λ x. Some x) (sym same), (sym same, sym part)) its
-  not_concerned (ResetDevice s) n p c t i can u apart its same part = not_both (ResetDevice s) c t i apart (ap (λ x. Some x) (sym same), tt) its
+  not_concerned (DisableSlot s) n p c t i can u apart its same part = not_both k.memory (DisableSlot s) c t i apart (ap (λ x. Some x) (sym same), refl) its
+  not_concerned (AddressDevice s bsr x) n p c t i can u apart its same part = not_both k.memory (AddressDevice s bsr x) c t i apart (ap (λ x. Some x) (sym same), refl) its
+  not_concerned (ConfigureEndpoint s dc x) n p c t i can u apart its same part = not_both k.memory (ConfigureEndpoint s dc x) c t i apart (ap (λ x. Some x) (sym same), part) its
+  not_concerned (EvaluateContext s x) n p c t i can u apart its same part = not_both k.memory (EvaluateContext s x) c t i apart (ap (λ x. Some x) (sym same), part) its
+  not_concerned (ResetEndpoint s j) n p c t i can u apart its same part = not_both k.memory (ResetEndpoint s j) c t i apart (ap (λ x. Some x) (sym same), part) its
+  not_concerned (StopEndpoint s j) n p c t i can u apart its same part = not_both k.memory (StopEndpoint s j) c t i apart (ap (λ x. Some x) (sym same), part) its
+  not_concerned (SetTrDequeue s j x cycle) n p c t i can u apart its same part = not_both k.memory (SetTrDequeue s j x cycle) c t i apart (ap (λ x. Some x) (sym same), part) its
+  not_concerned (ResetDevice s) n p c t i can u apart its same part = not_both k.memory (ResetDevice s) c t i apart (ap (λ x. Some x) (sym same), refl) its
 
   -- what the command changed when it ended: no other unfinished command concerns any of it
   pub record Changed : Type 0 where
     pub slot : ℕ
-    pub part : Option ℕ
+    pub part : Option (ℕ → Bool)
     pub others : OtherSlots k l slot part (OfCommand h k slot part e)
-    pub apart : (p : ℕ) (c : Command) (t i : ℕ) → IsUnfinished h k p c → p ≢ next_command h k → Concerns c t i → t ≡ slot → IsPart part i → ⊥
+    pub apart : (p : ℕ) (c : Command) (t i : ℕ) → IsUnfinished h k p c → p ≢ next_command h k → Concerns k.memory c t i → t ≡ slot → IsPart part i → ⊥
 
   pub changed_by_code : (if code b == 1 then can_succeed k.slot_state k.endpoint_state (register_or_zero k.register Config) (slot b) e else not (was_stop_seen k e)) ≡ true → Changed
   changed_by_code may =
@@ -72,9 +69,9 @@ module _ (h : Header) (is : IsHeader h) (k : Known) (d : DriverKeeps h k) (b : B
             let s : ℕ = changed_slot e (slot b) in
             record {
               slot = s;
-              part = changed_part e;
-              others = finished_others s (changed_part e)
-                  (subst (λ x. OtherSlots k x s (changed_part e) (OfCommand h k s (changed_part e) e)) (sym (cond-true (code b == 1) (succeeded h k (slot b) e) k success))
+              part = changed_part k.memory e;
+              others = finished_others s (changed_part k.memory e)
+                  (subst (λ x. OtherSlots k x s (changed_part k.memory e) (OfCommand h k s (changed_part k.memory e) e)) (sym (cond-true (code b == 1) (succeeded h k (slot b) e) k success))
                   (success_others h k (slot b) e (d.unfinished (next_command h k) e ends).moves_on));
               apart = λ p c t i u other. not_concerned e (slot b) p c t i can u ((d.unfinished p c u).alone (next_command h k) e ends (λ same. other (sym same)));
             }

@@ -1,5 +1,6 @@
 -- What is kept of unfinished commands is kept where nothing that they read has changed
 use Rattle.safety.proofs.LowerLaws.{◌≡◌, ◌≢◌, ◌≤◌, ◌∙◌, ℕ, not, Bool, true, false, map, All, Some, arith, refl, sym, ap, subst, List, get_or, eq-eqb, rules, MovesRestored, or_parts, or_from, not-false, not_from_true, Shape, RingView, declared, floor_number, ceiling, is_move, Command, AddressDevice, SetTrDequeue, is_at_rest, context_pointer, context_cycle, Header, shape_of, Known, binds, ring_bound, binds_ring, has_repeats, is_bad_dequeue, is_bad_move, IsUnfinished, StaysIf, MovesIf, CommandKeeps, is_placed, is_placement, drops, Binding, list_any, is_ring, Any-from_list_any, All-get_or, cases_option, list_any_at, false≢true, placement_still, exclude, adds_streams, is_bad_command, Concerns, pointer_same, cycle_same, ring_is, Beside, good_beside, in_profile_beside, binds_beside, binds_ring_beside, drops_beside}
+use Rattle.safety.proofs.CommandsBeside.{exclude_beside}
 
 -- the pointer of a ring on which nothing is given stands there still, and nothing is given still
 pub record Standing (shape : Shape) (v w : RingView) : Type 0 where
@@ -11,8 +12,8 @@ abbrev pub PlacesStay : Shape → RingView → RingView → Type 0
 PlacesStay shape v w = (p : ℕ) (cycle : Bool) → is_placement shape v p cycle ≡ true → is_placement shape w p cycle ≡ true
 
 -- where nothing more is free, and the endpoint has the ring that it had
-pub still_restored : (k l : Known) (c : Command) → ((s i : ℕ) → Concerns c s i → l.ring_of s i ≡ k.ring_of s i) → ((r : ℕ) → (l.ring r).free ≡ (k.ring r).free) → MovesRestored k c → MovesRestored l c
-still_restored k l c ring_of free restored s i p cycle at r has q = search rules
+pub still_restored : (k l : Known) (c : Command) → ((s i : ℕ) → Concerns k.memory c s i → l.ring_of s i ≡ k.ring_of s i) → ((r : ℕ) → (l.ring r).free ≡ (k.ring r).free) → MovesRestored k c → MovesRestored l c
+still_restored k l c ring_of free restored s i p cycle at r has q = search (rules, eq-eqb)
 
 -- a spot to which the ring may be moved is one still
 abbrev pub MovesAhead : Shape → RingView → RingView → Type 0
@@ -31,7 +32,7 @@ module _ (h : Header) where
 
   -- what is kept of two commands
   pub record PairKeeps (k : Known) (c d : Command) : Type 0 where
-    pub alone : exclude d c ≡ false
+    pub alone : exclude k.memory d c ≡ false
     pub unshared : (r : ℕ) → binds_ring h k r c ≡ true → binds_ring h k r d ≡ false
 
   pub own_keeps : (k : Known) (p : ℕ) (c : Command) → CommandKeeps h k p c → OwnKeeps k c
@@ -46,7 +47,7 @@ module _ (h : Header) where
 
   -- the rings that a command names, and the endpoints that have them
   pub record RingsBeside (k l : Known) (c : Command) : Type 0 where
-    pub ring_of : (s i : ℕ) → Concerns c s i → l.ring_of s i ≡ k.ring_of s i
+    pub ring_of : (s i : ℕ) → Concerns k.memory c s i → l.ring_of s i ≡ k.ring_of s i
     pub rest : (s i p : ℕ) (cycle : Bool) → c ≡ SetTrDequeue s i p cycle → is_at_rest (k.endpoint_state s i) ≡ true → is_at_rest (l.endpoint_state s i) ≡ true
     pub ahead : (s i p r : ℕ) (cycle : Bool) → c ≡ SetTrDequeue s i p cycle → k.ring_of s i ≡ Some r → is_at_rest (k.endpoint_state s i) ≡ true → MovesAhead (shape_of h r) (k.ring r) (l.ring r)
     pub standing : (s n r : ℕ) (bsr : Bool) → c ≡ AddressDevice s bsr n → k.ring_of s 1 ≡ Some r → Standing (shape_of h r) (k.ring r) (l.ring r)
@@ -66,7 +67,7 @@ module _ (h : Header) where
     stays_beside : (c : Command) → Beside h k l c → RingsBeside k l c → StaysIf h k c → StaysIf h l c
     stays_beside (AddressDevice s bsr n) m b stays =
         λ r at.
-        let before : k.ring_of s 1 ≡ Some r = sym (b.ring_of s 1 (refl, tt)) ∙ at in
+        let before : k.ring_of s 1 ≡ Some r = sym (b.ring_of s 1 (refl, refl)) ∙ at in
         let stands : Standing (shape_of h r) (k.ring r) (l.ring r) = b.standing s n r bsr refl before in
         let same = m.memory n refl in
         record {
@@ -111,7 +112,7 @@ module _ (h : Header) where
         let m : Beside h k l c = beside p c u in
         let kept : OwnKeeps l c = own_beside c m (rings p c u) (own p c u) in
         record {
-          alone = λ q d v other. (pair p q c d u v other).alone;
+          alone = λ q d v other. exclude_beside h k l d c (beside q d v) m ∙ (pair p q c d u v other).alone;
           good = kept.good;
           in_profile = kept.in_profile;
           device = m.device;

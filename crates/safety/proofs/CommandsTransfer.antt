@@ -39,7 +39,8 @@ module _ (h : Header) (is : IsHeader h) (k : Known) (d : DriverKeeps h k) where
         elim (cases_eq (next_command h k) u) [
           | inl same ↦ search (rules, false≢true)
           | inr apart ↦
-              false≢true (sym ((d.unfinished u (AddressDevice s bsr n) unfinished_at).alone (next_command h k) (StopEndpoint s 1) other apart) ∙ and_from (s == s) true (eq-eqb s s refl) refl)
+              not_both k.memory (StopEndpoint s 1) (AddressDevice s bsr n) s 1 ((d.unfinished u (AddressDevice s bsr n) unfinished_at).alone (next_command h k) (StopEndpoint s 1) other apart)
+              (refl, refl) (refl, refl)
         ]
 
     no_report : (c : ℕ) → can_report h k c s 1 r t ≡ true → ⊥
@@ -58,7 +59,7 @@ module _ (h : Header) (is : IsHeader h) (k : Known) (d : DriverKeeps h k) where
         let other = stopping_unfinished u e s i unfinished_at stopping in
         elim (cases_eq (next_command h k) u) [
           | inl same ↦ stops_drop_none k e s i s i drops_it (same_Some e (StopEndpoint s i) (sym unfinished_at.command ∙ ap (λ p. command_at h k p) (sym same) ∙ other.command))
-          | inr apart ↦ not_both (StopEndpoint s i) e s i ((d.unfinished u e unfinished_at).alone (next_command h k) (StopEndpoint s i) other apart) (refl, (refl, refl)) (drops_concerns k e s i drops_it)
+          | inr apart ↦ not_both k.memory (StopEndpoint s i) e s i ((d.unfinished u e unfinished_at).alone (next_command h k) (StopEndpoint s i) other apart) (refl, eq-eqb i i refl) (drops_concerns k e s i drops_it)
         ]
 
     bound_none_reported : (c : ℕ) → can_report h k c s i r t ≡ true → ⊥

@@ -138,9 +138,9 @@ module _ (h : Header) (is : IsHeader h) (k : Known) (d : DriverKeeps h k) (a w :
       ]
 
   -- a command that is given isn't excluded by an unfinished one
-  not_busy : (p q : ℕ) (c e : Command) → GivesCommand h k a w p c → IsUnfinished h k q e → exclude c e ≡ false
+  not_busy : (p q : ℕ) (c e : Command) → GivesCommand h k a w p c → IsUnfinished h k q e → exclude k.memory c e ≡ false
   unfolding is_busy
-  not_busy p q c e g u = unfinished_fails h k (exclude c) q e (facts_of p c g).busy u
+  not_busy p q c e g u = unfinished_fails h k (exclude k.memory c) q e (facts_of p c g).busy u
 
   not_bound : (p q r : ℕ) (c e : Command) → GivesCommand h k a w p c → IsUnfinished h k q e → binds_ring h k r c ≡ true → binds_ring h k r e ≡ false
   unfolding is_being_bound
@@ -158,7 +158,7 @@ module _ (h : Header) (is : IsHeader h) (k : Known) (d : DriverKeeps h k) (a w :
         ]
         | inr new ↦ elim (unfinished_written h k a w is q e v) [
           | inl old ↦ record {
-            alone = excludes_turned e c ∙ not_busy p q c e new old;
+            alone = excludes_turned k.memory e c ∙ not_busy p q c e new old;
             unshared = λ r bound. not_bound p q r c e new old bound;
           }
           | inr newer ↦

@@ -31,7 +31,7 @@ module _ (h : Header) (is : IsHeader h) (k : Known) (d : DriverKeeps h k) where
 
   module _ (b : Block) (e : Command) (here : command_at h k (next_command h k) ≡ Some e) (ends : IsUnfinished h k (next_command h k) e) (ring : IsDriverRing h (command_id h)) where
     staying : (if code b == 1 then can_succeed k.slot_state k.endpoint_state (register_or_zero k.register Config) (slot b) e else not (was_stop_seen k e)) ≡ true →
-        (p : ℕ) (c : Command) (t i : ℕ) → IsUnfinished h (completed h k b) p c → Concerns c t i → (completed h k b).ring_of t i ≡ k.ring_of t i
+        (p : ℕ) (c : Command) (t i : ℕ) → IsUnfinished h (completed h k b) p c → Concerns k.memory c t i → (completed h k b).ring_of t i ≡ k.ring_of t i
     staying may p c t i u its =
         let was = unfinished_before h is k d b ring p c u in
         let changed : Changed h is k d b e here ends ring = changed_by_code h is k d b e here ends ring may in
@@ -43,7 +43,7 @@ module _ (h : Header) (is : IsHeader h) (k : Known) (d : DriverKeeps h k) where
     facts : EventFacts h k e
     facts = event_facts h k e may
 
-    rings_kind : (n : BlockKind) → kind e ≡ n → (p : ℕ) (c : Command) (t i : ℕ) → IsUnfinished h (event_read h k n e) p c → Concerns c t i →
+    rings_kind : (n : BlockKind) → kind e ≡ n → (p : ℕ) (c : Command) (t i : ℕ) → IsUnfinished h (event_read h k n e) p c → Concerns k.memory c t i →
         (event_read h k n e).ring_of t i ≡ k.ring_of t i
     unfolding event_read
     rings_kind TransferEvent at p c t i u its = ap (λ f. f t i) (transfer_slots h k e).ring_of
@@ -53,7 +53,7 @@ module _ (h : Header) (is : IsHeader h) (k : Known) (d : DriverKeeps h k) where
         staying e answer.0 answer.1 (next_unfinished h is k d facts.started finish.below answer.0 answer.1) (command_is_ring h k d (named_if_taken h k d facts.started finish.below)) answer.2 p c t i u its
     rings_kind _ at p c t i u its = refl
 
-    pub rings_behind : (p : ℕ) (c : Command) (t i : ℕ) → IsUnfinished h (learned h k (Read e)) p c → Concerns c t i → (learned h k (Read e)).ring_of t i ≡ k.ring_of t i
+    pub rings_behind : (p : ℕ) (c : Command) (t i : ℕ) → IsUnfinished h (learned h k (Read e)) p c → Concerns k.memory c t i → (learned h k (Read e)).ring_of t i ≡ k.ring_of t i
     unfolding learned command_at
     rings_behind p c t i u its = rings_kind (kind e) refl p c t i (record { due = u.due; given = u.given; command = u.command }) its
 
@@ -74,7 +74,7 @@ module _ (h : Header) (is : IsHeader h) (k : Known) (d : DriverKeeps h k) where
     unfolding moves_ring
     moves_before r (AddressDevice s bsr n) p u moves =
         let parts = and_parts (not (is_off (l.endpoint_state s 1))) (is_ring r (l.ring_of s 1)) moves in
-        let there : is_ring r (k.ring_of s 1) ≡ true = ap (λ o. is_ring r o) (sym (rings_behind p (AddressDevice s bsr n) s 1 u (refl, tt))) ∙ parts.1 in
+        let there : is_ring r (k.ring_of s 1) ≡ true = ap (λ o. is_ring r o) (sym (rings_behind p (AddressDevice s bsr n) s 1 u (refl, refl))) ∙ parts.1 in
         and_from (not (is_off (k.endpoint_state s 1))) (is_ring r (k.ring_of s 1)) (on_there s r (k.ring_of s 1) refl there) there
       where
         not_off : (state : EndpointState) → state ≢ Off → not (is_off state) ≡ true

@@ -1,7 +1,8 @@
 -- The words of std, of the crates below and of this crate's own definitions that its proofs cite, passed on by one file
 pub use Rattle.commands.specs.Changes.{Change, DeviceLeft, Disables, Places, Resets, SlotGoesOn, Stops, Types, is_above_control, placed_by_context, slot_gone_on, typed_by_context}
 unfoldable pub use Rattle.commands.specs.Changes.{changes}
-pub use Rattle.commands.specs.Command.{command_by_kind, command_of, exclude, is_stop_of, may_answer_slot, named_context, named_endpoint, named_slot, other_endpoint, same_slot}
+pub use Rattle.commands.specs.SideBySide.{concerns, concerns_named, exclude}
+pub use Rattle.commands.specs.Command.{command_by_kind, command_of, is_stop_of, may_answer_slot, named_context, named_endpoint, named_slot, name_one_slot, other_endpoint, same_slot}
 pub use Rattle.commands.specs.States.{endpoint_meant, endpoint_success, is_at_rest, is_disabled, is_off, is_running, is_slot_enabled, is_stopped, slot_meant, slot_success}
 unfoldable pub use Rattle.commands.specs.States.{can_succeed}
 pub use Rattle.commands.specs.declared.command.Command.{Command}

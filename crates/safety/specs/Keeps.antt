@@ -10,7 +10,8 @@ use Rattle.commands.specs.declared.command.Command.{Command}
 use Rattle.commands.specs.declared.command.Command.TheVariants.{AddressDevice}
 use Rattle.commands.specs.declared.state.SlotState.TheVariants.{Disabled, Enabled, Configured}
 use Rattle.commands.specs.declared.state.EndpointState.TheVariants.{Disabled as Off, Running}
-use Rattle.commands.specs.Command.{command_of, exclude}
+use Rattle.commands.specs.Command.{command_of}
+use Rattle.commands.specs.SideBySide.{exclude}
 use Rattle.contexts.specs.Contexts.{device_context_bytes, context_pointer, context_cycle}
 use Rattle.traces.specs.declared.header.Header.{Header}
 use Rattle.traces.specs.declared.register.Register.TheVariants.{Dcbaap, Erstsz, Erstba}
@@ -137,8 +138,8 @@ module _ (h : Header) where
 
   -- what was tested when a command was given, and stays true until its completion is read
   pub record CommandKeeps (k : Known) (p : ℕ) (c : Command) : Type 0 where
-    -- no other unfinished command excludes it: one of its slot is of another endpoint, and so is it
-    pub alone : (q : ℕ) (d : Command) → IsUnfinished k q d → q ≢ p → exclude d c ≡ false
+    -- no other unfinished command excludes it: of two of one slot one names an endpoint that the other leaves alone
+    pub alone : (q : ℕ) (d : Command) → IsUnfinished k q d → q ≢ p → exclude k.memory d c ≡ false
     pub good : commands.is_bad_command h k c ≡ false
     pub in_profile : commands.adds_streams h k c ≡ false
     pub device : (s n : ℕ) (bsr : Bool) → c ≡ AddressDevice s bsr n → k.device s ≢ None

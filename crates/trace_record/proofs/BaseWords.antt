@@ -1,7 +1,8 @@
 -- The words of std, of the crates below and of this crate's own definitions that its proofs cite, passed on by one file
 pub use Rattle.commands.specs.Changes.{is_above_control, placed_by_context}
 unfoldable pub use Rattle.commands.specs.Changes.{changes}
-pub use Rattle.commands.specs.Command.{command_of, exclude, name_one_slot, named_context, named_endpoint, named_slot, other_endpoint, same_slot}
+pub use Rattle.commands.specs.SideBySide.{concerns, concerns_named, exclude}
+pub use Rattle.commands.specs.Command.{command_of, exclude_by_slot, name_one_slot, named_context, named_endpoint, named_slot, other_endpoint, same_slot}
 pub use Rattle.commands.specs.States.{is_off, is_stopped, slot_success}
 pub use Rattle.commands.specs.declared.command.Command.{Command}
 pub use Rattle.commands.specs.declared.command.Command.TheVariants.{AddressDevice}

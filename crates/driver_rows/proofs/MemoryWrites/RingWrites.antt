@@ -2,6 +2,7 @@
 use Rattle.driver_rows.proofs.LowerLaws.{rules, ◌≡◌, ℕ, ◌%◌, ◌&&◌, not, List, [], ◌∷◌, Bool, true, false, Option, None, Some, refl, ap, ◌∙◌, ◌||◌, list_any, touches, positions_given, crossings_given, is_other_than_declared, is_not_declared, is_not_whole, leads_wrong, interrupts, Ring, Header, Write, IsHeader, is_driver_kind, is_event_kind, shape_of, is_lenient, Command, Known, command_given, positions_of, crossings_of, RingGiving, Position, WriteToOwned, NotAsSubmitted, NotDeclared, NotWhole, LinkFault, BadCommand, Busy, NotInProfile, BadMove, Test, first_of, first_broken, is_the_controllers, has_busy_slot, has_left_out_endpoint, older, places_badly, stricter, writes_to_owned, write_tests, changes_owned, some_given, some_crossed, some_command, holds_of, on_position, on_crossing, broken, lenient_tests, tests, IsLeast, or_left, or_right, or_false, any_append, any_map, any_nowhere, IsAmong, shape_there, GivesOnPosition, given_tests, first_broken-is, given_by_one, given_nowhere, owned_in_events, or_assoc}
 use Rattle.ownership_rules.specs.Commands as commands
 use Rattle.ownership_rules.specs.Moves as moves
+use Rattle.ownership_rules.specs.Older.{is_busy_before}
 
 -- the tests of a write that isn't to what the controller owns, of what is given of one ring
 module _ (h : Header) (k : Known) (a w : ℕ) (r : Ring) where
@@ -57,7 +58,7 @@ module _ (h : Header) (headed : IsHeader h) (k : Known) (on : k.stopped ≡ fals
 
   -- the rule on commands of one slot, as the trace's version has it
   busy_is : (c : Option Command) (given crossed : Bool) →
-      ((holds_of (commands.shares_slot h k) c && not (is_lenient h.version)) || (holds_of (commands.is_busy h k) c || given || crossed)) ≡ (holds_of (has_busy_slot h k) c || given || crossed)
+      (holds_of (is_busy_before h k) c || (holds_of (commands.is_busy h k) c || given || crossed)) ≡ (holds_of (has_busy_slot h k) c || given || crossed)
   unfolding holds_of has_busy_slot
   busy_is c given crossed = search (rules, or_assoc)
 

@@ -1,10 +1,10 @@
 -- What the rules of a command ask of its input context, by the words of memory: xHCI 4.6.5, 4.6.6, 6.2.3, 6.2.5
-use Rattle.std.specs.Prelude.{◌≡◌, ℕ, ◌%◌, ◌==◌, ◌&&◌, ◌||◌, Bool, false, not, nat_lt, if◌then◌else◌, Some}
+use Rattle.std.specs.Prelude.{◌≡◌, ◌<◌, ℕ, ◌%◌, ◌==◌, ◌&&◌, ◌||◌, Bool, false, not, nat_lt, if◌then◌else◌, Some}
 use Rattle.std.specs.List.{list_any}
 use Rattle.commands.specs.declared.command.Command.{Command}
 use Rattle.commands.specs.declared.command.Command.TheVariants.{AddressDevice, ConfigureEndpoint}
 use Rattle.commands.specs.declared.state.EndpointState.{EndpointState}
-use Rattle.commands.specs.Command.{named_context}
+use Rattle.commands.specs.Command.{named_context, named_endpoint}
 use Rattle.commands.specs.States.{is_off}
 use Rattle.traces.specs.declared.header.Header.{Header}
 use Rattle.ring_knowledge.specs.Known.{Known}
@@ -15,6 +15,10 @@ use Rattle.contexts.specs.Contexts.{added_endpoints, endpoint_streams, endpoint_
 -- the input context that the command names lies on words
 abbrev pub IsAligned : Command → Type 0
 IsAligned c = (a : ℕ) → named_context c ≡ Some a → a % 4 ≡ 0
+
+-- the endpoint that the command names, if it names one, has an index below 32
+abbrev pub NamesLow : Command → Type 0
+NamesLow c = (e : ℕ × ℕ) → named_endpoint c ≡ Some e → e.1 < 32
 
 -- it doesn't add the slot context and that of the default control endpoint, or the endpoint has no type
 unfoldable pub lacks_control : (ℕ → ℕ) → ContextSize → ℕ → Bool

@@ -5,7 +5,7 @@ use Rattle.contexts.specs.declared.size.ContextSize.{ContextSize}
 use Rattle.contexts.specs.Contexts.{device_context_bytes}
 use Rattle.commands.specs.declared.command.Command.{Command}
 use Rattle.commands.specs.declared.command.Command.TheVariants.{AddressDevice}
-use Rattle.commands.specs.Command.{exclude}
+use Rattle.commands.specs.SideBySide.{exclude}
 use Rattle.trace_record.specs.DeviceSlots.Indices.{NamesEndpoint}
 use Rattle.traces.specs.declared.header.Header.{Header}
 use Rattle.ring_knowledge.specs.Known.{Known}
@@ -29,10 +29,10 @@ abbrev pub binds_ring_if : Header → Known → ℕ → Option Command → Bool
 binds_ring_if h k r None = false
 binds_ring_if h k r (Some c) = binds_ring h k r c
 
--- none of these commands excludes it, and the endpoint that it names, if it names one, is one that a slot has
+-- none of these commands excludes it by the words of some memory, and the endpoint that it names, if it names one, is one that a slot has
 abbrev pub MayBeGiven : Option Command → List Command → Type 0
 MayBeGiven None commands = Unit {0}
-MayBeGiven (Some c) commands = NamesEndpoint c × (list_any (exclude c) commands ≡ false)
+MayBeGiven (Some c) commands = NamesEndpoint c × ((memory : ℕ → ℕ) × (list_any (exclude memory c) commands ≡ false))
 
 -- where a command takes a device context, the slot's entry in the DCBAA ends within the address space
 abbrev pub EntryFits : Known → Option Command → Type 0

@@ -9,8 +9,8 @@ ghost use Rattle.ownership_rules.specs.Doorbells.{is_touched, touches_endpoint};
 ghost use Rattle.trace_record.specs.FollowsTrace.{FollowsTrace};
 ghost use Rattle.trace_record.specs.Premises.{ContextsFit, FitsMemory};
 
-use commands::Command;
-use contexts::{ContextSize, InputContext};
+use commands::{Command, is_flagged};
+use contexts::ContextSize;
 use guest_memory::WordMemory;
 use trace_record::TraceRecord;
 use traces::Header;
@@ -108,19 +108,5 @@ fn is_configured<M: WordMemory>(
     if index < 2 {
         return false;
     }
-    deconfigure || is_flagged(size, memory, address, index)
-}
-
-/// Whether an input context drops an endpoint or adds it (xHCI 6.2.5.1).
-fn is_flagged<M: WordMemory>(size: ContextSize, memory: &M, address: u64, index: u8) -> bool
-    requires { index < 32 }
-    ensures { address % 4 ≡ 0 → address + input_context_bytes size ≤ 2 ^ 64 → result ≡ (input_drop_flag (M.words memory.now) address index || input_add_flag (M.words memory.now) address index) }
-{
-    if address % 4 != 0 {
-        return false;
-    }
-    match InputContext::at(memory, address, size) {
-        Some(context) => context.drops(index) || context.adds(index),
-        None => false,
-    }
+    deconfigure || is_flagged(memory, size, address, index)
 }

@@ -13,7 +13,7 @@ ghost use Rattle.trace_record.specs.FollowsTrace.{FollowsTrace};
 ghost use Rattle.trace_record.specs.Premises.{ContextsFit, FitsMemory};
 ghost use Rattle.trace_record.specs.Steps.{IsLeast};
 ghost use Rattle.trace_record.specs.RowPlaces.{IsPlacedSo};
-ghost use Rattle.driver_rows.specs.ContextRules.Contents.{IsAligned};
+ghost use Rattle.driver_rows.specs.ContextRules.Contents.{IsAligned, NamesLow};
 ghost use Rattle.driver_rows.specs.MemoryWrites.WriteTests.{GivesOnPosition, IsDriver, given_tests, place_tests};
 ghost use Rattle.driver_rows.specs.MemoryWrites.Allowed.{IsAllowed};
 
@@ -95,6 +95,7 @@ fn giving_refusal<M: WordMemory>(
     requires found { IsFinder header.now.rings finder.now }
     requires driver { IsDriver given.now.ring.now.shape }
     requires aligned { IfSome given.now.command IsAligned }
+    requires low { IfSome given.now.command NamesLow }
     requires quiet { GivesOnPosition write.now.place.now.giving given.now.command }
     ensures first { (k : Known) → FollowsTrace header.now k t.now (M.words memory.now) → DriverKeeps header.now k → ContextsFit header.now k →
         FollowsRing given.now.ring.now.shape (k.ring given.now.ring.now.id) given.now.known.now → IsFromFloor (k.ring given.now.ring.now.id) write.now.place.now.giving →
@@ -135,6 +136,7 @@ fn place_refusal<M: WordMemory>(
     requires headed { IsHeader header.now }
     requires found { IsFinder header.now.rings finder.now }
     requires aligned { IfSome given.now.command IsAligned }
+    requires low { IfSome given.now.command NamesLow }
     ensures first { (k : Known) (shape : Shape) → FollowsTrace header.now k t.now (M.words memory.now) → DriverKeeps header.now k → ContextsFit header.now k →
         FollowsRing shape (k.ring given.now.ring.now.id) given.now.known.now → result ≡ first_broken (place_tests header.now k given.now.ring.now.id given.now.command) }
     ensures fits { IfNone result (IfSome given.now.command (FitsMemory header.now.context_size)) }

@@ -9,17 +9,18 @@ ghost use Rattle.ring_knowledge.specs.RingRecords.{positions_of};
 ghost use Rattle.trace_record.specs.RingFinder.Finding.{IsFinder};
 ghost use Rattle.traces.specs.Versions.{is_lenient};
 ghost use Rattle.ownership_rules.specs.Moves.{binds_again};
-ghost use Rattle.ownership_rules.specs.ByVersion.{has_busy_slot, places_badly};
+ghost use Rattle.ownership_rules.specs.ByVersion.{places_badly};
 ghost use Rattle.ownership_rules.specs.FirstBroken.{first_broken};
 ghost use Rattle.safety.specs.Keeps.{DriverKeeps};
 ghost use Rattle.trace_record.specs.FollowsTrace.{FollowsTrace};
 ghost use Rattle.trace_record.specs.Premises.{ContextsFit, FitsMemory};
-ghost use Rattle.driver_rows.specs.ContextRules.Contents.{IsAligned};
+ghost use Rattle.driver_rows.specs.ContextRules.Contents.{IsAligned, NamesLow};
 ghost use Rattle.trace_record.specs.RingCommands.{command_on};
 ghost use Rattle.driver_rows.specs.MemoryWrites.WriteTests.{GivesOnPosition, command_tests};
 
 use crate::bindings::{binds_again, is_bad_binding, is_bad_move};
 use crate::context_rules::{has_left_out_endpoint, is_bad_command};
+use crate::writes::side_by_side::has_busy_slot;
 use commands::Command;
 use guest_memory::WordMemory;
 use ownership_rules::Refusal;
@@ -32,6 +33,7 @@ pub(crate) fn given_command(place: &RowPlace) -> Option<Command>
     ensures value { (v : RingView) (kind : RingKind) → place.now.command ≡ (if is_command_kind kind then command_on v (positions_of place.now.giving) else None) →
         result ≡ (if is_command_kind kind then command_on v (positions_of place.now.giving) else None) }
     ensures aligned { IfSome result IsAligned }
+    ensures low { IfSome result NamesLow }
     ensures quiet { GivesOnPosition place.now.giving result }
 {
     match place.giving {
@@ -52,6 +54,7 @@ pub(crate) fn command_refusal<M: WordMemory>(
     requires headed { IsHeader header.now }
     requires found { IsFinder header.now.rings finder.now }
     requires aligned { IsAligned command.now }
+    requires low { NamesLow command.now }
     ensures first { (k : Known) → FollowsTrace header.now k t.now (M.words memory.now) → DriverKeeps header.now k → ContextsFit header.now k →
         result ≡ first_broken (command_tests header.now k command.now) }
     ensures fits { IfNone result (FitsMemory header.now.context_size command.now) }
@@ -59,7 +62,7 @@ pub(crate) fn command_refusal<M: WordMemory>(
     if is_bad_command(header, finder, t, memory, command) {
         return Some(Refusal::BadCommand);
     }
-    if has_busy_slot(header, t, command) {
+    if has_busy_slot(header, t, memory, command) {
         return Some(Refusal::Busy);
     }
     if has_left_out_endpoint(header, memory, command) {
@@ -69,16 +72,6 @@ pub(crate) fn command_refusal<M: WordMemory>(
         return Some(Refusal::BadMove);
     }
     None
-}
-
-/// Whether an unfinished command excludes the command, or merely has its slot where the trace's version refuses that.
-fn has_busy_slot(header: &Header, t: &TraceRecord, command: &Command) -> bool
-    ensures { (k : Known) (memory : ℕ → ℕ) → FollowsTrace header.now k t.now memory → result ≡ has_busy_slot header.now k command.now }
-{
-    if t.commands.is_busy(command) {
-        return true;
-    }
-    !header.version.is_lenient() && t.commands.shares_slot(command)
 }
 
 /// Whether the command binds or moves a ring to where it may not be, or binds one again where the trace's version refuses that.

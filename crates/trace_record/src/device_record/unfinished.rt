@@ -1,7 +1,8 @@
 ghost use Rattle.std.specs.Prelude.{◌≡◌, ℕ, ◌*◌, ◌<◌, ◌==◌, ◌&&◌, ◌||◌, ◌++◌, if◌then◌else◌, Bool, true, false, List, [], ◌∷◌, Option, Some, None, IfOk, IfSome, length, replicate, slice_index_or};
 ghost use Rattle.std.specs.List.{list_any, sum_by};
 ghost use Rattle.commands.specs.declared.command.Command.{Command as CommandValue};
-ghost use Rattle.commands.specs.Command.{exclude, name_one_slot};
+ghost use Rattle.commands.specs.Command.{exclude_by_slot, name_one_slot};
+ghost use Rattle.commands.specs.SideBySide.{exclude};
 ghost use Rattle.trace_record.specs.DeviceSlots.Addressing.{addressing_count, is_address_device, is_addressing};
 ghost use Rattle.trace_record.specs.DeviceSlots.Counts.{endpoint_count, kept_count};
 ghost use Rattle.trace_record.specs.DeviceSlots.Indices.{IsOnlyAbout, NamesEndpoint, is_about, names};
@@ -96,10 +97,9 @@ impl UnfinishedCommands {
         }
     }
 
-    /// Whether an unfinished command of its slot excludes a command: only those of two endpoints may be unfinished side by side
-    /// (xHCI 4.6.8 to 4.6.10).
-    pub fn is_busy(&self, command: &Command) -> bool
-        ensures { (all : List CommandValue) → FollowsUnfinished all self.now → result ≡ list_any (exclude command.now) all }
+    /// Whether a command may not stand beside an unfinished one of its slot where only those of two endpoints may (xHCI 4.6.8 to 4.6.10).
+    pub fn is_busy_by_slot(&self, command: &Command) -> bool
+        ensures { (all : List CommandValue) → FollowsUnfinished all self.now → result ≡ list_any (exclude_by_slot command.now) all }
     {
         match command.endpoint() {
             None => self.shares_slot(command),
@@ -109,7 +109,7 @@ impl UnfinishedCommands {
 
     /// A command is given which no unfinished one excludes, at a position between those of two parts of the commands.
     pub fn give(&mut self, command: Command)
-        ensures { NamesEndpoint command → (xs ys : List CommandValue) → list_any (exclude command) (xs ++ ys) ≡ false →
+        ensures { (memory : ℕ → ℕ) → NamesEndpoint command → (xs ys : List CommandValue) → list_any (exclude memory command) (xs ++ ys) ≡ false →
             FollowsUnfinished (xs ++ ys) self.old → FollowsUnfinished (xs ++ command ∷ ys) self.new }
     {
         self.keep(&command, Some(command));

@@ -1,5 +1,5 @@
 use Rattle.trace_record.proofs.Laws.{◌∙◌, sym, excluded_by, excluded_by_any}
-use Rattle.trace_record.proofs.device_record.unfinished.UnfinishedCommands.is_busy.Goals as goal
+use Rattle.trace_record.proofs.device_record.unfinished.UnfinishedCommands.is_busy_by_slot.Goals as goal
 
 pub returns-in-None : goal.returns-in-None
 returns-in-None c = λ all f. c.shares_slot.ensures all f ∙ excluded_by_any c.args.self.now all f c.args.command.now (sym c.endpoint.ensures ∙ c.in-None.is)
