@@ -3,8 +3,8 @@ use commands::{Command, EndpointState};
 use guest_memory::Addr;
 use ring_knowledge::RingGiving;
 use row_history::{
-    Case, Shown, Unfinished, binds_ring, command_at, command_name, endpoint_state_name, line_of,
-    mark_reset, mark_stop, name_two_endpoints, note_dropped, ring_at, unfinished_beside,
+    Case, Shown, Unfinished, binds_ring, command_at, command_name, endpoint_state_name, exclude,
+    line_of, mark_reset, mark_stop, name_two_endpoints, note_dropped, ring_at, unfinished_beside,
     unfinished_on,
 };
 use traces::Ring;
@@ -155,12 +155,40 @@ fn busy_slot(case: &mut Case, command: Command, slot: u8) -> bool {
     case.here("{} of slot {}", &[name, Shown::Small(slot)]);
     case.mark_unfinished(first);
     case.say("its Command Completion Event wasn't read yet");
-    if name_two_endpoints(first.command, command) {
-        case.say("the two name different endpoints: `xtrace 3` allows them side by side");
-    }
+    say_what_they_share(case, first.command, command);
     case.not_judged();
     case.advise("wait for it, and hand the second command over then");
     true
+}
+
+/// What lets two commands of a slot stand side by side in a later version, or what both are about.
+fn say_what_they_share(case: &mut Case, first: Command, second: Command) {
+    if name_two_endpoints(first, second) {
+        case.say("the two name different endpoints: `xtrace 3` allows them side by side");
+    } else if !exclude(case, first, second) {
+        case.say("neither is about the other's endpoints: `xtrace 4` allows them side by side");
+    } else if case.header.version.has_runs() {
+        say_which_endpoint(case, first, second);
+    }
+}
+
+/// Which endpoint is named by one command and told of in the Input Context of the other.
+fn say_which_endpoint(case: &mut Case, first: Command, second: Command) {
+    let (named, other) = match (first.endpoint(), second.endpoint()) {
+        (Some((_, named)), None) => (named, second),
+        (None, Some((_, named))) => (named, first),
+        _ => return,
+    };
+    let told = [Shown::Name(command_name(other)), Shown::Small(named)];
+    match other {
+        Command::ConfigureEndpoint { .. } | Command::EvaluateContext { .. } => {
+            case.note("{} is about DCI {} too", &told);
+        }
+        _ => case.note(
+            "{} is about each endpoint of the slot, DCI {} among them",
+            &told,
+        ),
+    }
 }
 
 /// A TRB on a ring that an unfinished command moves or binds. Whether the write hands one over.

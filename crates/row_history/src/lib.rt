@@ -41,8 +41,8 @@ pub use rows::{
 pub use running::{mark_reset, mark_run, mark_stop, note_no_ring, note_running};
 pub use soiled::{SoiledWord, given_back_by, mark_taken, soiled_word};
 pub use unfinished::{
-    Unfinished, binds_ring, command_at, has_block, name_two_endpoints, note_unfinished, trb_at,
-    unfinished_beside, unfinished_binding, unfinished_on, unfinished_touching,
+    Unfinished, binds_ring, command_at, exclude, has_block, name_two_endpoints, note_unfinished,
+    trb_at, unfinished_beside, unfinished_binding, unfinished_on, unfinished_touching,
 };
 pub use words::{
     NOT_JUDGED, Ordinal, code_name, command_name, endpoint_state_name, general_head, register_name,

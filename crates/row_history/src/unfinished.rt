@@ -106,12 +106,23 @@ fn may_change(case: &Case, command: Command, endpoint: u8) -> bool {
 
 /// The first unfinished command by which a command of its slot may not be given now.
 pub fn unfinished_beside(case: &Case, command: Command) -> Option<Unfinished> {
-    let is_lenient = case.header.version.is_lenient();
     let mut all = case.unfinished.iter();
-    all.find(|given| {
-        given.command.slot() == command.slot()
-            && !(is_lenient && name_two_endpoints(given.command, command))
-    }).copied()
+    all.find(|given| may_not_stand_beside(case, given.command, command))
+        .copied()
+}
+
+/// Whether the trace's version refuses the second command while the first is unfinished.
+fn may_not_stand_beside(case: &Case, first: Command, second: Command) -> bool {
+    let version = case.header.version;
+    if version.has_runs() {
+        return exclude(case, first, second);
+    }
+    first.slot() == second.slot() && !(version.is_lenient() && name_two_endpoints(first, second))
+}
+
+/// Whether both are about the slot as a whole, or about one endpoint of it.
+pub fn exclude(case: &Case, first: Command, second: Command) -> bool {
+    first.excludes(&case.known.memory, case.header.context_size, &second)
 }
 
 /// Whether a command names an endpoint, or its slot alone.
