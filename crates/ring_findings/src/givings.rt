@@ -190,7 +190,7 @@ fn withdrawable(
     let td = submission(case, ring.id, position?)?;
     let version = case.header.version;
     let is_ahead = if version.has_runs() {
-        td.first.saturating_add(td.count) > known.floor_number()
+        !known.has_passed(td.first)
     } else if version.is_lenient() {
         td.first >= known.floor_number()
     } else {

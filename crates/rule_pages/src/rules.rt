@@ -306,10 +306,11 @@ const BUSY: &str = "\
 a second command for a slot whose first is unfinished
 
 What it is for
-  One unfinished command for each slot: what holds of the slot behind it is
-  known once its completion is read. No TRB for a ring that an unfinished
-  Address Device moves, nor for an open ring that an unfinished command gives
-  to an endpoint: it would count before the new Dequeue Pointer and behind it.
+  One unfinished command for each slot, or for each endpoint of it: what holds
+  of the slot behind it is known once its completion is read. No TRB for a ring
+  that an unfinished Address Device moves, nor for an open ring that an
+  unfinished command gives to an endpoint: it would count before the new Dequeue
+  Pointer and behind it.
 
 What a controller does to a driver that breaks it
   What the second rests on may not be so yet: the TRB may be taken before the
@@ -318,9 +319,10 @@ What a controller does to a driver that breaks it
 What to write instead
   Read the completion of the first command before you write the second. In
   `xtrace 3` and `4` Stop Endpoint, Reset Endpoint and Set TR Dequeue Pointer
-  of different endpoints may be unfinished side by side. (xHCI lets a driver
-  enqueue any commands for one slot one behind the other; that isn't judged
-  here.)
+  of different endpoints may be unfinished side by side, and in `xtrace 4`
+  beside them a Configure Endpoint that neither drops nor adds these endpoints,
+  or an Evaluate Context without their contexts. (xHCI lets a driver enqueue any
+  commands for one slot one behind the other; that isn't judged here.)
 
 A trace that breaks it
   Row 19 disables slot 1, and row 21 once more before its completion: refused.
