@@ -54,7 +54,12 @@
  *
  *	#define XT_CONTROLLERS 2
  *
- * A state takes less than 4 KB. Each file that calls xt_submit_block has 61 KB for each controller besides.
+ * A TD has at most 4,096 TRBs; one that comes by xt_submit_block as many as there is room for, alike in all files:
+ *
+ *	#define XT_TRBS 4096		256 where it isn't defined
+ *
+ * A state takes less than 4 KB. Each file that calls xt_submit_block has 240 bytes for each of the XT_TRBS besides, for each controller:
+ * 61 KB for 256, 983 KB for 4,096.
  */
 #ifndef XHCI_TRACE_H
 #define XHCI_TRACE_H
@@ -136,12 +141,18 @@ static inline uint64_t xt_le64(uint64_t value)
 #error "XT_BUFFER is too small"
 #endif
 
-/* How many bytes of rows are held back while a TD comes block by block: 4 rows of 28 bytes for each of 256 TRBs, and as much again */
-#ifndef XT_HOLD
-#define XT_HOLD 57344
+#ifndef XT_TRBS
+#define XT_TRBS 256
+#endif
+#if XT_TRBS < 1 || XT_TRBS > 4096
+#error "XT_TRBS is 1 to 4096"
 #endif
 
-#define XT_TRBS 256	/* of a TD, at most */
+/* How many bytes of rows are held back while a TD comes block by block: 4 rows of 28 bytes for each TRB, and as much again */
+#ifndef XT_HOLD
+#define XT_HOLD (224 * XT_TRBS)
+#endif
+
 #define XT_PIECE 48	/* bytes that are put at once, at most: a row, or the four words of a TRB */
 
 /* A TD that comes block by block, and the rows behind its sub row */
@@ -488,7 +499,7 @@ static inline void xt_block_row(struct xt_state *xt, struct xt_hold *hold, unsig
 	if (hold->ring != ring)
 		hold->lost = "xt_submit_block of a ring while a TD of another one isn't whole";
 	if (hold->trbs == XT_TRBS) {
-		hold->lost = "a TD of more than 256 TRBs";
+		hold->lost = "XT_TRBS is too small";
 		hold->trbs--;
 	}
 	for (i = 0; i < 4; i++)
@@ -612,8 +623,8 @@ static inline void xt_free(XT_FIRST unsigned int ring)
 }
 
 /*
- * What the TRBs of the next TD on this ring are to be: four words each, Link TRBs left out; the Cycle bits don't matter. Each stage of a
- * control transfer is a TD of its own, and so is each command. Take them from what is wanted, not from what was stored.
+ * What the TRBs of the next TD on this ring are to be, at most 4,096: four words each, Link TRBs left out; the Cycle bits don't matter. Each
+ * stage of a control transfer is a TD of its own, and so is each command. Take them from what is wanted, not from what was stored.
  */
 static inline void xt_submit(XT_FIRST unsigned int ring, const uint32_t *words, unsigned int trbs)
 {
@@ -621,8 +632,8 @@ static inline void xt_submit(XT_FIRST unsigned int ring, const uint32_t *words, 
 }
 
 /*
- * The same, TRB by TRB, for a driver that never has the whole TD at hand: before each TRB's own stores. All rows are held back until the
- * TRB whose Chain bit is 0, and stand behind the sub row then. No other TD may be put on any ring meanwhile.
+ * The same, TRB by TRB, of at most XT_TRBS, for a driver that never has the whole TD at hand: before each TRB's own stores. All rows are held
+ * back until the TRB whose Chain bit is 0, and stand behind the sub row then. No other TD may be put on any ring meanwhile.
  */
 static inline void xt_submit_block(XT_FIRST unsigned int ring, uint32_t word0, uint32_t word1, uint32_t word2, uint32_t word3)
 {

@@ -22,6 +22,7 @@ says what most rows are:
     linux      TDs of one to three TRBs, in turn on seven rings of two pages side by side, as Linux gives and reads them: all words are stored, and USBSTS
                and ERDP are written for each event (version 3)
     tds        TDs of 256 TRBs on one ring of 64 segments of 4,096 TRBs, given in the same way (version 3)
+    long       TDs of 1,000 TRBs on one ring of eight pages side by side, given in the same way (version 4)
     sound      isochronous TDs of one TRB, eight at a time on a ring of two pages, given in the same way, of which one is missed and one fails (version 4)
 """
 import io, sys
@@ -289,9 +290,9 @@ def normal_td(trbs):
     return [(number * PAGE, 0, PAGE, NORMAL | (CHAIN if number + 1 < trbs else IOC)) for number in range(trbs)]
 
 
-def on_word_rings(file, rings, segments, blocks, apart, sizes, lines):
+def on_word_rings(file, rings, segments, blocks, apart, sizes, lines, version=3):
     """TDs of these sizes in turn, on rings whose segments lie so far apart."""
-    run = Run(file, 0, 0, 0, 1, 3)
+    run = Run(file, 0, 0, 0, 1, version)
     run.rings = [WordRing(run, FIRST_RING + number, 0x8000_0000 + number * segments * apart, segments, blocks, apart) for number in range(rings)]
     run.start()
     holders, given = run.bind_all(), 0
@@ -339,7 +340,8 @@ KINDS = {'ring': lambda file, lines: on_rings(file, 1, 64, 4096, lines, False, 6
          'contexts': lambda file, lines: contexts(file, 1, 1, 4096, lines), 'areas': lambda file, lines: contexts(file, 250, 64, 16, lines),
          'devices': devices, 'devices40': devices40, 'bound': lambda file, lines: bound(file, 252, 1, lines),
          'bound30': lambda file, lines: bound(file, 8, 30, lines), 'moves': moves, 'soiled': soiled, 'cancels': cancels, 'rounds': rounds, 'comes': comes,
-         'linux': lambda file, lines: on_word_rings(file, 7, 2, 256, PAGE, (1, 2, 3), lines), 'tds': lambda file, lines: on_word_rings(file, 1, 64, 4096, SEGMENT, (256,), lines), 'sound': sound}
+         'linux': lambda file, lines: on_word_rings(file, 7, 2, 256, PAGE, (1, 2, 3), lines), 'tds': lambda file, lines: on_word_rings(file, 1, 64, 4096, SEGMENT, (256,), lines),
+         'long': lambda file, lines: on_word_rings(file, 1, 8, 256, PAGE, (1000,), lines, 4), 'sound': sound}
 
 
 def main(words):

@@ -5,6 +5,7 @@ static int depth, locked;
 #define XT_PRINT(text) put_text(text)
 #define XT_LOCKED(...) do { depth++; locked += depth == 1; __VA_ARGS__; depth--; } while (0)
 #define XT_HOLD 256
+#define XT_TRBS 3
 #define XHCI_TRACE_HERE
 #include "xhci_trace.h"
 
@@ -46,6 +47,9 @@ int firmware_main(int how)
 			xt_store32(&firmware_memory.word[2], 0x30008, i);
 	if (how == 2) /* another ring in between */
 		xt_submit_block(3, 0, 0, 0, 0x410);
+	if (how == 4) /* more TRBs than there is room for */
+		for (i = 0; i < 10; i++)
+			xt_submit_block(2, 0, 0, 0, 0x410);
 	xt_submit_block(2, 4, 5, 6, 0x421);
 	if (how == 3) { /* a half twice */
 		xt_reg_half("erdp", 0, 1, firmware_register = 7);

@@ -8,6 +8,10 @@ import long_replays
 from long_replays import EVENT, FIRST_RING, NO_OP, Ring
 
 MOST_LINES, MOST_STEPS = 1 << 20, 1 << 22
+# of a line before its line feed, and of a `sub` row, by the version of a trace; those of a plan are those of version 3
+MOST_BYTES, MOST_TRBS = {3: 1 << 14, 4: 10 << 14}, {3: 256, 4: 4096}
+# a ring that has room for such a row
+ROOM = b'ring 02 xfer 0000000000030000:1000 0000000000040000:1000\n'
 # TDs until the rows repeat: two laps of 15 TRBs, and two of 16 events, each of which changes the Cycle bit
 PERIOD = 480
 SUB = b'sub 02 00000000 00000000 00000000 00002020\n'
@@ -88,6 +92,19 @@ def leased(tds):
         lines.append(b'w %016x 00000421' % (base + 16 * 254 + 12))
         lines.append(b'w %016x 00000411' % (base + 12))
     return b''.join(line + b'\n' for line in lines)
+
+
+def declaration(trbs):
+    """A `sub` row of so many TRBs."""
+    return b'sub 02 ' + b'00000000 00000000 00000000 00000410 ' * (trbs - 1) + b'00000000 00000000 00000000 00000420\n'
+
+
+def longest_lines(version):
+    """The longest `sub` row of a version, and a line of as many bytes as it may have; each one longer besides. With each what is told of it, where that is a
+    fault."""
+    trbs, most = MOST_TRBS[version], MOST_BYTES[version]
+    row = lambda count: b'w ' + b'0' * (count - 2) + b'\n'
+    return [(declaration(trbs), None), (declaration(trbs + 1), b'4 Limit'), (row(most), b'2 Row'), (row(most + 1), b'4 Limit')]
 
 
 def plan_of(lines):

@@ -15,6 +15,8 @@ EVENT_TYPES = set(range(32, 40))
 CHAIN = 4
 # the code of a command that was done
 SUCCESS = 1
+# how many blocks a descriptor has
+MOST_BLOCKS = 4096
 
 
 def bits(word, low, count):
@@ -69,7 +71,7 @@ def is_chain(blocks):
 
 
 def is_badly_formed(blocks):
-    return not blocks or len(blocks) > 256 or any(cycle(block) == 1 for block in blocks) or not is_chain(blocks)
+    return not blocks or len(blocks) > MOST_BLOCKS or any(cycle(block) == 1 for block in blocks) or not is_chain(blocks)
 
 
 def has_setup_data(block):

@@ -46,10 +46,14 @@ def halves(number):
 
 
 class Driver(DriverOfRuns):
+    VERSIONS = [1, 2, 3, 4, 4]
+    # among how many spots from the floor on an event names one
+    REACH = [1, 2, 3, 20]
+
     def __init__(self, seed, unmade):
         self.pick = random.Random(seed)
         self.unmade = unmade
-        self.trace = Trace(self.pick.choice([1, 2, 3, 4, 4]), self.pick.choice([32, 64]), self.some_rings(), 0, [])
+        self.trace = Trace(self.pick.choice(self.VERSIONS), self.pick.choice([32, 64]), self.some_rings(), 0, [])
         self.trace.first = 3 + len(self.trace.rings)
         self.before = []
         self.known = Known(self.trace)
@@ -337,7 +341,13 @@ class Driver(DriverOfRuns):
     def declare_form(self, ring, kinds):
         blocks = [(self.pick.randrange(4) << 12, 0, 8, kind << 10 | (16 if i + 1 < len(kinds) else 0) | (64 if kind == SETUP_STAGE else 0))
                   for i, kind in enumerate(kinds)]
+        self.declare(ring, blocks)
+
+    def declare(self, ring, blocks):
         self.make(Declare(ring.number, tuple(blocks)))
+
+    def declare_long(self, ring):
+        self.declare_form(ring, [NORMAL] * self.pick.choice([2, 2, 3, 4]))
 
     def doorbell(self):
         self.make(self.pick.choice([Doorbell(0, 0), *[Doorbell(*self.some_enabled_endpoint())] * 4]))
@@ -378,7 +388,7 @@ class Driver(DriverOfRuns):
         if ring is None:
             return
         spots = spots or ring.spots_from(self.known.floor(ring), self.known.declared(ring))
-        spot = self.pick.choice(spots[:self.pick.choice([1, 2, 3, 20])])
+        spot = self.pick.choice(spots[:self.pick.choice(self.REACH)])
         self.event(ring.spot_address(spot), self.pick.choice(codes), TRANSFER_EVENT << 10 | slot << 24 | endpoint << 16)
 
     # ---- isochronous endpoints
@@ -426,7 +436,7 @@ class Driver(DriverOfRuns):
             is_long = self.trace.version >= 4 and self.pick.random() < 0.7
             if is_long:
                 self.try_step(lambda driver: driver.end_all(slot, index))
-                self.try_step(lambda driver: driver.declare_form(ring, [NORMAL] * driver.pick.choice([2, 2, 3, 4])))
+                self.try_step(lambda driver: driver.declare_long(ring))
             for _ in range(self.pick.randrange(2 if is_long else 4)):
                 self.try_step(lambda driver: driver.declare_some(ring))
             self.try_step(lambda driver: driver.give_all(ring))
@@ -677,10 +687,10 @@ def text_of(trace):
     return ''.join(' '.join(line) + '\n' for line in lines).encode()
 
 
-def driven(seed, steps, most_refused, unmade=()):
+def driven(seed, steps, most_refused, unmade=(), of=Driver):
     """The text of one driver's clean trace; and some texts whose last row breaks a rule, each with that rule's number. It makes no rows of
     the types `unmade`."""
-    driver = Driver(seed, unmade)
+    driver = of(seed, unmade)
     driver.drive(steps)
     # of each rule first the traces that were refused last
     by_rule = {}

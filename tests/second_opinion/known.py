@@ -240,9 +240,8 @@ class Known(RingList):
     @kept
     def positions_written(self, write, ring):
         """The positions that are due and whose control word a write writes now with their Cycle bit: of a ring that is there."""
-        if ring not in self.rings or not ring.touches(write.address, 4):
-            return []
-        return [p for p in self.due_positions(ring) if write.address == ring.address(p) + 12 and write.word % 2 == ring.cycle(p)]
+        due = ring.next_position(self.floor(ring).number, write.address - 12) if ring in self.rings else None
+        return [] if due is None or write.word % 2 != ring.cycle(due) else [due]
 
     @kept
     def crossings_written(self, write, ring):

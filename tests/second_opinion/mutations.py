@@ -1,9 +1,12 @@
 """Traces that differ a little from worked ones, picked by a seed: text in, text out."""
 import random
 
-from blocks import CHAIN, LINK, NO_OP_COMMAND, SET_TR_DEQUEUE
+from blocks import CHAIN, LINK, NORMAL, NO_OP_COMMAND, SET_TR_DEQUEUE
+from trace import MOST_BLOCKS, MOST_BYTES
 
 DIGITS = b'0123456789abcdef'
+# segments in which a descriptor of the most blocks has room
+ROOM = [b'%016x:1000' % base for base in (0xff0000000000, 0xff0000010000)]
 
 
 def without_a_row(lines, i, pick):
@@ -129,13 +132,31 @@ def with_a_chain_bit_changed(lines, i, pick):
     return lines[:i] + [b'w %s %08x' % (address, int(word, 16) ^ 1 << CHAIN)] + lines[i:]
 
 
+def with_a_long_descriptor(lines, i, pick):
+    """A declaration has as many blocks as its version lets it have, or one more; its ring gets room for them."""
+    subs = [j for j, line in enumerate(lines) if line.startswith(b'sub ') and len(line.split()) > 5]
+    if not subs:
+        return lines
+    j = pick.choice(subs)
+    ring = lines[j].split()[1]
+    most = MOST_BLOCKS[4 if lines[0] == b'xtrace 4' else 3]
+    with_room = [b' '.join([line, *ROOM]) if line.startswith(b'ring ' + ring + b' ') else line for line in lines]
+    return with_room[:j] + [declaration(ring, most + pick.randrange(2))] + with_room[j + 1:]
+
+
+def declaration(ring, count):
+    """One of so many Normal blocks."""
+    blocks = [b'%08x %08x %08x %08x' % (0, 0, 0, NORMAL << 10 | chain << CHAIN) for chain in [1] * (count - 1) + [0]]
+    return b' '.join([b'sub', ring, *blocks])
+
+
 def with_another_version(lines, i, pick):
     return [b'xtrace %d' % pick.choice([1, 2, 2, 3, 3, 4, 4]), *lines[1:]]
 
 
 OF_ROWS = [without_a_row, with_a_row_twice, with_two_rows_swapped, with_a_row_elsewhere, with_a_digit_changed, with_a_bit_changed]
 OF_RINGS = [with_a_ring_that_goes, with_a_ring_that_comes, with_a_ring_declared_later, with_a_descriptor_withdrawn, with_an_earlier_one_withdrawn,
-            with_a_no_op_for_a_move, with_a_chain_bit_changed, with_another_version]
+            with_a_no_op_for_a_move, with_a_chain_bit_changed, with_a_long_descriptor, with_another_version]
 CHANGES = OF_ROWS * 3 + OF_RINGS
 
 
@@ -155,3 +176,13 @@ def mutations(texts, count, seed):
     """So many mutations of these texts, always the same ones for a seed."""
     pick = random.Random(seed)
     return [mutated(pick.choice(texts), pick) for _ in range(count)]
+
+
+def at_limits():
+    """Of each version: declarations of as many blocks as some version lets one have, or one more; and lines of as many bytes, or one more."""
+    for version in MOST_BLOCKS:
+        head = b'xtrace %d\nctx 20\nring 02 xfer %s\n' % (version, b' '.join(ROOM))
+        for most in sorted(set(MOST_BLOCKS.values())):
+            yield from (head + declaration(b'02', count) + b'\n' for count in (most, most + 1))
+        for most in sorted(set(MOST_BYTES.values())):
+            yield from (head + b'w ' + b'0' * (count - 2) + ending for count in (most, most + 1) for ending in (b'\n', b''))

@@ -48,6 +48,16 @@ class Ring:
     def address(self, position):
         return self.places[position % self.place_count]
 
+    @cached_property
+    def place_at(self):
+        """By the addresses of the data blocks: their places in a lap."""
+        return {address: place for place, address in enumerate(self.places)}
+
+    def next_position(self, least, address):
+        """The first position from a least one on whose block lies at an address; None where no data block does."""
+        place = self.place_at.get(address)
+        return None if place is None else least + (place - least) % self.place_count
+
     def cycle(self, position):
         """The Cycle bit of a position: 1 in the first lap, and flipped from lap to lap."""
         return 1 - position // self.place_count % 2

@@ -8,7 +8,10 @@ REGISTERS = WIDE_REGISTERS | {'usbcmd', 'usbsts', 'dnctrl', 'config', 'iman', 'i
 RING_KINDS = {'cmd', 'evt', 'xfer'}
 FAULTS = {1: 'Header', 2: 'Row', 3: 'Number', 4: 'Limit', 5: 'Shape'}
 
-MOST_LINES, MOST_BYTES, MOST_BLOCKS = 1 << 20, 1 << 14, 256
+MOST_LINES = 1 << 20
+# of a line before its line feed, by the version; and of one declaration
+MOST_BYTES = {1: 1 << 14, 2: 1 << 14, 3: 1 << 14, 4: 10 << 14}
+MOST_BLOCKS = {1: 256, 2: 256, 3: 256, 4: 4096}
 
 # the first version in which the controller halts, is reset and runs again
 FIRST_WITH_RUNS = 4
@@ -208,7 +211,7 @@ def is_bad_shape(ring, rings, is_begun):
 
 def read_line(line, content, is_ended, version, rings, is_begun):
     """What a line behind the first two says; `rings` are all that those before it named, `is_begun` tells whether a row is among them."""
-    if len(content) > MOST_BYTES:
+    if len(content) > MOST_BYTES[version]:
         raise BadLine(line, 4)
     fields = content.decode('latin-1').split(' ')
     if not is_ended or '' in fields or not has_form(fields, version, is_begun):
@@ -217,7 +220,7 @@ def read_line(line, content, is_ended, version, rings, is_begun):
         said = said_by(fields)
     except BadNumber:
         raise BadLine(line, 3) from None
-    if line > MOST_LINES or (isinstance(said, Declare) and len(said.blocks) > MOST_BLOCKS):
+    if line > MOST_LINES or (isinstance(said, Declare) and len(said.blocks) > MOST_BLOCKS[version]):
         raise BadLine(line, 4)
     if isinstance(said, Ring) and is_bad_shape(said, rings, is_begun):
         raise BadLine(line, 5)

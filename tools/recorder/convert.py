@@ -38,7 +38,8 @@ def add_options(parser):
 
 def add_format(parser):
     parser.add_argument('--format', type=int, choices=(1, 3, 4), default=4, help='version of the traces: 4, of all runs of the controller, with '
-                        'isochronous transfers, TDs withdrawn midway and Links that lose their Chain bit, or 3 where there is one run and none of these; '
+                        'isochronous transfers, TDs of more than 256 TRBs, TDs withdrawn midway and Links that lose their Chain bit, or 3 where there '
+                        'is one run and none of these; '
                         '3, in which rings come and go; or 1')
 
 

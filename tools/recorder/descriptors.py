@@ -4,9 +4,7 @@ from collections import namedtuple
 import blocks
 from commands import placed_by
 from registers import RESET
-from rows import Row
-
-MOST_BLOCKS = 256
+from rows import MOST_BLOCKS, Row
 
 # Where the rows have to end: the first row that gives a block of a descriptor that can't be declared; and why
 Left = namedtuple('Left', 'row why')
@@ -16,7 +14,7 @@ class Producer:
     """What is known of one ring while the rows pass: the blocks that were given, by position, the floor, and what was withdrawn."""
 
     def __init__(self, ring, version):
-        self.ring, self.floor, self.given, self.version = ring, 0, {}, version
+        self.ring, self.floor, self.given, self.version, self.most = ring, 0, {}, version, MOST_BLOCKS[version]
         self.withdrawn, self.withdrawals = set(), []  # positions; pairs of a row number and a descriptor's first position
         self.latest = []  # numbers of the rows that are version 4's: a descriptor withdrawn midway, a Link that loses its Chain bit beside a withdrawn block
 
@@ -73,20 +71,20 @@ class Producer:
             open_one.append(self.given[position])
             position += 1
             if not blocks.chained(open_one[-1][1]) or self.ring.kind == 'cmd':
-                if len(open_one) > MOST_BLOCKS:
+                if len(open_one) > self.most:
                     break
                 whole.append(open_one)
                 open_one = []
         left = open_one + [given for place, given in self.given.items() if place >= position]
-        return whole, Left(min(number for number, words in left), why_left(open_one)) if left else None
+        return whole, Left(min(number for number, words in left), why_left(open_one, self.most)) if left else None
 
 
-def why_left(descriptor):
+def why_left(descriptor, most):
     """Why no `sub` row says this descriptor, of which these blocks were given."""
-    if len(descriptor) <= MOST_BLOCKS:
+    if len(descriptor) <= most:
         return 'a TD was not given whole'
     least = 'at least ' if blocks.chained(descriptor[-1][1]) else ''
-    return f'a TD has {least}{len(descriptor)} TRBs, and a `sub` row may have {MOST_BLOCKS}'
+    return f'a TD has {least}{len(descriptor)} TRBs, and a `sub` row may have {most}'
 
 
 class Follower:

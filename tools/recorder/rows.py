@@ -6,6 +6,8 @@ from memory import BEFORE_ALL
 from qemu_log import Bell, Seen, count_of
 from registers import EVENT_RING_REGISTERS
 
+MOST_BLOCKS = {1: 256, 3: 256, 4: 4096}  # of a `sub` row, by the version of its trace
+
 # made_up: a `w` row for a word that no store was seen to leave; if_set: to be left out where the trace's memory has 0 there; rank: its
 # place among the rows of its key, behind that of a ring that goes
 Row = namedtuple('Row', 'key kind fields made_up if_set rank', defaults=(False, False, 0))
@@ -30,17 +32,17 @@ def text(row):
     return f'sub {number:02x} ' + ' '.join(f'{word:08x}' for word in words)
 
 
-def is_isochronous(row):
-    """A TD that no version before 4 has, or an event of the service of an isochronous endpoint."""
+def is_latest(row):
+    """A TD that no version before 4 has, by its length or as an isochronous one, or an event of the service of an isochronous endpoint."""
     if row.kind == 'sub':
-        return blocks.kind(row.fields[1]) == blocks.ISOCH
+        return len(row.fields[1]) > 4 * MOST_BLOCKS[3] or blocks.kind(row.fields[1]) == blocks.ISOCH
     return row.kind == 'ev' and blocks.kind(row.fields) == blocks.TRANSFER_EVENT and blocks.code(row.fields) in blocks.SERVICE_CODES
 
 
-def head(latest, rows, context_size, rings, is_latest=False):
+def head(latest, rows, context_size, rings, are_latest=False):
     """The lines before these rows: of version 3 where the latest that was asked for is a later one, and nothing in them is that one's. Rows of
-    several runs are, and those by which a TD is withdrawn midway, or a Link beside a withdrawn TRB loses its Chain bit: `is_latest` tells."""
-    version = latest if latest < 4 or is_latest or any(map(is_isochronous, rows)) else 3
+    several runs are, and those by which a TD is withdrawn midway, or a Link beside a withdrawn TRB loses its Chain bit: `are_latest` tells."""
+    version = latest if latest < 4 or are_latest or any(map(is_latest, rows)) else 3
     return [f'xtrace {version}', f'ctx {context_size:02x}'] + [ring.line() for ring in rings if ring.comes is None]
 
 
