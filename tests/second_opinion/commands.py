@@ -61,7 +61,7 @@ def name_one_slot(command, other):
     return names_slot(command) and names_slot(other) and command.slot == other.slot
 
 
-def may_stand_side_by_side(command, other):
+def name_two_endpoints(command, other):
     """Both are Stop Endpoint, Reset Endpoint or Set TR Dequeue Pointer, of different endpoints."""
     return names_endpoint(command) and names_endpoint(other) and command.endpoint != other.endpoint
 

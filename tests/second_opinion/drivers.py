@@ -193,12 +193,13 @@ class Driver(DriverOfRuns):
         if self.pick.random() < 0.5:
             self.completion()
 
-    def declare_command(self, kind, slot, endpoint):
-        option = 1 if kind in (ADDRESS_DEVICE, CONFIGURE_ENDPOINT) and self.pick.random() < 0.2 else 0
+    def declare_command(self, kind, slot, endpoint, alone=()):
+        """Its input context, from version 4 on, tells nothing of the endpoints `alone`."""
+        option = 1 if kind in (ADDRESS_DEVICE, CONFIGURE_ENDPOINT) and self.pick.random() < (0.5 if alone == [1] else 0.2) else 0
         number = 0
         if kind in (ADDRESS_DEVICE, CONFIGURE_ENDPOINT, EVALUATE_CONTEXT):
             number = self.some_address(INPUT_CONTEXTS, 16)
-            self.write_context(kind, slot, endpoint, number)
+            self.write_context(kind, slot, endpoint, number, alone)
         if kind == SET_TR_DEQUEUE:
             number = self.some_target(slot, endpoint)
         if kind == ADDRESS_DEVICE and self.known.device(slot) is None:
@@ -221,6 +222,36 @@ class Driver(DriverOfRuns):
             if self.pick.random() < 0.5:
                 self.try_step(Driver.stopped)
             self.try_step(Driver.completion)
+
+    def reconfigure(self):
+        """Commands of endpoints beside a Configure Endpoint or Evaluate Context of their slot that mostly leaves them alone, in any order; then their ends, and
+        more of them."""
+        self.finish_all()
+        slot, _ = self.some_enabled_endpoint()
+        endpoints = [index for index in (1, 2, 3) if self.known.endpoint_state(slot, index) != 'Disabled']
+        named = self.pick.sample(endpoints, min(len(endpoints), self.pick.choice([1, 1, 2])))
+        alone = named if self.pick.random() < 0.7 else named[1:]
+        of_slot = lambda driver: driver.add_command(driver.pick.choice([CONFIGURE_ENDPOINT] * 2 + [EVALUATE_CONTEXT]), slot, 0, alone)
+        of_endpoint = lambda index: lambda driver: driver.add_command(driver.pick.choice(FITTING[driver.known.endpoint_state(slot, index)]), slot, index)
+        steps = [of_slot, *map(of_endpoint, named)]
+        for step in self.pick.sample(steps, len(steps)) + ([of_slot] if self.pick.random() < 0.1 else []):
+            self.try_step(step)
+        for _ in range(self.pick.choice([1, 2, 4])):
+            self.try_step(lambda driver: driver.give_all(driver.command_ring))
+            self.try_step(lambda driver: driver.make(Doorbell(0, 0)))
+            if self.pick.random() < 0.5:
+                self.try_step(Driver.stopped)
+            self.try_step(lambda driver: driver.completion([1, 1, 1, 1, 1, 11]))
+            if named and self.pick.random() < 0.6:
+                self.try_step(of_endpoint(self.pick.choice(named)))
+            if named and self.pick.random() < 0.4:
+                self.try_step(lambda driver: driver.make(Doorbell(slot, driver.pick.choice(named))))
+
+    def add_command(self, kind, slot, endpoint, alone=()):
+        """It is declared, and mostly given at once, with what wasn't given before it."""
+        self.declare_command(kind, slot, endpoint, alone)
+        if self.pick.random() < 0.7:
+            self.give_all(self.command_ring)
 
     def stopped(self):
         """A Stopped event of the Stop Endpoint that is finished next, from version 4 on often inside a descriptor."""
@@ -293,11 +324,14 @@ class Driver(DriverOfRuns):
         spot = self.pick.choice([spot for spot in spots if spot.number >= least] or spots)
         return ring.spot_address(spot) | ring.spot_cycle(spot)
 
-    def write_context(self, kind, slot, endpoint, context):
+    def write_context(self, kind, slot, endpoint, context, alone):
         added = [1] if kind == ADDRESS_DEVICE else [i for i in (2, 3) if self.pick.random() < 0.6]
         if self.trace.version >= 3 and kind == CONFIGURE_ENDPOINT and endpoint > 1 and self.pick.random() < 0.6:
             added = [endpoint]
         dropped = [i for i in (2, 3) if kind != ADDRESS_DEVICE and self.pick.random() < self.drops(slot, i, i in added)]
+        if self.trace.version >= 4 and kind != ADDRESS_DEVICE:
+            added = [i for i in added + self.default_control_flag(kind) if i not in alone]
+            dropped = [i for i in dropped + self.default_control_flag(kind) if i not in alone]
         self.write(context, sum(1 << i for i in dropped), sum(1 << i for i in [0, *added]))
         for index in added:
             address = contexts.endpoint_context(self.known, context, index)
@@ -305,6 +339,10 @@ class Driver(DriverOfRuns):
             kind_of_endpoint = 4 if index == 1 else self.pick.choice([2, 3, 6, 7, 2, 3, 6, 7, 0, 1] + ([1, 5] * 4 if self.trace.has_isoch else []))
             self.write(address + 4, kind_of_endpoint << 3)
             self.write(address + 8, *halves(pointer))
+
+    def default_control_flag(self, kind):
+        """A flag of the default control endpoint, which Evaluate Context may have."""
+        return [1] if self.pick.random() < (0.3 if kind == EVALUATE_CONTEXT else 0.03) else []
 
     def drops(self, slot, index, is_added):
         """How often an endpoint is dropped: from version 3 on mostly where it is there and added again."""
@@ -449,13 +487,16 @@ class Driver(DriverOfRuns):
             self.try_step(lambda driver: driver.withdraw(ring))
             self.try_step(lambda driver: driver.scribble_freed(ring))
             self.try_step(lambda driver: driver.unchain(ring))
-        if self.pick.random() < 0.3:
+        if self.pick.random() < (0.5 if self.trace.version >= 4 else 0.3):
             self.try_step(lambda driver: driver.withdraw_passed(ring))
         self.go_on(slot, index, ring)
 
     def command_beside(self, slot, index):
-        """A command that touches an endpoint stays unfinished."""
-        self.declare_command(self.pick.choice([SET_TR_DEQUEUE, SET_TR_DEQUEUE, DISABLE_SLOT, RESET_DEVICE, CONFIGURE_ENDPOINT]), slot, index)
+        """A command stays unfinished that touches an endpoint; in version 4 half of the time one that leaves it alone."""
+        if self.trace.version >= 4 and self.pick.random() < 0.5:
+            self.declare_command(self.pick.choice([CONFIGURE_ENDPOINT, EVALUATE_CONTEXT]), slot, 0, [index])
+        else:
+            self.declare_command(self.pick.choice([SET_TR_DEQUEUE, SET_TR_DEQUEUE, DISABLE_SLOT, RESET_DEVICE, CONFIGURE_ENDPOINT]), slot, index)
         self.give_all(self.command_ring)
 
     def some_endpoint_with_work(self):
@@ -636,7 +677,7 @@ class Driver(DriverOfRuns):
     # from version 2 on besides, from version 3 on, and from version 4 on
     STEPS_OF_TWO = [(cancel, 40), (replace_ring, 16), (ring_goes, 2), (ring_comes, 6)]
     STEPS_OF_THREE = [(suspend, 14), (bind_anew, 30)]
-    STEPS_OF_FOUR = [(play, 40), (cancel, 20)]
+    STEPS_OF_FOUR = [(play, 40), (cancel, 20), (reconfigure, 40)]
     STEPS_OF_RUNS = [(DriverOfRuns.rest, 30), (DriverOfRuns.next_of_rest, 15), (DriverOfRuns.stray_register, 8), (DriverOfRuns.stray_ring, 4)]
 
     def try_step(self, step):

@@ -1,8 +1,8 @@
 """Which commands may be given, and what an unfinished one hinders (xHCI 4.5.3, 4.6, 6.2.5)."""
 import contexts
 from areas import is_bad_area, is_in_range_lease, is_soiled
-from blocks import ADDRESS_DEVICE
-from commands import adds_endpoints, may_stand_side_by_side, name_one_slot, named_context, names_endpoint, names_slot
+from blocks import ADDRESS_DEVICE, CONFIGURE_ENDPOINT, EVALUATE_CONTEXT
+from commands import adds_endpoints, name_one_slot, name_two_endpoints, named_context, names_endpoint, names_slot
 from effects import disabled_by, takes_device
 from rings import overlap
 
@@ -48,9 +48,26 @@ def is_refused(known, command):
     return adds_endpoints(command) and any(is_bad_added(known, command, i) for i in contexts.endpoints_added_by(known, command))
 
 
+def leaves_alone(known, command, index):
+    """A Configure Endpoint or Evaluate Context that isn't about an endpoint of its slot, by its input context as it stands: the one is about those that it drops
+    or adds, with DC 1 about all but the default control endpoint, the other about those whose contexts it gives."""
+    if command.type == CONFIGURE_ENDPOINT and command.option:
+        return index == 1
+    is_about = {CONFIGURE_ENDPOINT: [contexts.is_dropped, contexts.is_added], EVALUATE_CONTEXT: [contexts.is_added]}
+    return command.type in is_about and not any(test(known, command.pointer, index) for test in is_about[command.type])
+
+
+def may_stand_side_by_side(known, command, other):
+    """From version 3 on commands of different endpoints; from version 4 on also one of an endpoint, and one that leaves this endpoint alone."""
+    def is_let_alone(one, two):
+        return known.trace.version >= 4 and names_endpoint(one) and leaves_alone(known, two, one.endpoint)
+    are_two = known.trace.version >= 3 and name_two_endpoints(command, other)
+    return are_two or is_let_alone(command, other) or is_let_alone(other, command)
+
+
 def is_in_the_way(known, command, other):
-    """An unfinished command of the same slot; version 3 lets commands of different endpoints stand side by side."""
-    return name_one_slot(command, other) and not (known.trace.version >= 3 and may_stand_side_by_side(command, other))
+    """An unfinished command of the same slot, beside which the trace's version lets no such command stand."""
+    return name_one_slot(command, other) and not may_stand_side_by_side(known, command, other)
 
 
 def moves_ring(known, command, ring):

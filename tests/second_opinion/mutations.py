@@ -1,7 +1,7 @@
 """Traces that differ a little from worked ones, picked by a seed: text in, text out."""
 import random
 
-from blocks import CHAIN, LINK, NORMAL, NO_OP_COMMAND, SET_TR_DEQUEUE
+from blocks import CHAIN, COMMAND_COMPLETION, CONFIGURE_ENDPOINT, EVALUATE_CONTEXT, LINK, NORMAL, NO_OP_COMMAND, SET_TR_DEQUEUE
 from trace import MOST_BLOCKS, MOST_BYTES
 
 DIGITS = b'0123456789abcdef'
@@ -118,6 +118,33 @@ def with_a_no_op_for_a_move(lines, i, pick):
     return lines
 
 
+def is_of(line, word, count, types):
+    """A row with this word and so many fields, whose last one is a control word of these types."""
+    return line.startswith(word + b' ') and len(line.split()) == count and control_word(line) >> 10 & 63 in types
+
+
+def with_a_late_completion(lines, i, pick):
+    """The completion of a command is read right before that of the next one, or as the last event of all."""
+    ends = [j for j, line in enumerate(lines) if is_of(line, b'ev', 5, [COMMAND_COMPLETION])]
+    if not ends:
+        return lines
+    j = pick.randrange(len(ends))
+    at = [*ends, len(lines)][j + 1]
+    return lines[:ends[j]] + lines[ends[j] + 1:at] + [lines[ends[j]]] + lines[at:]
+
+
+def with_another_flag(lines, i, pick):
+    """A flag of the input context of a Configure Endpoint or Evaluate Context, of one of the first endpoints, becomes the other one."""
+    given = [j for j, line in enumerate(lines) if is_of(line, b'sub', 6, [CONFIGURE_ENDPOINT, EVALUATE_CONTEXT])]
+    if not given:
+        return lines
+    j = pick.choice(given)
+    at = b'%016x' % (int(lines[j].split()[2], 16) + pick.choice([0, 4]))
+    written = [k for k in range(j) if lines[k].startswith(b'w ' + at + b' ')]
+    word = (control_word(lines[written[-1]]) if written else 0) ^ 1 << pick.choice([1, 2, 2, 3, 3, 4, 5])
+    return lines[:j] + [b'w %s %08x' % (at, word)] + lines[j:]
+
+
 def is_link(line):
     """It writes the control word of a Link."""
     return line.startswith(b'w ') and line.split()[1].endswith(b'c') and int(line.split()[2], 16) >> 10 & 63 == LINK
@@ -157,7 +184,8 @@ def with_another_version(lines, i, pick):
 OF_ROWS = [without_a_row, with_a_row_twice, with_two_rows_swapped, with_a_row_elsewhere, with_a_digit_changed, with_a_bit_changed]
 OF_RINGS = [with_a_ring_that_goes, with_a_ring_that_comes, with_a_ring_declared_later, with_a_descriptor_withdrawn, with_an_earlier_one_withdrawn,
             with_a_no_op_for_a_move, with_a_chain_bit_changed, with_a_long_descriptor, with_another_version]
-CHANGES = OF_ROWS * 3 + OF_RINGS
+OF_COMMANDS = [with_a_late_completion, with_another_flag]
+CHANGES = OF_ROWS * 3 + OF_RINGS + OF_COMMANDS
 
 
 def mutated(text, pick):
