@@ -623,8 +623,9 @@ static inline void xt_free(XT_FIRST unsigned int ring)
 }
 
 /*
- * What the TRBs of the next TD on this ring are to be, at most 4,096: four words each, Link TRBs left out; the Cycle bits don't matter. Each
- * stage of a control transfer is a TD of its own, and so is each command. Take them from what is wanted, not from what was stored.
+ * What the TRBs of the next TD on this ring are to be, at most 4,096: four words each, Link TRBs left out, Event Data TRBs among them; the Cycle
+ * bits don't matter. Each stage of a control transfer is a TD of its own, with the Event Data TRBs behind it, and so is each command. Take them
+ * from what is wanted, not from what was stored.
  */
 static inline void xt_submit(XT_FIRST unsigned int ring, const uint32_t *words, unsigned int trbs)
 {

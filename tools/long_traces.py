@@ -24,14 +24,16 @@ says what most rows are:
     tds        TDs of 256 TRBs on one ring of 64 segments of 4,096 TRBs, given in the same way (version 3)
     long       TDs of 1,000 TRBs on one ring of eight pages side by side, given in the same way (version 4)
     sound      isochronous TDs of one TRB, eight at a time on a ring of two pages, given in the same way, of which one is missed and one fails (version 4)
+    values     TDs of a Normal and an Event Data TRB, 32 at a time on a ring of two pages, given in the same way, each told by its value (version 4)
 """
 import io, sys
 
 import long_replays
-from long_replays import (ADDRESS_DEVICE, CHAIN, COMMAND_COMPLETION, CONFIGURE_ENDPOINT, CONTEXTS, DCBAAP, ENABLE_SLOT, EVENT, FIRST_RING, NO_OP, SEGMENT, SET_TR_DEQUEUE, STOP_ENDPOINT, Ring)
+from long_replays import (ADDRESS_DEVICE, CHAIN, COMMAND_COMPLETION, CONFIGURE_ENDPOINT, CONTEXTS, DCBAAP, ENABLE_SLOT, EVENT, FIRST_RING, NO_OP, SEGMENT, SET_TR_DEQUEUE, STOP_ENDPOINT, TRANSFER_EVENT, Ring)
 
 DISABLE_SLOT, EVALUATE_CONTEXT = 10, 13
-NORMAL, ISOCH = 1 << 10, 5 << 10
+NORMAL, ISOCH, EVENT_DATA = 1 << 10, 5 << 10, 7 << 10
+ED = 1 << 2  # in a Transfer Event: it tells the value of an Event Data TRB
 COMING = 250  # rings: a trace may name 256
 PAGE = 0x1000
 IOC = 1 << 5
@@ -319,6 +321,23 @@ def sound(file, lines):
             run.report(at, slot, index, code)
 
 
+def values(file, lines):
+    """Each TD has a value of its own, as a driver that names its requests so."""
+    run = Run(file, 0, 0, 0, 1, 4)
+    run.rings = [WordRing(run, FIRST_RING, 0x8000_0000, 2, 256, PAGE)]
+    run.start()
+    [(slot, index, ring)] = run.bind_all()
+    value = 0xffff_8880_0000_0000
+    while run.count < lines:
+        told = [value + 0x100 * number for number in range(32)]
+        for word in told:
+            ring.give((0, 0, PAGE, NORMAL | CHAIN), (word & 0xffffffff, word >> 32, 0, EVENT_DATA | IOC))
+        run.row('db %02x %02x' % (slot, index))
+        for word in told:
+            run.post('report', word, 1, slot << 24 | index << 16 | TRANSFER_EVENT << 10 | ED)
+        value += 0x2000
+
+
 def configured(run, slot, context, dropped):
     """A Configure Endpoint, which drops these endpoints where there are some."""
     if dropped:
@@ -341,7 +360,7 @@ KINDS = {'ring': lambda file, lines: on_rings(file, 1, 64, 4096, lines, False, 6
          'devices': devices, 'devices40': devices40, 'bound': lambda file, lines: bound(file, 252, 1, lines),
          'bound30': lambda file, lines: bound(file, 8, 30, lines), 'moves': moves, 'soiled': soiled, 'cancels': cancels, 'rounds': rounds, 'comes': comes,
          'linux': lambda file, lines: on_word_rings(file, 7, 2, 256, PAGE, (1, 2, 3), lines), 'tds': lambda file, lines: on_word_rings(file, 1, 64, 4096, SEGMENT, (256,), lines),
-         'long': lambda file, lines: on_word_rings(file, 1, 8, 256, PAGE, (1000,), lines, 4), 'sound': sound}
+         'long': lambda file, lines: on_word_rings(file, 1, 8, 256, PAGE, (1000,), lines, 4), 'sound': sound, 'values': values}
 
 
 def main(words):

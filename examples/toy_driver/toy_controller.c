@@ -83,7 +83,7 @@ static void command(struct toy *hc, uint64_t trb, uint32_t control)
 /* Executes what was handed over on a ring; DCI 0 stands for the Command Ring. It gives up where the ring goes on and on */
 static void execute(struct toy *hc, struct dequeue *ring, unsigned int slot, unsigned int dci)
 {
-	uint32_t control;
+	uint32_t control, has_data;
 	int left = 32;
 
 	while (ring->trb && left-- && ((control = word_at(hc, ring->trb + 12)) & 1) == ring->cycle) {
@@ -95,10 +95,11 @@ static void execute(struct toy *hc, struct dequeue *ring, unsigned int slot, uns
 			continue;
 		}
 		ring->trb += 16;
+		has_data = (control >> 10 & 63) == 7; /* Event Data: the event tells its word 0 */
 		if (dci == 0)
 			command(hc, trb, control);
 		else if (control & 0x20) /* Interrupt On Completion */
-			post(hc, trb, slot << 24 | dci << 16 | 32 << 10);
+			post(hc, has_data ? word_at(hc, trb) : trb, slot << 24 | dci << 16 | 32 << 10 | has_data << 2);
 	}
 }
 

@@ -35,6 +35,13 @@
  *	BUG_FAILURE_IGNORED		19 BadCommand, or more	a command that has failed is taken for one that has succeeded
  *	BUG_LATE_EVENT			15 RingFull		a late event of a TD that became No Ops is taken for one of the next
  *	BUG_ERDP_NEVER			a hang			ERDP is not written, and the Event Ring fills
+ *
+ * With EVENT_DATA a bulk TD of several TRBs ends with an Event Data TRB: its event tells the number that this holds, and no address. The
+ * bench finds these bugs of it:
+ *
+ *	BUG_NUMBER_AGAIN		15 RingFull		a number is held again while an event may still tell the first one
+ *	BUG_NUMBER_WITHDRAWN		32 BadWithdraw		a TD becomes No Ops while an event may still tell its number
+ *	BUG_ED_IGNORED			a hang			a number is taken for the address of a TRB
  */
 #include <stdio.h>
 #include <stdlib.h>
@@ -59,6 +66,11 @@ static struct toy toys[XT_CONTROLLERS];
 #define CHAIN 0x10u
 #define IOC 0x20u		/* Interrupt On Completion */
 #define IMMEDIATE 0x40u
+#ifdef BUG_ED_IGNORED
+#define ED 0
+#else
+#define ED 4u			/* Event Data, of an event: it tells a number, and no address */
+#endif
 #define TYPE(type) ((uint32_t)(type) << 10)
 
 /* TRB types */
@@ -67,6 +79,7 @@ static struct toy toys[XT_CONTROLLERS];
 #define DATA_STAGE 3
 #define STATUS_STAGE 4
 #define LINK 6
+#define EVENT_DATA_TRB 7
 #define NO_OP 8
 #define ENABLE_SLOT 9
 #define DISABLE_SLOT 10
@@ -132,6 +145,11 @@ struct transfer {
 };
 
 #define TRANSFERS 8	/* that a ring here has room for, at most */
+#ifdef BUG_NUMBER_AGAIN
+#define NUMBERS 1
+#else
+#define NUMBERS TRANSFERS	/* so no two on a ring are the same */
+#endif
 
 struct endpoint {
 	unsigned int dci;
@@ -141,6 +159,10 @@ struct endpoint {
 	struct transfer transfers[TRANSFERS];	/* that stand there, the oldest first */
 	unsigned int count;
 	int is_at_oldest;	/* it stands in the oldest transfer, or at its first TRB */
+#ifdef EVENT_DATA
+	unsigned int next_number;
+	uint64_t ends[NUMBERS];	/* by the number that a TD holds: how many TRBs there are up to its end, as the ring counts them */
+#endif
 };
 
 struct controller {
@@ -385,6 +407,27 @@ static int trbs_before(const struct endpoint *ep, uint64_t bus)
 	return before;
 }
 
+#ifdef EVENT_DATA
+/* The last TRB of a TD, so many TRBs from here: it holds a number, by which its event tells of it */
+static void hold_number(struct endpoint *ep, uint32_t *trb, unsigned int trbs)
+{
+	unsigned int number = ep->next_number++ % NUMBERS;
+
+	ep->ends[number] = ep->ring.count + trbs;
+	trb[0] = number;
+	trb[1] = trb[2] = 0;
+	trb[3] = TYPE(EVENT_DATA_TRB) | IOC;
+}
+
+/* How many TRBs stand before the one that holds a number; -1 where none does */
+static int trbs_before_number(const struct endpoint *ep, uint64_t number)
+{
+	if (number >= NUMBERS || ep->ends[number] <= ep->done.count)
+		return -1;
+	return (int)(ep->ends[number] - ep->done.count) - 1;
+}
+#endif
+
 /* ---- events ---- */
 
 static struct endpoint *endpoint_of(struct controller *c, uint32_t control)
@@ -436,6 +479,10 @@ static void transfer_event(struct controller *c, uint64_t trb, unsigned int code
 	struct endpoint *ep = endpoint_of(c, control);
 	int before = ep ? trbs_before(ep, trb) : -1;
 
+#ifdef EVENT_DATA
+	if (ep && control & ED)
+		before = trbs_before_number(ep, trb);
+#endif
 	if (before < 0)
 		return;
 	c->waits = 0;
@@ -722,6 +769,10 @@ static void queue_bulk_in(struct controller *c, unsigned int trbs)
 		td[i][2] = 512;
 		td[i][3] = TYPE(NORMAL) | (i + 1 < trbs ? CHAIN | ISP : IOC);
 	}
+#ifdef EVENT_DATA
+	if (trbs > 1)
+		hold_number(&c->bulk, td[trbs - 1], trbs);
+#endif
 	queue_td(c, &c->bulk.ring, td, trbs, 1);
 	add_transfer(&c->bulk, trbs);
 }
@@ -805,6 +856,10 @@ static int take_back(struct controller *c, struct endpoint *ep, struct ring at, 
 		return 0; /* it is done, or as good as done */
 	if (ep->is_at_oldest && transfer == ep->transfers)
 		return move(c, ep, advanced(at, trbs));
+#if defined(EVENT_DATA) && !defined(BUG_NUMBER_WITHDRAWN)
+	if (!ep->is_at_oldest)
+		return 0; /* an event may still tell its number: it is left as it is */
+#endif
 	withdraw(c, transfer, at);
 	return 0;
 }

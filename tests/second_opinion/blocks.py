@@ -11,8 +11,8 @@ COMMAND_TYPES = {*range(9, 18), NO_OP_COMMAND}
 LEFT_OUT_COMMAND_TYPES = {*range(18, 23), 24, 25, *range(48, 64)}
 EVENT_TYPES = set(range(32, 40))
 
-# the place of the Chain bit in a control word
-CHAIN = 4
+# the places of the Chain bit in a control word, and of ED in that of a Transfer Event
+CHAIN, ED = 4, 2
 # the code of a command that was done
 SUCCESS = 1
 # how many blocks a descriptor has
@@ -51,6 +51,16 @@ def code(block):
     return bits(block[2], 24, 8)
 
 
+def tells_value(block):
+    """A Transfer Event tells words 0 and 1 of an Event Data block, and no address."""
+    return is_set(block[3], ED)
+
+
+def has_value(block, value):
+    """It is an Event Data block with these words 0 and 1."""
+    return type_of(block) == EVENT_DATA and pointer(block) == value
+
+
 def slot(block):
     return bits(block[3], 24, 8)
 
@@ -80,29 +90,30 @@ def has_setup_data(block):
 
 
 def is_transfer_arrangement(blocks):
-    first, rest = blocks[0], blocks[1:]
+    first, behind = blocks[0], [type_of(block) for block in blocks[1:]]
     if type_of(first) in (NORMAL, DATA_STAGE, ISOCH):
-        return all(type_of(block) == NORMAL for block in rest)
+        return all(kind in (NORMAL, EVENT_DATA) for kind in behind)
     if type_of(first) == SETUP_STAGE:
-        return has_setup_data(first) and not rest
-    return type_of(first) in (STATUS_STAGE, NO_OP) and not rest
+        return has_setup_data(first) and not behind
+    if type_of(first) == STATUS_STAGE:
+        return behind in ([], [EVENT_DATA])
+    return type_of(first) == NO_OP and not behind
 
 
-def has_left_out_transfer_type(blocks, has_isoch):
-    """Event Data blocks; Isoch blocks where the version has none."""
-    left_out = {EVENT_DATA} if has_isoch else {EVENT_DATA, ISOCH}
-    return any(type_of(block) in left_out for block in blocks)
+def has_left_out_transfer_type(blocks, is_full):
+    """Event Data and Isoch blocks where the version has none."""
+    return not is_full and any(type_of(block) in (EVENT_DATA, ISOCH) for block in blocks)
 
 
-def is_bad_transfer(blocks, has_isoch):
+def is_bad_transfer(blocks, is_full):
     if is_badly_formed(blocks) or any(type_of(block) not in TRANSFER_TYPES for block in blocks):
         return True
-    return not has_left_out_transfer_type(blocks, has_isoch) and not is_transfer_arrangement(blocks)
+    return not has_left_out_transfer_type(blocks, is_full) and not is_transfer_arrangement(blocks)
 
 
-def is_left_out_transfer(blocks, has_isoch):
+def is_left_out_transfer(blocks, is_full):
     """Blocks of a left out type, or an interrupter target other than 0."""
-    return has_left_out_transfer_type(blocks, has_isoch) or any(bits(block[2], 22, 10) != 0 for block in blocks)
+    return has_left_out_transfer_type(blocks, is_full) or any(bits(block[2], 22, 10) != 0 for block in blocks)
 
 
 def is_bad_command(blocks):

@@ -1,5 +1,5 @@
-"""What the Completion Code of a Transfer Event says (xHCI 4.10.2, 4.10.3, 4.14, 6.4.5)."""
-from blocks import code, endpoint, slot
+"""What the Completion Code of a Transfer Event says (xHCI 4.10.2, 4.10.3, 4.11.5.2, 4.14, 6.4.5)."""
+from blocks import code, endpoint, slot, tells_value
 
 # the block that is named was passed; it is the last one before the endpoint halted, or came to the Error state; the endpoint stopped there
 PASSED, HALTED, ERROR, STOPPED = 'passed', 'halted', 'error', 'stopped'
@@ -17,3 +17,8 @@ def said_by(known, block):
         return EVERYWHERE.get(code(block))
     codes = ISOCHRONOUS if known.is_isochronous(slot(block), endpoint(block)) else EVERYWHERE
     return (codes | SERVICE).get(code(block))
+
+
+def has_fitting_name(known, block):
+    """A Transfer Event names an address; or, where the version has Event Data, a value: not where it stopped, nor of the service."""
+    return not tells_value(block) or known.trace.has_event_data and said_by(known, block) not in (STOPPED, OF_SERVICE)

@@ -1,11 +1,13 @@
-"""The model of a controller beside the rows of a trace: which steps it may make, and what they do (xHCI 4.2, 4.5.3, 4.6, 4.7, 4.8.3, 4.9.2 to 4.9.4, 4.10.2, 5.4)."""
+"""The model of a controller beside the rows of a trace: which steps it may make, and what they do (xHCI 4.2, 4.5.3, 4.6, 4.7, 4.8.3, 4.9.2 to 4.9.4, 4.10.2,
+4.11.5.2, 5.4).
+"""
 from collections import namedtuple
 from functools import wraps
 
 import contexts
 from blocks import (ADDRESS_DEVICE, COMMAND_COMPLETION, CONFIGURE_ENDPOINT, DISABLE_SLOT, ENABLE_SLOT, LINK, RESET_DEVICE, RESET_ENDPOINT, SET_TR_DEQUEUE,
                     STOP_ENDPOINT, SUCCESS, TRANSFER_EVENT, aligned, bits, code, cycle, endpoint, is_set, pointer, slot, type_of)
-from codes import ERROR, HALTED, OF_SERVICE, PASSED, STOPPED, said_by
+from codes import ERROR, HALTED, OF_SERVICE, PASSED, STOPPED, has_fitting_name, said_by
 from commands import command_of, endpoint_after_success, is_stop_of, named_context, names_slot, slot_after_success
 from effects import disabled_by
 from harms import Takes
@@ -271,7 +273,7 @@ class Controller(RingList):
     @a_step
     def report(self, block):
         number = self.had.get((slot(block), endpoint(block)))
-        if not self.can_post(block, [TRANSFER_EVENT]) or is_set(block[3], 2) or number is None:
+        if not self.can_post(block, [TRANSFER_EVENT]) or not has_fitting_name(self, block) or number is None:
             return None
         reports = {PASSED: self.reports_success, HALTED: self.reports_error, ERROR: self.reports_error, STOPPED: self.reports_stop, OF_SERVICE: lambda *_: True}
         said = said_by(self, block)
@@ -280,9 +282,10 @@ class Controller(RingList):
     def reports_success(self, block, number, said):
         """It names an unreported take, the oldest there."""
         takes = self.takes[number]
-        if pointer(block) not in takes.unreported:
+        before = takes.named_by(block)
+        if before is None:
             return False
-        takes.reported += takes.unreported.index(pointer(block)) + 1
+        takes.reported += before + 1
         return True
 
     def is_working(self, block, number):
@@ -291,9 +294,9 @@ class Controller(RingList):
     def reports_error(self, block, number, said):
         """It names the last take, which wasn't reported yet."""
         takes = self.takes[number]
-        if not self.is_working(block, number) or takes.unreported[-1:] != [pointer(block)]:
+        if not self.is_working(block, number) or not takes.is_last(block):
             return False
-        takes.reported = len(takes.addresses)
+        takes.reported = len(takes.taken)
         self.active.discard(number)
         self.endpoints[slot(block), endpoint(block)] = 'Error' if said == ERROR else 'Halted'
         return True
@@ -304,10 +307,10 @@ class Controller(RingList):
         is_stopping = self.under_way and is_stop_of(command_of(self.under_way.block), slot(block), endpoint(block))
         if not is_stopping or not self.is_working(block, number):
             return False
-        is_last = takes.unreported[-1:] == [pointer(block)]
+        is_last = takes.is_last(block)
         if not is_last and pointer(block) != self.at[number][0]:
             return False
-        takes.reported = len(takes.addresses) - is_last
+        takes.reported = len(takes.taken) - is_last
         self.active.discard(number)
         self.under_way = self.under_way._replace(has_stopped=True)
         return True
@@ -388,7 +391,7 @@ class Controller(RingList):
         self.endpoints[number, index], self.had[number, index] = endpoint_state, ring.number
         self.at[ring.number] = address, state
         takes = self.takes[ring.number]
-        takes.reported = len(takes.addresses)
+        takes.reported = len(takes.taken)
         takes.place(ring, address)
 
     # ---- other steps

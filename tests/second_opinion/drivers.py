@@ -1,18 +1,20 @@
 """Traces of random drivers beside random controllers, picked by a seed.
 
-A driver makes one step after another: a command with its contexts, a descriptor, a write, a doorbell, an event, ERDP; from version 2
-on rings come and go besides, and descriptors are withdrawn, and in version 4 endpoints are isochronous, and the controller is stopped, reset and runs again
-(drivers_of_runs.py). A row that breaks no rule, by the plain rules, stands in the trace. One that breaks a rule is dropped; the trace up to it is remembered.
+A driver makes one step after another: a command with its contexts, a descriptor, a write, a doorbell, an event, ERDP; from version 2 on
+rings come and go besides, and descriptors are withdrawn, and in version 4 endpoints are isochronous, descriptors have Event Data, and the
+controller is stopped, reset and runs again (drivers_of_runs.py). A row that breaks no rule, by the plain rules, stands in the trace. One that
+breaks a rule is dropped; the trace up to it is remembered.
 """
 import random
 
 import contexts
-from blocks import (ADDRESS_DEVICE, CHAIN, CONFIGURE_ENDPOINT, COMMAND_COMPLETION, DATA_STAGE, DISABLE_SLOT, ENABLE_SLOT, EVALUATE_CONTEXT,
+from blocks import (ADDRESS_DEVICE, CHAIN, CONFIGURE_ENDPOINT, COMMAND_COMPLETION, DATA_STAGE, DISABLE_SLOT, ED, ENABLE_SLOT, EVALUATE_CONTEXT,
                     EVENT_DATA, ISOCH, LINK, NORMAL, NO_OP, NO_OP_COMMAND, RESET_DEVICE, RESET_ENDPOINT, SETUP_STAGE, SET_TR_DEQUEUE, STATUS_STAGE,
-                    STOP_ENDPOINT, TRANSFER_EVENT, with_cycle)
+                    STOP_ENDPOINT, TRANSFER_EVENT, pointer, type_of, with_cycle)
 from drivers_of_runs import TABLES, DriverOfRuns
 from known import Known
 from rings import Ring, Segment, is_shape
+from rings_that_come import may_be_told
 from rules import least_broken
 from trace import Comes, Declare, Doorbell, Event, Goes, Read, Register, Trace, Withdraws, Write
 
@@ -27,9 +29,14 @@ FITTING = {
     'Configured': [CONFIGURE_ENDPOINT] * 2 + [RESET_DEVICE, DISABLE_SLOT],
     'Running': [STOP_ENDPOINT], 'Halted': [RESET_ENDPOINT], 'Stopped': [SET_TR_DEQUEUE], 'Error': [SET_TR_DEQUEUE],
 }
-# lists of block types that a driver declares, and those of version 4 besides, of which the last three are no form of it
+# lists of block types that a driver declares, and those of version 4 besides: isochronous ones, with Event Data, and such as are no form of it
 FORMS = [[NO_OP], [NORMAL], [NORMAL] * 2, [NORMAL] * 3, [SETUP_STAGE], [DATA_STAGE, NORMAL], [STATUS_STAGE]]
-FORMS_OF_FOUR = [[ISOCH], [ISOCH, NORMAL], [ISOCH, NORMAL, NORMAL]] * 3 + [[ISOCH, ISOCH], [NORMAL, ISOCH], [ISOCH, EVENT_DATA]]
+ISOCHRONOUS_FORMS = [[ISOCH], [ISOCH, NORMAL], [ISOCH, NORMAL, NORMAL]] * 3 + [[ISOCH, EVENT_DATA]]
+DATA_FORMS = [[NORMAL, EVENT_DATA], [NORMAL, NORMAL, EVENT_DATA], [NORMAL, EVENT_DATA, NORMAL], [NORMAL, EVENT_DATA, EVENT_DATA],
+              [DATA_STAGE, NORMAL, EVENT_DATA], [STATUS_STAGE, EVENT_DATA], [ISOCH, NORMAL, EVENT_DATA]]
+NO_FORMS = [[ISOCH, ISOCH], [NORMAL, ISOCH], [EVENT_DATA], [EVENT_DATA, NORMAL], [SETUP_STAGE, EVENT_DATA], [STATUS_STAGE, EVENT_DATA, EVENT_DATA],
+            [STATUS_STAGE, NORMAL], [NO_OP, EVENT_DATA], [NORMAL, EVENT_DATA, NO_OP]]
+FORMS_OF_FOUR = FORMS + ISOCHRONOUS_FORMS + DATA_FORMS + NO_FORMS
 # codes of Transfer Events, and those of isochronous endpoints
 CODES = [1, 1, 1, 1, 13, 6, 5, 26, 27]
 ISOCHRONOUS_CODES = [1, 1, 13, 2, 3, 4, 18, 20, 31, 36, 14, 15, 23, 23, 6, 5, 26, 27]
@@ -374,18 +381,21 @@ class Driver(DriverOfRuns):
             self.give(ring)
 
     def declare_some(self, ring):
-        self.declare_form(ring, self.pick.choice(FORMS + FORMS_OF_FOUR if self.trace.has_isoch else FORMS))
+        self.declare_form(ring, self.pick.choice(FORMS_OF_FOUR if self.trace.is_full else FORMS))
 
     def declare_form(self, ring, kinds):
-        blocks = [(self.pick.randrange(4) << 12, 0, 8, kind << 10 | (16 if i + 1 < len(kinds) else 0) | (64 if kind == SETUP_STAGE else 0))
-                  for i, kind in enumerate(kinds)]
-        self.declare(ring, blocks)
+        """In words of which the first two are often those of another block: values of Event Data too."""
+        def block(i, kind):
+            upper = self.pick.choice([0, 0, 1]) if kind == EVENT_DATA else 0
+            return self.pick.randrange(4) << 12, upper, 8, kind << 10 | (16 if i + 1 < len(kinds) else 0) | (64 if kind == SETUP_STAGE else 0)
+        self.declare(ring, [block(i, kind) for i, kind in enumerate(kinds)])
 
     def declare(self, ring, blocks):
         self.make(Declare(ring.number, tuple(blocks)))
 
     def declare_long(self, ring):
-        self.declare_form(ring, [NORMAL] * self.pick.choice([2, 2, 3, 4]))
+        kinds = [NORMAL, NORMAL, NORMAL, EVENT_DATA] if self.trace.has_event_data else [NORMAL]
+        self.declare_form(ring, [NORMAL, *self.pick.choices(kinds, k=self.pick.choice([1, 1, 2, 3]))])
 
     def doorbell(self):
         self.make(self.pick.choice([Doorbell(0, 0), *[Doorbell(*self.some_enabled_endpoint())] * 4]))
@@ -418,7 +428,8 @@ class Driver(DriverOfRuns):
     def transfer(self):
         slot, endpoint = self.some_enabled_endpoint()
         is_isochronous = self.trace.has_isoch and (self.known.is_isochronous(slot, endpoint) or self.pick.random() < 0.1)
-        self.transfer_of(slot, endpoint, ISOCHRONOUS_CODES if is_isochronous else CODES)
+        tell = self.value_of if self.trace.has_event_data and self.pick.random() < 0.3 else self.transfer_of
+        tell(slot, endpoint, ISOCHRONOUS_CODES if is_isochronous else CODES)
 
     def transfer_of(self, slot, endpoint, codes, spots=()):
         """An event of an endpoint: it names one of these spots, where there are any, else one from the floor on."""
@@ -428,6 +439,51 @@ class Driver(DriverOfRuns):
         spots = spots or ring.spots_from(self.known.floor(ring), self.known.declared(ring))
         spot = self.pick.choice(spots[:self.pick.choice(self.REACH)])
         self.event(ring.spot_address(spot), self.pick.choice(codes), TRANSFER_EVENT << 10 | slot << 24 | endpoint << 16)
+
+    # ---- Event Data
+
+    def value_of(self, slot, endpoint, codes):
+        """An event of an endpoint tells the value of one of its next Event Data blocks; sometimes one that only another block has, or none."""
+        ring = self.known.ring_of(slot, endpoint)
+        if ring is None:
+            return
+        blocks = self.known.queue(ring)[self.known.floor(ring).number:]
+        values = [pointer(block) for block in blocks if type_of(block) == EVENT_DATA]
+        if values and self.pick.random() < 0.9:
+            value = self.pick.choice(values[:self.pick.choice(self.REACH)])
+        else:
+            value = self.pick.choice([pointer(block) for block in self.known.queue(ring)[-5:]] + [self.pick.randrange(4) << 12])
+        self.event(value, self.pick.choice(codes), TRANSFER_EVENT << 10 | slot << 24 | endpoint << 16 | 1 << ED)
+
+    def tell(self):
+        """An endpoint gets descriptors with Event Data; events tell their values, mostly in order, or of their blocks, sometimes at last an error; else it is
+        sometimes stopped, mostly with an event that names where, and descriptors of it are withdrawn."""
+        self.finish_all()
+        slot, index = self.some_endpoint_with_work()
+        ring = self.known.ring_of(slot, index) or self.one_of(self.known.driver_rings)
+        self.try_step(lambda driver: driver.end_all(slot, index))
+        for _ in range(self.pick.choice([1, 2, 3])):
+            self.try_step(lambda driver: driver.declare_form(ring, driver.pick.choice(DATA_FORMS * 4 + NO_FORMS)))
+        self.try_step(lambda driver: driver.give_all(ring))
+        self.try_step(lambda driver: driver.make(Doorbell(slot, index)))
+        for _ in range(self.pick.randrange(4)):
+            tell = self.pick.choice([Driver.value_of, Driver.value_of, Driver.value_of, Driver.transfer_of])
+            self.try_step(lambda driver: tell(driver, slot, index, driver.pick.choice([[1], [1, 13], CODES, ISOCHRONOUS_CODES])))
+            self.try_step(lambda driver: driver.stray_block_of(ring))
+        if self.pick.random() < 0.3:
+            self.try_step(lambda driver: driver.value_of(slot, index, [3, 4, 5, 6, 36]))
+        elif self.pick.random() < 0.6:
+            self.try_step(lambda driver: driver.whole_command(STOP_ENDPOINT, slot, index))
+            for withdraw in self.pick.choices([Driver.withdraw, Driver.withdraw_told], k=self.pick.choice([1, 2, 3])):
+                self.try_step(lambda driver: withdraw(driver, ring))
+            self.try_step(lambda driver: driver.value_of(slot, index, [1, 1, 13]))
+            self.go_on(slot, index, ring)
+        self.try_step(Driver.read_all)
+
+    def withdraw_told(self, ring):
+        """A descriptor of which a value may still be told."""
+        told = lambda p: any(may_be_told(self.known, ring, q) for q in range(p, p + self.known.descriptor_length(ring, p)))
+        self.make(Withdraws(ring.number, self.one_of([p for p in range(self.known.declared(ring)) if told(p)])))
 
     # ---- isochronous endpoints
 
@@ -439,11 +495,12 @@ class Driver(DriverOfRuns):
         slot, index = self.pick.choice(found() or [self.some_enabled_endpoint()])
         ring = self.known.ring_of(slot, index) or self.one_of(self.known.driver_rings)
         for _ in range(self.pick.randrange(4)):
-            self.try_step(lambda driver: driver.declare_form(ring, driver.pick.choice(FORMS_OF_FOUR)))
+            self.try_step(lambda driver: driver.declare_form(ring, driver.pick.choice(ISOCHRONOUS_FORMS + NO_FORMS[:2])))
         self.try_step(lambda driver: driver.give_all(ring))
         self.try_step(lambda driver: driver.make(Doorbell(slot, index)))
         for _ in range(self.pick.randrange(6)):
-            self.try_step(lambda driver: driver.transfer_of(slot, index, ISOCHRONOUS_CODES))
+            tell = self.pick.choice([Driver.transfer_of] * 4 + [Driver.value_of])
+            self.try_step(lambda driver: tell(driver, slot, index, ISOCHRONOUS_CODES))
             self.try_step(lambda driver: driver.stray_block_of(ring))
         self.try_step(lambda driver: driver.event(0, driver.pick.choice([14, 15, 23]), TRANSFER_EVENT << 10 | slot << 24 | index << 16))
         self.read_all()
@@ -677,7 +734,7 @@ class Driver(DriverOfRuns):
     # from version 2 on besides, from version 3 on, and from version 4 on
     STEPS_OF_TWO = [(cancel, 40), (replace_ring, 16), (ring_goes, 2), (ring_comes, 6)]
     STEPS_OF_THREE = [(suspend, 14), (bind_anew, 30)]
-    STEPS_OF_FOUR = [(play, 40), (cancel, 20), (reconfigure, 40)]
+    STEPS_OF_FOUR = [(play, 40), (tell, 40), (cancel, 20), (reconfigure, 40)]
     STEPS_OF_RUNS = [(DriverOfRuns.rest, 30), (DriverOfRuns.next_of_rest, 15), (DriverOfRuns.stray_register, 8), (DriverOfRuns.stray_ring, 4)]
 
     def try_step(self, step):

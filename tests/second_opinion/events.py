@@ -1,13 +1,13 @@
-"""Which events no controller can have posted (xHCI 4.5.3, 4.6, 4.8.3, 4.10, 6.4.2)."""
-from blocks import ENABLE_SLOT, STOP_ENDPOINT, SUCCESS, bits, code, endpoint, is_set, pointer, slot
-from codes import ERROR, HALTED, NEVER, OF_SERVICE, PASSED, said_by
+"""Which events no controller can have posted (xHCI 4.5.3, 4.6, 4.8.3, 4.10, 4.11.5.2, 6.4.2)."""
+from blocks import ENABLE_SLOT, STOP_ENDPOINT, SUCCESS, bits, code, endpoint, pointer, slot
+from codes import ERROR, HALTED, NEVER, OF_SERVICE, PASSED, has_fitting_name, said_by
 from commands import endpoint_after_success, is_stop_of, names_slot, slot_after_success
 from rings import is_data
 
 
 def is_in_profile(known, block):
-    """A Transfer Event without Event Data (ED), with a code of the profile."""
-    return not is_set(block[3], 2) and said_by(known, block) is not None
+    """A Transfer Event with a code of the profile, which with Event Data (ED) tells of a block."""
+    return has_fitting_name(known, block) and said_by(known, block) is not None
 
 
 def may_be_taken(known):

@@ -1,5 +1,10 @@
-"""What a controller took of a ring, and the harms that a run of it does (xHCI 4.9.2, 4.11.5.1)."""
-from blocks import with_cycle
+"""What a controller took of a ring, and the harms that a run of it does (xHCI 4.9.2, 4.11.5.1, 4.11.5.2)."""
+from collections import namedtuple
+
+from blocks import has_value, pointer, tells_value, with_cycle
+
+# where a block was taken, and its words
+Take = namedtuple('Take', 'address block')
 
 
 def first_at(ring, address, least):
@@ -13,7 +18,7 @@ class Takes:
     """The takes of one ring, judged as they come."""
 
     def __init__(self):
-        self.addresses = []
+        self.taken = []
         # how many of them were reported
         self.reported = 0
         # the position of the next one, and whether the dequeue pointer was set since the last one
@@ -25,7 +30,18 @@ class Takes:
 
     @property
     def unreported(self):
-        return self.addresses[self.reported:]
+        return self.taken[self.reported:]
+
+    def named_by(self, event):
+        """How many unreported takes lie before the oldest that an event names, by its value or its address; None where it names none."""
+        names = (lambda take: has_value(take.block, pointer(event))) if tells_value(event) else (lambda take: take.address == pointer(event))
+        return next((i for i, take in enumerate(self.unreported) if names(take)), None)
+
+    def is_last(self, event):
+        """An event names the last take, which wasn't reported: by its address, or by a value that none before it has."""
+        if tells_value(event):
+            return self.unreported != [] and self.named_by(event) == len(self.unreported) - 1
+        return [take.address for take in self.unreported[-1:]] == [pointer(event)]
 
     def take(self, ring, declared, address, block):
         position, lengths = self.next, declared.lengths
@@ -34,7 +50,7 @@ class Takes:
         self.is_out_of_order |= not is_right
         self.has_other_words |= not blocks or with_cycle(blocks[0], ring.cycle(position)) != block
         self.is_inside = not blocks or not (position + 1 in lengths or position + 1 == len(declared.queue))
-        self.addresses.append(address)
+        self.taken.append(Take(address, block))
         self.next, self.is_placed = position + 1, False
 
     def place(self, ring, address):

@@ -7,7 +7,7 @@ from functools import cached_property, lru_cache, wraps
 
 import effects
 import runs
-from blocks import NO_OP, SET_TR_DEQUEUE, endpoint, is_set, pointer, slot
+from blocks import NO_OP, SET_TR_DEQUEUE, endpoint, has_value, is_set, pointer, slot, tells_value
 from commands import command_of
 from rings import Data, RingList
 from trace import Comes, Declare, Doorbell, Event, Goes, Register, Withdraws, Write
@@ -334,6 +334,11 @@ class Known(RingList):
         spots = ring.spots_from(self.floor(ring), self.declared(ring))
         return next((spot for spot in spots if ring.spot_address(spot) == address), None)
 
+    def spot_with_value(self, ring, value):
+        """The spot that an event names by a value: the least from the floor on, up to what is declared, with an Event Data block of this value."""
+        positions = range(self.floor(ring).number, self.declared(ring))
+        return next((Data(p) for p in positions if has_value(self.queue(ring)[p], value)), None)
+
     # ---- commands
 
     @property
@@ -397,7 +402,8 @@ class Known(RingList):
     def spot_of_event(self, block):
         """The ring and the spot that a Transfer Event names, or None."""
         ring = self.ring_of(slot(block), endpoint(block))
-        spot = self.named_spot(ring, pointer(block)) if ring else None
+        find = self.spot_with_value if tells_value(block) else self.named_spot
+        spot = find(ring, pointer(block)) if ring else None
         return (ring, spot) if spot else None
 
     # ---- device contexts

@@ -8,7 +8,8 @@ from trace import MOST_BLOCKS, Doorbell
 LEAST = MOST_BLOCKS[3] + 1
 SEGMENTS = [(140, 140), (100, 3, 100, 90), (280, 4), (3, 258), (256, 256)]
 # the first blocks and the last one; of the last three none is a form of version 4's profile
-FORMS = [(NORMAL, NORMAL)] * 6 + [(DATA_STAGE, NORMAL), (ISOCH, NORMAL), (NORMAL, NO_OP), (ISOCH, ISOCH), (NORMAL, EVENT_DATA)]
+FORMS = [(NORMAL, NORMAL)] * 6 + [(DATA_STAGE, NORMAL), (ISOCH, NORMAL), (NORMAL, EVENT_DATA), (NORMAL, EVENT_DATA)]
+FORMS += [(NORMAL, NO_OP), (ISOCH, ISOCH), (EVENT_DATA, NORMAL)]
 
 
 class LongDriver(Driver):
@@ -26,7 +27,8 @@ class LongDriver(Driver):
         most = ring.place_count - 1
         length = max(2, self.pick.choice([LEAST, LEAST, LEAST + 1, most, most, most + 1]))
         first, last = self.pick.choice(FORMS)
-        self.declare_form(ring, [first] + [NORMAL] * (length - 2) + [last])
+        behind = self.pick.choices([NORMAL, EVENT_DATA], [50, 1], k=length - 2)
+        self.declare_form(ring, [first] + behind + [last])
 
     def declare_form(self, ring, kinds):
         """In words that are mostly 0, so that few are written."""
@@ -45,6 +47,7 @@ class LongDriver(Driver):
         self.try_step(lambda driver: driver.make(Doorbell(slot, index)))
         for _ in range(self.pick.randrange(3)):
             self.try_step(lambda driver: driver.transfer_of(slot, index, [1, 1, 13], driver.spots_inside(slot, index)))
+            self.try_step(lambda driver: driver.value_of(slot, index, [1, 1, 13]))
             self.try_step(lambda driver: driver.stray_block_of(ring))
         self.try_step(lambda driver: driver.end_all(slot, index))
         self.read_all()

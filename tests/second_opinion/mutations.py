@@ -1,7 +1,8 @@
 """Traces that differ a little from worked ones, picked by a seed: text in, text out."""
 import random
 
-from blocks import CHAIN, COMMAND_COMPLETION, CONFIGURE_ENDPOINT, EVALUATE_CONTEXT, LINK, NORMAL, NO_OP_COMMAND, SET_TR_DEQUEUE
+from blocks import (CHAIN, COMMAND_COMPLETION, CONFIGURE_ENDPOINT, ED, EVALUATE_CONTEXT, EVENT_DATA, LINK, NORMAL, NO_OP_COMMAND, SET_TR_DEQUEUE, TRANSFER_EVENT,
+                    TRANSFER_TYPES)
 from trace import MOST_BLOCKS, MOST_BYTES
 
 DIGITS = b'0123456789abcdef'
@@ -145,6 +146,40 @@ def with_another_flag(lines, i, pick):
     return lines[:j] + [b'w %s %08x' % (at, word)] + lines[j:]
 
 
+def is_transfer(line):
+    return line.startswith(b'sub ') and len(line.split()) > 5 and control_word(line) >> 10 & 63 in TRANSFER_TYPES
+
+
+def with_event_data(lines, i, pick):
+    """A block of a descriptor, mostly the last one, becomes Event Data, or Normal where it is, and so does the word that gives it; mostly in version 4."""
+    subs = [j for j, line in enumerate(lines) if is_transfer(line)]
+    if not subs:
+        return lines
+    j = pick.choice(subs)
+    fields = lines[j].split()
+    at = pick.choice([-1, -1, -1, *range(5, len(fields), 4)])
+    word = int(fields[at], 16)
+    given = [k for k in range(j + 1, len(lines)) if lines[k].startswith(b'w ') and control_word(lines[k]) | 1 == word | 1][:1]
+    becomes = word ^ (word >> 10 & 63 ^ (NORMAL if word >> 10 & 63 == EVENT_DATA else EVENT_DATA)) << 10
+    fields[at] = b'%08x' % becomes
+    lines = [b'xtrace 4' if pick.random() < 0.8 else lines[0], *lines[1:j], b' '.join(fields), *lines[j + 1:]]
+    for k in given:
+        lines[k] = lines[k][:-8] + b'%08x' % (becomes | control_word(lines[k]) & 1)
+    return lines
+
+
+def with_a_value_told(lines, i, pick):
+    """A Transfer Event that names a block by its address tells the first words of some block that was declared, by ED; or the other way round."""
+    events = [j for j, line in enumerate(lines) if is_of(line, b'ev', 5, [TRANSFER_EVENT])]
+    if not events:
+        return lines
+    j = pick.choice(events)
+    declared = [line.split()[2:4] for line in lines[:j] if is_transfer(line)] + [line.split()[-4:-2] for line in lines[:j] if is_transfer(line)]
+    _, *named, code, _ = lines[j].split()
+    named = pick.choice(declared) if declared and pick.random() < 0.9 else named
+    return [*lines[:j], b' '.join([b'ev', *named, code, b'%08x' % (control_word(lines[j]) ^ 1 << ED)]), *lines[j + 1:]]
+
+
 def is_link(line):
     """It writes the control word of a Link."""
     return line.startswith(b'w ') and line.split()[1].endswith(b'c') and int(line.split()[2], 16) >> 10 & 63 == LINK
@@ -185,7 +220,8 @@ OF_ROWS = [without_a_row, with_a_row_twice, with_two_rows_swapped, with_a_row_el
 OF_RINGS = [with_a_ring_that_goes, with_a_ring_that_comes, with_a_ring_declared_later, with_a_descriptor_withdrawn, with_an_earlier_one_withdrawn,
             with_a_no_op_for_a_move, with_a_chain_bit_changed, with_a_long_descriptor, with_another_version]
 OF_COMMANDS = [with_a_late_completion, with_another_flag]
-CHANGES = OF_ROWS * 3 + OF_RINGS + OF_COMMANDS
+OF_DATA = [with_event_data, with_a_value_told]
+CHANGES = OF_ROWS * 3 + OF_RINGS + OF_COMMANDS + OF_DATA
 
 
 def mutated(text, pick):

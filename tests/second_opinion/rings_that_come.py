@@ -1,6 +1,6 @@
-"""Where a ring may come, where one may go, and which descriptors may be withdrawn (xHCI 4.6.9, 4.6.10, 4.9, 4.11.5.1)."""
+"""Where a ring may come, where one may go, and which descriptors may be withdrawn (xHCI 4.6.9, 4.6.10, 4.9, 4.11.5.1, 4.11.5.2)."""
 from areas import is_in_range_lease, is_soiled
-from blocks import CHAIN, is_set, with_cycle
+from blocks import CHAIN, EVENT_DATA, is_set, type_of, with_cycle
 from events import may_be_taken
 from given_commands import changes_endpoint
 from moves import is_being_bound
@@ -49,9 +49,15 @@ def has_stopped(known, ring):
 
 
 def may_be_withdrawn(known, ring, position):
-    """A descriptor begins there, not put there by a withdrawal, that the version doesn't count as passed."""
+    """A descriptor begins there, not put there by a withdrawal, that the version doesn't count as passed, and of which no value may still be told."""
     blocks = range(position, position + known.descriptor_length(ring, position))
-    return len(blocks) > 0 and not any(known.was_withdrawn(ring, p) for p in blocks) and not is_passed(known, ring, blocks)
+    return len(blocks) > 0 and not any(known.was_withdrawn(ring, p) or may_be_told(known, ring, p) for p in blocks) and not is_passed(known, ring, blocks)
+
+
+def may_be_told(known, ring, position):
+    """It is an Event Data block that the controller may have taken, and whose event may be unread: that names it by its value."""
+    is_between = known.floor(ring).number <= position < known.ceiling(ring)
+    return is_between and type_of(known.queue(ring)[position]) == EVENT_DATA
 
 
 def is_passed(known, ring, blocks):

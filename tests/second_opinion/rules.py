@@ -78,7 +78,7 @@ def ring_full(known, row):
 def bad_descriptor(known, row):
     """The blocks have no form of a descriptor of this ring."""
     is_command = known.ring(row.ring).kind == 'cmd'
-    return is_bad_command(row.blocks) if is_command else is_bad_transfer(row.blocks, known.trace.has_isoch)
+    return is_bad_command(row.blocks) if is_command else is_bad_transfer(row.blocks, known.trace.is_full)
 
 
 # ---- 17 and 22: registers
@@ -141,7 +141,7 @@ def not_in_profile(known, row):
     """Blocks are declared, an endpoint is added, a Link is given, or an event is read that the profile leaves out."""
     if isinstance(row, Declare):
         is_command = known.ring(row.ring).kind == 'cmd'
-        return any(is_left_out_command(block) for block in row.blocks) if is_command else is_left_out_transfer(row.blocks, known.trace.has_isoch)
+        return any(is_left_out_command(block) for block in row.blocks) if is_command else is_left_out_transfer(row.blocks, known.trace.is_full)
     if isinstance(row, Event):
         return type_of(row.block) == TRANSFER_EVENT and not is_in_profile(known, row.block)
     command = known.command_given_by(row)

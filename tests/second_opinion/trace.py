@@ -101,6 +101,16 @@ class Trace(RingList):
         return self.version >= 4
 
     @property
+    def has_event_data(self):
+        """Descriptors have Event Data blocks, and events tell their values."""
+        return self.version >= 4
+
+    @property
+    def is_full(self):
+        """No type of transfer blocks is left out."""
+        return self.has_isoch and self.has_event_data
+
+    @property
     def has_runs(self):
         """The controller halts, is reset and runs again."""
         return self.version >= FIRST_WITH_RUNS

@@ -2,7 +2,7 @@
 
 A walk posts the events that the trace reads, in their order, sooner or later; now and then another one, behind which the trace reads none any more.
 """
-from blocks import COMMAND_COMPLETION, TRANSFER_EVENT, aligned, with_cycle
+from blocks import COMMAND_COMPLETION, ED, EVENT_DATA, TRANSFER_EVENT, aligned, pointer, type_of, with_cycle
 from commands import command_of, names_slot
 from controller import posted
 from drivers import CODES, ISOCHRONOUS_CODES, halves
@@ -94,9 +94,14 @@ class Walk:
         if not self.controller.had:
             return None
         (number, index), ring = self.pick.choice(sorted(self.controller.had.items()))
-        places = [*self.controller.takes[ring].unreported, self.controller.at[ring][0]]
-        address = self.pick.choice([places[0], places[-2:][0], places[-1], self.pick.choice(places)])
-        return *halves(address), self.pick.choice(CODES + ISOCHRONOUS_CODES) << 24, TRANSFER_EVENT << 10 | number << 24 | index << 16
+        unreported = self.controller.takes[ring].unreported
+        places = [*(take.address for take in unreported), self.controller.at[ring][0]]
+        values = [pointer(take.block) for take in unreported if type_of(take.block) == EVENT_DATA]
+        is_value = values != [] and self.pick.random() < 0.5
+        named = values if is_value else places
+        name = self.pick.choice([named[0], named[-2:][0], named[-1], self.pick.choice(named)])
+        low = TRANSFER_EVENT << 10 | number << 24 | index << 16 | (1 << ED if is_value else 0)
+        return *halves(name), self.pick.choice(CODES + ISOCHRONOUS_CODES) << 24, low
 
     def some_other(self):
         return 0, 0, 1 << 24, self.pick.randrange(34, 40) << 10

@@ -60,6 +60,8 @@ class Meanings:
         if standard.type_of(words[3]) == standard.COMMAND_COMPLETION:
             command = standard.type_name(self.trace.word(pointer + 12, row))
             return f'{name}: {command}, {standard.code_name(words[2])}'
+        if standard.tells_value(words):
+            return f'{name}: Event Data {words[1]:08x}{words[0]:08x}, {standard.code_name(words[2])}'
         if standard.type_of(words[3]) == standard.TRANSFER_EVENT:
             return f'{name}: {self.memory.trb_text(pointer)}, {standard.code_name(words[2])}'
         return f'{name}: port {words[0] >> 24}' if standard.type_of(words[3]) == standard.PORT_STATUS_CHANGE else name

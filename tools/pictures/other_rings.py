@@ -26,7 +26,7 @@ class RowRings:
                 self.learn(words_of(text.split()[1:]))
 
     def learn(self, words):
-        rings = self.at(standard.pointer_of(words))
+        rings = set() if standard.tells_value(words) else self.at(standard.pointer_of(words))
         if rings and standard.type_of(words[3]) == standard.TRANSFER_EVENT:
             self.endpoints.setdefault((words[3] >> 24, words[3] >> 16 & 31), set()).update(rings)
 
@@ -55,6 +55,8 @@ class RowRings:
         return self.of_event(numbers) if word in EVENT_WORDS else None
 
     def of_event(self, words):
+        if standard.tells_value(words):
+            return self.events | self.endpoints.get((words[3] >> 24, words[3] >> 16 & 31), set())
         return self.events | (self.at(standard.pointer_of(words)) if standard.type_of(words[3]) in WITH_TRB else set())
 
 

@@ -55,6 +55,11 @@ def command_name(words):
     return name + (f', DCI {endpoint}' if endpoint else '')
 
 
+def tells_value(words):
+    """A Transfer Event tells the value of an Event Data TRB in words 1 and 0, and no address (ED)."""
+    return type_of(words[3]) == TRANSFER_EVENT and words[3] >> 2 & 1 == 1
+
+
 def pointer_of(words):
     """Words 1 and 0 as the address of a TRB or a context."""
     return words[1] << 32 | words[0] & ~15

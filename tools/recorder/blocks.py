@@ -1,6 +1,6 @@
 """Fields of blocks (TRBs, xHCI 6.4)."""
 
-ISOCH = 5
+ISOCH, EVENT_DATA = 5, 7
 LINK, ENABLE_SLOT, DISABLE_SLOT, ADDRESS_DEVICE, CONFIGURE_ENDPOINT, EVALUATE_CONTEXT = 6, 9, 10, 11, 12, 13
 RESET_ENDPOINT, STOP_ENDPOINT, SET_TR_DEQUEUE, RESET_DEVICE = 14, 15, 16, 17
 STOPPING = (RESET_ENDPOINT, STOP_ENDPOINT, SET_TR_DEQUEUE)  # where they succeed the endpoint is stopped
@@ -39,6 +39,16 @@ def target(words):
 
 def code(words):
     return words[2] >> 24
+
+
+def tells_value(words):
+    """Whether a Transfer Event tells words 1 and 0 of an Event Data TRB, and no address (ED, 4.11.5.2)."""
+    return words[3] >> 2 & 1
+
+
+def has_value(words, event):
+    """Whether a block is an Event Data TRB whose value a Transfer Event tells."""
+    return kind(words) == EVENT_DATA and pointer(words) == pointer(event)
 
 
 def slot(words):

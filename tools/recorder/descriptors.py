@@ -57,6 +57,13 @@ class Producer:
         if at in self.ring.place or at in self.ring.crossing:
             self.floor = self.ring.least(at, self.floor) + (1 if beyond and at in self.ring.place else 0)
 
+    def told(self, event):
+        """The controller passed the block that an event names by its value: the first one from the floor on."""
+        position = self.floor
+        while position in self.given and (position in self.withdrawn or not blocks.has_value(self.given[position][1], event)):
+            position += 1
+        self.floor = position + 1 if position in self.given else self.floor
+
     def moved(self, at, cycle):
         if at not in self.ring.place and at not in self.ring.crossing:
             return
@@ -133,7 +140,11 @@ class Follower:
 
     def read_event(self, row):
         words, at = row.fields, blocks.pointer(row.fields)
-        if blocks.kind(words) == blocks.TRANSFER_EVENT and at in self.owner and blocks.code(words) not in blocks.SERVICE_CODES:
+        if blocks.kind(words) == blocks.TRANSFER_EVENT and blocks.tells_value(words):
+            for producer in self.producers:
+                if producer.ring.is_had_by({(blocks.slot(words), blocks.endpoint(words))}, row.key):
+                    producer.told(words)
+        elif blocks.kind(words) == blocks.TRANSFER_EVENT and at in self.owner and blocks.code(words) not in blocks.SERVICE_CODES:
             self.owner[at].passed(at, blocks.code(words) not in blocks.STOPPED_CODES)
         if blocks.kind(words) == blocks.COMMAND_COMPLETION and at in self.owner:
             self.owner[at].passed(at, True)

@@ -33,10 +33,14 @@ def text(row):
 
 
 def is_latest(row):
-    """A TD that no version before 4 has, by its length or as an isochronous one, or an event of the service of an isochronous endpoint."""
+    """A TD that no version before 4 has, by its length, as an isochronous one or with Event Data, or an event that tells a value, or of the service of an
+    isochronous endpoint."""
     if row.kind == 'sub':
-        return len(row.fields[1]) > 4 * MOST_BLOCKS[3] or blocks.kind(row.fields[1]) == blocks.ISOCH
-    return row.kind == 'ev' and blocks.kind(row.fields) == blocks.TRANSFER_EVENT and blocks.code(row.fields) in blocks.SERVICE_CODES
+        words = row.fields[1]
+        has_data = any(blocks.kind(words[i:i + 4]) == blocks.EVENT_DATA for i in range(0, len(words), 4))
+        return len(words) > 4 * MOST_BLOCKS[3] or blocks.kind(words) == blocks.ISOCH or has_data
+    is_transfer = row.kind == 'ev' and blocks.kind(row.fields) == blocks.TRANSFER_EVENT
+    return is_transfer and (blocks.code(row.fields) in blocks.SERVICE_CODES or bool(blocks.tells_value(row.fields)))
 
 
 def head(latest, rows, context_size, rings, are_latest=False):

@@ -15,7 +15,7 @@ MOST_LINES = 1 << 22  # of a schedule
 class Schedule:
     def __init__(self, rows, items, rings):
         self.rows = rows
-        self.owner = {}
+        self.owner, self.there = {}, []
         for ring in rings:
             if ring.comes is None:
                 self.come(ring)
@@ -26,6 +26,7 @@ class Schedule:
         self.phase = Phase()
         self.cycle = 1           # the command ring's
         self.taken = {}          # by ring: (line, address) of the looks of its transfers
+        self.told = {}           # by ring: of how many of these an event told
         self.given_back = {}     # by ring: the addresses of the looks that were given back when it stopped last
         self.rung = set()        # slots and DCIs of the endpoints whose doorbell was rung since they stopped or began
         self.unasked = []        # where in `lines` there are looks at rings of other endpoints, and such an endpoint
@@ -56,8 +57,10 @@ class Schedule:
             self.rung.add(row.fields)
         elif row.kind == 'free':
             self.owner = {at: ring for at, ring in self.owner.items() if ring is not row.fields[0]}
+            self.there.remove(row.fields[0])
 
     def come(self, ring):
+        self.there.append(ring)
         if ring.kind != 'evt':
             self.owner.update((at, ring) for at in ring.data + ring.links)
 
@@ -65,7 +68,7 @@ class Schedule:
         if name == 'crcr' and not value & STOP_OR_ABORT:
             self.cycle = value & 1
         elif name == 'usbcmd' and value & RESET:
-            self.phase, self.taken, self.given_back, self.rung = Phase(), {}, {}, set()
+            self.phase, self.taken, self.told, self.given_back, self.rung = Phase(), {}, {}, {}, set()
         elif name == 'usbcmd':
             self.phase.write(value)
 
@@ -121,7 +124,8 @@ class Schedule:
     def post(self, item):
         if item.interrupter:
             return
-        kind, at = blocks.kind(item.words), blocks.pointer(item.words)
+        kind = blocks.kind(item.words)
+        at = self.named(item.words) if kind == blocks.TRANSFER_EVENT else blocks.pointer(item.words)
         stops = blocks.stops(item.words, self.is_isochronous(item.words, at))
         if kind == blocks.TRANSFER_EVENT and stops:
             self.rung.discard((blocks.slot(item.words), blocks.endpoint(item.words)))
@@ -134,6 +138,23 @@ class Schedule:
                 self.stop(command)
         name = {blocks.TRANSFER_EVENT: 'report', blocks.COMMAND_COMPLETION: 'finish'}.get(kind, 'other')
         self.step(name + ' %08x %08x %08x %08x' % item.words)
+
+    def named(self, words):
+        """The address of the block that a Transfer Event names: by its value the oldest of the endpoint's ring that was looked at, and of which none told."""
+        address, is_value = blocks.pointer(words), blocks.tells_value(words)
+        for ring in self.rings_of(words) if is_value else [self.owner[address]] if address in self.owner else []:
+            looks = self.taken.get(ring.number, [])
+            for i in range(self.told.get(ring.number, 0), len(looks)):
+                where = looks[i][1]
+                if blocks.has_value(tuple(self.memory.get(where + 4 * n, 0) for n in range(4)), words) if is_value else where == address:
+                    self.told[ring.number] = i + 1
+                    return where
+        return None if is_value else address
+
+    def rings_of(self, words):
+        """Those that the endpoint of a Transfer Event has or had, the newest first."""
+        at = blocks.slot(words), blocks.endpoint(words)
+        return [ring for ring in reversed(self.there) if at in [(use.slot, use.index) for use in ring.uses]]
 
     def is_isochronous(self, words, at):
         """Whether an event that names this block is an isochronous endpoint's."""
@@ -148,7 +169,7 @@ class Schedule:
             for line, where in looks[last + 1:]:
                 self.lines[line] = None
             self.given_back[ring] = [where for line, where in looks[last + 1:]]
-        self.taken[ring.number] = []
+        self.taken[ring.number], self.told[ring.number] = [], 0
 
     def finish(self, command):
         """A command that isn't known to leave an endpoint's ring where it stands: what was given back of it isn't come over."""

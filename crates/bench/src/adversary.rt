@@ -2,7 +2,7 @@
 ghost use Rattle.std.specs.Prelude.{◌<◌};
 
 use crate::candidates::{
-    IOC, ISP, bytes_in, finished, is_alone, looked, oddity, oldest_with, stopped, stopped_at,
+    IOC, ISP, bytes_in, finished, is_alone, looked, oddity, oldest_with, stopped, stopped_at, told,
 };
 use crate::drawn::Dice;
 use crate::events::transfer_event;
@@ -338,7 +338,7 @@ impl Adversary {
         let cycle = controller.event_cycle();
         let event = match self.cut_short(controller, ring, endpoint) {
             Some((at, left)) => transfer_event(at, 13, left, slot, endpoint, cycle),
-            None => transfer_event(*takes.get(asked?)?, 1, 0, slot, endpoint, cycle),
+            None => told(controller, ring, asked?, 1)?,
         };
         Some(Step::Report { event })
     }
@@ -381,7 +381,7 @@ impl Adversary {
         }
         let takes = controller.unreported(ring);
         let cut = oldest_with(controller.memory(), takes, IOC | ISP)?;
-        let at = *takes.get(cut)?;
+        let at = takes.get(cut)?.address;
         let bytes = bytes_in(controller.memory(), at);
         if bytes == 0 {
             return None;
@@ -407,7 +407,7 @@ impl Adversary {
         if stops.is_some() && self.dice.below(2) == 0 {
             return stops;
         }
-        let at = *controller.unreported(ring).back()?;
+        let last = controller.unreported(ring).len().checked_sub(1)?;
         if !self.dice.chance(self.profile.errors) {
             return None;
         }
@@ -416,9 +416,8 @@ impl Adversary {
         } else {
             self.dice.one_of(&BREAKING)
         };
-        let cycle = controller.event_cycle();
         Some(Step::Report {
-            event: transfer_event(at, code, 0, slot, endpoint, cycle),
+            event: told(controller, ring, last, code)?,
         })
     }
 

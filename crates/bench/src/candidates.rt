@@ -1,12 +1,13 @@
 //! Steps that a controller may make, as it shows itself (xHCI 4.6, 4.9, 4.10).
 use crate::drawn::Dice;
-use crate::events::{completion_event, other_event, transfer_event};
+use crate::events::{completion_event, data_event, other_event, transfer_event};
 use commands::{Command, EndpointState};
 use controller_model::Controller;
 use guest_memory::{Addr, WordMemory};
 use std::collections::VecDeque;
 use traces::Step;
-use trb::BlockKind;
+use trb::{Block, BlockKind};
+use world_state::Take;
 
 /// Events of the controller's own that a driver may meet.
 const OTHERS: [BlockKind; 4] = [
@@ -34,9 +35,20 @@ pub(crate) const ISP: u32 = 4;
 /// The direction of a Data Stage TRB: IN (6.4.1.2.2).
 const IN: u32 = 0x10000;
 
+/// How many bytes a TRB at an address moves at most: a Normal, a Data Stage or an Isoch TRB; 0 of another.
+fn bytes_of<M: WordMemory>(memory: &M, at: u64) -> u32 {
+    let (Some(status), Some(control)) = (Addr::new(at | 8), Addr::new(at | 12)) else {
+        return 0;
+    };
+    match (memory.word(control) >> 10) % 64 {
+        1 | 3 | 5 => memory.word(status) % (1 << 17),
+        _ => 0,
+    }
+}
+
 /// How many bytes a TRB at an address brings in at most: a Normal TRB, or a Data Stage TRB from the device; 0 of another.
 pub(crate) fn bytes_in<M: WordMemory>(memory: &M, at: u64) -> u32 {
-    let (Some(status), Some(control)) = (Addr::new(at | 8), Addr::new(at | 12)) else {
+    let Some(control) = Addr::new(at | 12) else {
         return 0;
     };
     let word = memory.word(control);
@@ -45,20 +57,49 @@ pub(crate) fn bytes_in<M: WordMemory>(memory: &M, at: u64) -> u32 {
         3 => word & IN != 0,
         _ => false,
     };
-    if is_in {
-        memory.word(status) % (1 << 17)
-    } else {
-        0
+    if is_in { bytes_of(memory, at) } else { 0 }
+}
+
+/// How many bytes were moved since the Event Data TRB before a take, of the takes that no event has told of (xHCI 4.11.5.2).
+fn bytes_before<M: WordMemory>(memory: &M, takes: &VecDeque<Take>, place: usize) -> u32 {
+    takes
+        .iter()
+        .take(place)
+        .fold(0, |bytes: u32, take| match take.value {
+            Some(_) => 0,
+            None => bytes.saturating_add(bytes_of(memory, take.address)),
+        })
+}
+
+/// What is told of one of a ring's takes, with a code: by the value of an Event Data TRB, else by the address (xHCI 4.11.5.2).
+pub(crate) fn told<M: WordMemory + Drop>(
+    controller: &Controller<M>,
+    ring: u8,
+    place: usize,
+    code: u8,
+) -> Option<Block> {
+    let (slot, endpoint) = controller.holder(ring)?;
+    let takes = controller.unreported(ring);
+    let take = takes.get(place)?;
+    let cycle = controller.event_cycle();
+    match take.value {
+        Some(value) if controller.live().version.has_data() => {
+            let bytes = bytes_before(controller.memory(), takes, place);
+            Some(data_event(value, code, bytes, slot, endpoint, cycle))
+        }
+        _ => Some(transfer_event(take.address, code, 0, slot, endpoint, cycle)),
     }
 }
 
 /// Which of these TRBs is the oldest that has one of these flags.
 pub(crate) fn oldest_with<M: WordMemory>(
     memory: &M,
-    takes: &VecDeque<u64>,
+    takes: &VecDeque<Take>,
     flags: u32,
 ) -> Option<usize> {
-    takes.iter().position(|at| has_flag(memory, *at, flags))
+    takes
+        .iter()
+        .position(|take| has_flag(memory, take.address, flags))
 }
 
 fn has_flag<M: WordMemory>(memory: &M, at: u64, flags: u32) -> bool {
@@ -98,7 +139,7 @@ pub(crate) fn stopped<M: WordMemory + Drop>(
         return None;
     }
     let (at, code) = match controller.unreported(ring).back() {
-        Some(at) => (*at, 26),
+        Some(last) => (last.address, 26),
         None => (controller.pointer(ring), 27),
     };
     let cycle = controller.event_cycle();

@@ -28,6 +28,23 @@ pub(crate) fn transfer_event(
     }
 }
 
+/// Event Data (ED) in a Transfer Event's control word (6.4.2.1).
+const ED: u32 = 4;
+
+/// A Transfer Event that tells the value of an Event Data TRB, and how many bytes were moved since the one before (4.11.5.2).
+pub(crate) fn data_event(
+    value: u64,
+    code: u8,
+    bytes: u32,
+    slot: u8,
+    endpoint: u8,
+    cycle: bool,
+) -> Block {
+    let mut event = transfer_event(value, code, bytes, slot, endpoint, cycle);
+    event.w[3] |= ED;
+    event
+}
+
 /// A Command Completion Event of the command at an address (6.4.2.2).
 pub(crate) fn completion_event(at: u64, code: u8, slot: u8, cycle: bool) -> Block {
     Block {

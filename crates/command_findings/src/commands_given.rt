@@ -25,11 +25,7 @@ pub fn bad_command(case: &mut Case, address: u64, word: u32) -> bool {
         "a command that its slot, endpoint or Input Context does not allow",
         &[],
     );
-    let name = Shown::Name(command_name(command));
-    match command.endpoint() {
-        Some((_, endpoint)) => case.here("{} of {}", &[name, Shown::Endpoint(slot, endpoint)]),
-        None => case.here("{} of slot {}", &[name, Shown::Small(slot)]),
-    }
+    case.here("{}", &[Shown::Command(command)]);
     true
 }
 

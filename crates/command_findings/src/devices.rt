@@ -138,7 +138,7 @@ fn note_running(case: &mut Case, slot: u8) {
 pub fn busy(case: &mut Case, at: Addr, word: u32) -> bool {
     match command_at(case, at.get(), word) {
         Some(command) => match command.slot() {
-            Some(slot) => busy_slot(case, command, slot),
+            Some(_) => busy_slot(case, command),
             None => false,
         },
         None => busy_ring(case, at, word),
@@ -146,13 +146,12 @@ pub fn busy(case: &mut Case, at: Addr, word: u32) -> bool {
 }
 
 /// A second command for a slot. Whether it is so.
-fn busy_slot(case: &mut Case, command: Command, slot: u8) -> bool {
+fn busy_slot(case: &mut Case, command: Command) -> bool {
     let Some(first) = unfinished_beside(case, command) else {
         return false;
     };
     case.head("a second command for a slot whose first is unfinished", &[]);
-    let name = Shown::Name(command_name(command));
-    case.here("{} of slot {}", &[name, Shown::Small(slot)]);
+    case.here("{}", &[Shown::Command(command)]);
     case.mark_unfinished(first);
     case.say("its Command Completion Event wasn't read yet");
     say_what_they_share(case, first.command, command);
@@ -167,22 +166,29 @@ fn say_what_they_share(case: &mut Case, first: Command, second: Command) {
         case.say("the two name different endpoints: `xtrace 3` allows them side by side");
     } else if !exclude(case, first, second) {
         case.say("neither is about the other's endpoints: `xtrace 4` allows them side by side");
-    } else if case.header.version.has_runs() {
+    } else {
         say_which_endpoint(case, first, second);
     }
 }
 
-/// Which endpoint is named by one command and told of in the Input Context of the other.
+/// Which endpoint both commands name, or one names and the other's Input Context has.
 fn say_which_endpoint(case: &mut Case, first: Command, second: Command) {
     let (named, other) = match (first.endpoint(), second.endpoint()) {
         (Some((_, named)), None) => (named, second),
         (None, Some((_, named))) => (named, first),
-        _ => return,
+        (Some((_, named)), Some(_)) => {
+            return case.note("both are about DCI {}", &[Shown::Small(named)]);
+        }
+        (None, None) => return case.say("each is about the whole slot"),
     };
     let told = [Shown::Name(command_name(other)), Shown::Small(named)];
     match other {
-        Command::ConfigureEndpoint { .. } | Command::EvaluateContext { .. } => {
-            case.note("{} is about DCI {} too", &told);
+        Command::ConfigureEndpoint {
+            deconfigure: false,
+            ..
+        }
+        | Command::EvaluateContext { .. } => {
+            case.note("the Input Context of {} has a flag of DCI {}", &told);
         }
         _ => case.note(
             "{} is about each endpoint of the slot, DCI {} among them",

@@ -4,7 +4,9 @@ use row_history::{
     Case, Shown, code_name, command_at, is_isochronous, last_write, mark_adding, trb_at, type_name,
 };
 use traces::Row;
-use trb::{Block, BlockFlags, BlockKind, Flags, Profile, counted_code, is_of_service};
+use trb::{
+    Block, BlockFlags, BlockKind, Flags, Profile, counted_code, is_of_service, may_name_data,
+};
 
 /// A row with a form of the standard that isn't judged.
 pub fn not_in_profile(case: &mut Case, row: &Row) {
@@ -33,7 +35,7 @@ fn advise_another_run(case: &mut Case) {
 fn advise_version_four(case: &mut Case) {
     if !case.has_help() {
         case.advise(
-            "begin the trace with `xtrace 4`, which judges isochronous endpoints: as it is, nothing is said against the driver, and neither this row nor those behind it are judged",
+            "begin the trace with `xtrace 4`, which judges isochronous endpoints and Event Data: as it is, nothing is said against the driver, and neither this row nor those behind it are judged",
         );
     }
 }
@@ -100,7 +102,7 @@ fn note_submitted(case: &mut Case, blocks: &[Block]) {
     note_left_out(case, blocks);
     if !blocks
         .iter()
-        .any(|block| is_left_out(Profile::WithIsoch, *block))
+        .any(|block| is_left_out(Profile::Full, *block))
     {
         advise_version_four(case);
     }
@@ -158,8 +160,8 @@ fn is_left_out(profile: Profile, block: Block) -> bool {
 
 /// Notes why an event is left out.
 fn note_event(case: &mut Case, event: Block) {
-    if event.flags().contains(BlockFlags::SHORT) {
-        case.say("a Transfer Event with Event Data (ED 1)");
+    if !case.header.version.may_have_data(event) {
+        note_value(case, event);
     } else if !case.header.version.has_isoch() {
         note_code(
             case,
@@ -177,6 +179,21 @@ fn note_event(case: &mut Case, event: Block) {
             event,
             "a Transfer Event with Completion Code {}: judged are 1, 3, 4, 5, 6, 13, 14, 15, 23, 26, 27, 28 and 36, and at isochronous endpoints 2, 18, 20 and 31",
         );
+    }
+}
+
+/// Notes why an event that tells a value is left out.
+fn note_value(case: &mut Case, event: Block) {
+    if case.header.version.has_data() {
+        return note_code(
+            case,
+            event,
+            "a Transfer Event with Event Data (ED 1) and Completion Code {}: with 14, 15, 23 and 26 to 28 it isn't judged",
+        );
+    }
+    case.say("a Transfer Event with Event Data (ED 1)");
+    if may_name_data(event.code()) {
+        advise_version_four(case);
     }
 }
 

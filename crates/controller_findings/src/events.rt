@@ -329,6 +329,9 @@ fn note_endpoint(case: &mut Case, event: Block, text: &str) {
 
 /// What is wrong with a Transfer Event whose endpoint has a ring.
 fn note_pointer(case: &mut Case, event: Block, ring: &Ring, known: &RingRecord) {
+    if event.has_event_data() {
+        return note_value(case, event, ring, known);
+    }
     let pointer = event.pointer();
     let (named, id) = (Shown::Address(pointer), Shown::Id(ring.id));
     let is_stopped = matches!(event.code(), 26..=28);
@@ -355,7 +358,38 @@ fn note_pointer(case: &mut Case, event: Block, ring: &Ring, known: &RingRecord) 
                 &[named, id, endpoint],
             );
             note_owner(case, pointer);
+            if known.named_data(pointer).is_some() {
+                case.advise(
+                    "an Event Data TRB has this value: an event that tells a value has Event Data (ED, word 3 bit 2) 1",
+                );
+            }
         }
+    }
+}
+
+/// What is wrong with a Transfer Event that tells a value (ED).
+fn note_value(case: &mut Case, event: Block, ring: &Ring, known: &RingRecord) {
+    let value = event.pointer();
+    if let Some(spot) = known.named_by(&ring.shape, event) {
+        let position = spot.number();
+        case.note(
+            "it tells the value {}, which {}, has",
+            &[Shown::Address(value), trb_named(ring, position)],
+        );
+        return note_named_trb(case, event, ring, known, position);
+    }
+    let last = case.since_reset(last_event(case.before, BlockKind::TransferEvent, value));
+    case.mark(last, "the last event that told it", &[]);
+    case.note(
+        "it tells the value {}, and no Event Data TRB has it that is submitted on ring {} and hasn't come back",
+        &[Shown::Address(value), Shown::Id(ring.id)],
+    );
+    if ring.shape.place_at(value).is_some() {
+        case.advise(
+            "an event that names a TRB by its address has Event Data (ED, word 3 bit 2) 0: look at the hook for events",
+        );
+    } else {
+        note_breach(case);
     }
 }
 

@@ -1,5 +1,5 @@
 -- One more thing that happens on a ring
-use Rattle.controller_model.proofs.Words.{rules, ◌≡◌, ◌+◌, ◌-◌, ◌<◌, ◌≤◌, ◌==◌, ◌||◌, ◌++◌, if◌then◌else◌, ◌∷◌, ◌∙◌, ℕ, suc, not, [], List, Option, length, drop, true, false, refl, sym, ap, arith, length-append, eq-eqb, ne_eqb, slice_index_or, drop-append-le, drop_all, false≢true, cond-true, cond-false, Block, Shape, address_of, cycle_of, DeclaredBlock, RingEvent, Took, Placed, takes_of, next_take, was_placed, first_at, is_as_declared, is_right_place, is_out_of_order, has_other_words, is_end, is_inside_descriptor, Header, is_last, History, Keeps, ShowsHarms}
+use Rattle.controller_model.proofs.Words.{rules, ◌≡◌, ◌+◌, ◌≤◌, ◌==◌, ◌||◌, ◌++◌, if◌then◌else◌, ◌∷◌, ◌∙◌, ℕ, not, [], List, Option, length, drop, true, false, sym, arith, length-append, eq-eqb, ne_eqb, drop-append-le, drop_all, cond-true, cond-false, Block, Shape, address_of, cycle_of, DeclaredBlock, RingEvent, Took, Placed, takes_of, next_take, was_placed, first_at, is_as_declared, is_right_place, is_out_of_order, has_other_words, is_end, is_inside_descriptor, take_of, History, Keeps, ShowsHarms}
 
 -- a bit by a test
 pub as_bit : (shape : Shape) (p : ℕ) → (if cycle_of shape p == 1 then 1 else 0) ≡ cycle_of shape p
@@ -9,14 +9,14 @@ drop-more : {X : Type 0} (n : ℕ) (xs ys : List X) → n ≤ length xs → drop
 drop-more n xs ys h = drop-append-le n xs ys h
 
 -- a take: what it says of its position, and what is kept after it
-pub record Takes (h after : History) (a : ℕ) (d : Option DeclaredBlock) : Type 0 where
+pub record Takes (h after : History) (a : ℕ) (b : Block) (d : Option DeclaredBlock) : Type 0 where
   pub next : after.next ≡ h.next + 1
   pub placed : after.was_placed ≡ false
   pub inside : after.is_inside ≡ not (is_end d)
-  pub unreported : after.unreported.items ≡ h.unreported.items ++ a ∷ []
+  pub unreported : after.unreported.items ≡ h.unreported.items ++ take_of a b ∷ []
 
 pub keeps_took : (shape : Shape) (events : List RingEvent) (reported : ℕ) (h after : History) (a : ℕ) (b : Block) (d : Option DeclaredBlock) →
-    Takes h after a d → Keeps shape events reported h → Keeps shape (Took a b d ∷ events) reported after
+    Takes h after a b d → Keeps shape events reported h → Keeps shape (Took a b d ∷ events) reported after
 unfolding next_take was_placed is_inside_descriptor takes_of
 keeps_took shape events reported h after a b d t k = search (rules, drop-more, length-append)
 
@@ -54,16 +54,3 @@ pub shows_placed : (shape : Shape) (events : List RingEvent) (a : ℕ) (h after 
     ShowsHarms shape events h → ShowsHarms shape (Placed a ∷ events) after
 unfolding is_out_of_order has_other_words
 shows_placed shape events a h after order words s = record { order = s.order ∙ sym order; words = s.words ∙ sym words }
-
-pub is_last-none : (h : Header) (a n : ℕ) (xs : List ℕ) → n ≡ length xs → (0 < n → false ≡ true) → false ≡ is_last h a xs
-unfolding is_last
-is_last-none h a n [] many none = refl
-is_last-none h a n (x ∷ xs) many none = absurd (false≢true (none (omega arith)))
-
-pub is_last-some : (h : Header) (a x n : ℕ) (xs : List ℕ) → n ≡ length xs → 0 < n → x ≡ slice_index_or xs (n - 1) x → (x == a) ≡ is_last h a xs
-unfolding is_last
-is_last-some h a x n [] many some at = absurd (omega arith)
-is_last-some h a x n (y ∷ []) many some at = grind (arith, slice_index_or)
-is_last-some h a x n (y ∷ z ∷ zs) many some at =
-    let later : slice_index_or (y ∷ z ∷ zs) (n - 1) x ≡ slice_index_or (z ∷ zs) (n - 1 - 1) x = ap (λ k. slice_index_or (y ∷ z ∷ zs) k x) (let e : n - 1 ≡ suc (n - 1 - 1) = omega arith in e) in
-    is_last-some h a x (n - 1) (z ∷ zs) (omega arith) (omega arith) (at ∙ later)

@@ -1,5 +1,5 @@
 -- What CRCR does to command rings
-use Rattle.controller_model.proofs.LowerLaws.{is_command_ring, fun_ext, arith, rules, ◌≡◌, ◌==◌, ◌&&◌, ◌||◌, ◌<◌, ◌+◌, ◌∷◌, ◌∙◌, ℕ, [], Bool, true, false, not, List, Some, ap, sym, length, get_or, take, list_any, inl, inr, cases_eq, cond-true, cond-false, eq-eqb, ne_eqb, put, is_command_kind, Header, Ring, World, command_id, command_placed, inactive, idle, pointed, and_true, any_more}
+use Rattle.controller_model.proofs.LowerLaws.{is_command_ring, fun_ext, arith, ◌≡◌, ◌==◌, ◌&&◌, ◌||◌, ◌<◌, ◌+◌, ◌∷◌, ◌∙◌, ℕ, [], Bool, true, false, not, List, Some, ap, length, get_or, take, list_any, inl, inr, cases_eq, cond-true, cond-false, eq-eqb, ne_eqb, put, is_command_kind, Header, Ring, World, command_id, command_placed, inactive, idle, pointed, and_true, any_more}
 
 -- worlds that differ by what is active alone
 with_active : (w : World) (f g : ℕ → Bool) → ((r : ℕ) → f r ≡ g r) → ◌≡◌ {A = World} (record w { is_active = f }) (record w { is_active = g })

@@ -1,6 +1,6 @@
 -- What the answers cite: the words, and this crate's lemmas
 pub use Rattle.controller_model.proofs.BindingSteps.{bound_here, bound_other, freed_had, freed_has, released_here, released_other}
-pub use Rattle.controller_model.proofs.MiddleLaws.{KeepsRest, activated_other, acts_on, all_at, all_below, all_made, any_more, at_block, at_crossing, busy, coming_lists, command_id-none, command_id-some, context_named, crossed_here, crossed_other, declared_here, declared_other, declares_more, dequeue_set, disabled_below, disabled_first, disabled_later, disabled_none, disabled_same, disabled_twice, endpoints_left, endpoints_set, endpoints_state, endpoints_type, ends_here, entries_push, finished_as_is, first_left, first_of, follows_along, follows_made, follows_same, follows_stored, follows_stored_block, goes_on, gone, had_by_holder, harm_is, harms_kept, having_known, held_four, holder_left, holder_taken, idle_command, idle_more, idle_none, idle_other, is_last-none, is_last-some, keeps_nothing, keeps_placed, keeps_took, listed_alike, listed_first, listed_last, made_idle, made_of, made_of_part, may_get_is, may_scribble_is, names, none_below, none_dropped, none_else, none_later, none_left, none_of, noted_follows, noted_nowhere, noted_once, noted_there, nothing_listed, one, one_dropped, one_in_lap, one_more, only_named, only_unnamed, onward, placed_is, placed_none, placed_some, pointed_other, put_pair_id, read_at, read_is, registers_noted, replicate_at, reported_here, reported_other, resting_here, resting_other, ring_changed, rings_left, row_next_is, runs_on, shows_nothing, shows_placed, shows_took, slice_get-set_other, slice_get-set_same, slots_allow, slots_left, slots_state, step_counted, step_failed, step_fails, step_made_is, step_mapped, step_more, step_nothing, step_uncounted, still_watched, stops_unless_runs, take_past, taken_here, taken_other, told_posted, told_to_halt, typed_below, typed_none, typed_one, typed_same, typed_twice, waits_idle, waits_so, with_endpoints, with_rings, with_slots, withdrawn_here, withdrawn_other, withdraws_inside, withdraws_one, withdraws_past, without_is, without_lists, written_over}
+pub use Rattle.controller_model.proofs.MiddleLaws.{KeepsRest, activated_other, acts_on, all_at, all_below, all_made, any_more, at_block, at_crossing, busy, coming_lists, command_id-none, command_id-some, context_named, crossed_here, crossed_other, declared_here, declared_other, declares_more, dequeue_set, disabled_below, disabled_first, disabled_later, disabled_none, disabled_same, disabled_twice, endpoints_left, endpoints_set, endpoints_state, endpoints_type, ends_here, entries_push, finished_as_is, first_left, first_of, follows_along, follows_made, follows_same, follows_stored, follows_stored_block, goes_on, gone, had_by_holder, harm_is, harms_kept, having_known, held_four, holder_left, holder_taken, idle_command, idle_more, idle_none, idle_other, keeps_nothing, keeps_placed, keeps_took, listed_alike, listed_first, listed_last, made_idle, made_of, made_of_part, may_get_is, may_scribble_is, none_below, none_dropped, none_else, none_later, none_left, none_of, noted_follows, noted_nowhere, noted_once, noted_there, nothing_listed, one, one_dropped, one_in_lap, one_more, only_named, only_unnamed, onward, placed_is, placed_none, placed_some, pointed_other, put_pair_id, read_at, read_is, registers_noted, replicate_at, reported_here, reported_other, resting_here, resting_other, ring_changed, rings_left, row_next_is, runs_on, shows_nothing, shows_placed, shows_took, slice_get-set_other, slice_get-set_same, slots_allow, slots_left, slots_state, step_counted, step_failed, step_fails, step_made_is, step_mapped, step_more, step_nothing, step_uncounted, still_watched, stops_unless_runs, take_past, taken_here, taken_other, told_posted, told_to_halt, typed_below, typed_none, typed_one, typed_same, typed_twice, waits_idle, waits_so, with_endpoints, with_rings, with_slots, withdrawn_here, withdrawn_other, withdraws_inside, withdraws_one, withdraws_past, without_is, without_lists, written_over}
 pub use Rattle.controller_model.proofs.RingHarmLemmas.{harms_looked, look_came, look_is, second_false}
 pub use Rattle.controller_model.proofs.SuccessLemmas.{can_be_addressed, none_of_test, one_some, some_of, success_changes}
 pub use Rattle.controller_model.proofs.TrialLemmas.{had_by_trial, own_here, own_none, own_some, own_there, sees_placed}

@@ -8,6 +8,7 @@ pub mod Borders
 pub mod DeclaredLemmas
 pub mod WithdrawLemmas
 pub mod HistoryLemmas
+pub mod TakeLemmas
 pub mod NamedPlaces
 pub mod RowLemmas
 pub mod RingLemmas

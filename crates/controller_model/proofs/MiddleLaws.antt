@@ -7,7 +7,7 @@ pub use Rattle.controller_model.proofs.EndpointLemmas.{endpoints_set, endpoints_
 pub use Rattle.controller_model.proofs.FinishLemmas.{finished_as_is, made_of_part, step_fails}
 pub use Rattle.controller_model.proofs.HadByAnother.{and_false, any_same, had_by_holder, none_else}
 pub use Rattle.controller_model.proofs.IdleRings.{idle_command, idle_more, idle_none, idle_other, placed_is}
-pub use Rattle.controller_model.proofs.LowerLaws.{KeepsRest, acts_on, all_at, all_made, any_alike, any_more, at_block, at_crossing, busy, command_id-none, command_id-some, context_named, dequeue_set, ends_here, first_left, first_of, follows_along, follows_made, follows_same, follows_stored, follows_stored_block, goes_on, gone, harm_is, harms_kept, held_four, holder_left, holder_taken, is_last-none, is_last-some, keeps_nothing, keeps_placed, keeps_took, made_idle, made_of, may_scribble_is, names, none_any, none_later, none_left, none_of, noted_follows, noted_nowhere, noted_once, noted_there, one, one_in_lap, onward, put_other, put_pair_id, put_pair_map, put_pair_there, put_pair_twice, put_same, read_at, read_is, replicate_at, ring_changed, row_next_is, runs_on, shows_nothing, shows_placed, shows_took, slice_get-set_other, slice_get-set_same, step_counted, step_failed, step_made_is, step_mapped, step_more, step_nothing, step_uncounted, still_watched, take_past, told_posted, typed_below, typed_none, typed_one, typed_same, typed_twice, waits_idle, waits_so, with_endpoints, with_rings, with_slots, withdraws_inside, withdraws_one, withdraws_past}
+pub use Rattle.controller_model.proofs.LowerLaws.{KeepsRest, acts_on, all_at, all_made, any_alike, any_more, at_block, at_crossing, busy, command_id-none, command_id-some, context_named, dequeue_set, ends_here, first_left, first_of, follows_along, follows_made, follows_same, follows_stored, follows_stored_block, goes_on, gone, harm_is, harms_kept, held_four, holder_left, holder_taken, keeps_nothing, keeps_placed, keeps_took, made_idle, made_of, may_scribble_is, none_any, none_later, none_left, none_of, noted_follows, noted_nowhere, noted_once, noted_there, one, one_in_lap, onward, put_other, put_pair_id, put_pair_map, put_pair_there, put_pair_twice, put_same, read_at, read_is, replicate_at, ring_changed, row_next_is, runs_on, shows_nothing, shows_placed, shows_took, slice_get-set_other, slice_get-set_same, step_counted, step_failed, step_made_is, step_mapped, step_more, step_nothing, step_uncounted, still_watched, take_past, told_posted, typed_below, typed_none, typed_one, typed_same, typed_twice, waits_idle, waits_so, with_endpoints, with_rings, with_slots, withdraws_inside, withdraws_one, withdraws_past}
 pub use Rattle.controller_model.proofs.RegisterLemmas.{pointed_other, registers_noted, stops_unless_runs, told_to_halt}
 pub use Rattle.controller_model.proofs.ResetLemmas.{endpoints_left, rings_left, slots_left, written_over}
 pub use Rattle.controller_model.proofs.RingRowLemmas.{coming_lists, listed_alike, listed_first, listed_last, none_dropped, nothing_listed, one_dropped, resting_here, resting_other, withdrawn_here, withdrawn_other, without_is, without_lists}

@@ -1,5 +1,5 @@
 -- Steps by which nothing is taken, and which harms they leave
-use Rattle.controller_model.proofs.Words.{common_steps, ◌≡◌, ◌≢◌, ◌+◌, ◌==◌, ◌&&◌, ◌∷◌, ◌∙◌, ◌++◌, ℕ, zero, suc, List, [], Bool, true, false, Option, Some, None, refl, sym, ap, subst, arith, rules, option_map, unwrap_or, if◌then◌else◌, not, length, option_and_then, inl, inr, eqb-true, cases_Bool, code, erdp_address, Shape, put, Block, Header, Step, Look, Report, Finish, Other, Scribble, Halt, NextRow, Row, Command, EndpointState, Change, SlotGoesOn, DeviceLeft, Disables, Places, Stops, Resets, World, RingEvent, Took, Placed, UnderWay, Sub, Write, Reg, Bell, Read, RegRead, RingRow, FreeRow, NopRow, Register, Usbcmd, Usbsts, Dnctrl, Crcr, Dcbaap, Config, Iman, Imod, Erstsz, Erstba, Erdp, same_Some, Scene, row_made, row_next, step_made, with_coming, with_left, with_world, AddsNone, BringsNone, HasRingHarms, TakesNothing, is_coming, may_be_inside, RingHarms, Ring, fun_ext, slice_get, or_from, list_any}
+use Rattle.controller_model.proofs.Words.{common_steps, ◌≡◌, ◌≢◌, ◌+◌, ◌&&◌, ◌∷◌, ◌∙◌, ℕ, suc, List, [], Bool, true, false, Option, Some, None, refl, sym, ap, subst, arith, rules, option_map, unwrap_or, if◌then◌else◌, option_and_then, eqb-true, Block, Header, Step, Look, Report, Finish, Other, Scribble, Halt, NextRow, Row, Command, EndpointState, Change, World, RingEvent, Placed, UnderWay, Register, same_Some, Scene, row_made, row_next, step_made, with_left, with_world, AddsNone, BringsNone, HasRingHarms, TakesNothing, is_coming, may_be_inside, RingHarms, Ring, fun_ext, slice_get, or_from, list_any}
 unfoldable use Rattle.world_state.specs.World.{stored, stored_block}
 unfoldable use Rattle.world_state.specs.Harms.{is_out_of_order, has_other_words, is_inside_descriptor}
 unfoldable use Rattle.world_state.specs.Posts.{posted, reported, reported_on, report_code, report_success, report_error, report_stop, with_reported, stopped_with, other_posted}
@@ -37,9 +37,9 @@ posted_events : (h : Header) (w : World) (b : Block) → (posted h w b).events �
 unfolding posted stored_block stored
 posted_events h w b = refl
 
-code_events : (h : Header) (w v : World) (c s i r a : ℕ) → report_code h w c s i r a ≡ Some v → v.events ≡ w.events
+code_events : (h : Header) (w v : World) (c s i r : ℕ) (b : Block) → report_code h w c s i r b ≡ Some v → v.events ≡ w.events
 unfolding report_code report_success report_error report_stop stopped_with with_reported
-code_events h w v c s i r a e = grind (arith, common_steps, mapped_some)
+code_events h w v c s i r b e = grind (arith, common_steps, mapped_some)
 
 reported_events : (h : Header) (w v : World) (b : Block) → reported h w b ≡ Some v → v.events ≡ w.events
 unfolding reported reported_on

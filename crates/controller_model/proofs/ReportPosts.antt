@@ -1,5 +1,5 @@
 -- What a Transfer Event says doesn't rest on its own post
-use Rattle.controller_model.proofs.Words.{arith, rules, ◌≡◌, ◌+◌, ◌==◌, if◌then◌else◌, ℕ, Bool, Option, position, option_map, Block, Header, World, stored, stored_block, unreported, posted, code_posted, report_code, report_error, report_stop, report_success, reported_on, stopped_with, with_reported, told}
+use Rattle.controller_model.proofs.Words.{arith, rules, ◌≡◌, ◌+◌, if◌then◌else◌, ℕ, Bool, Option, position, option_map, Block, Header, World, stored, stored_block, unreported, posted, code_posted, report_code, report_error, report_stop, report_success, reported_on, stopped_with, with_reported, told, names}
 
 map_twice : {A B C : Type 0} (f : B → C) (g : A → B) (o : Option A) → option_map (λ n. f (g n)) o ≡ option_map f (option_map g o)
 map_twice f g o = grind arith
@@ -8,14 +8,14 @@ pub map_choice : {A B : Type 0} (f : A → B) (t : Bool) (x y : Option A) (x' y'
     (if t then x' else y') ≡ option_map f (if t then x else y)
 map_choice f t x y x' y' e d = grind arith
 
-module _ (h : Header) (w : World) (b : Block) (r a : ℕ) where
-  success_posted : report_success h (posted h w b) r a ≡ option_map (λ v. posted h v b) (report_success h w r a)
+module _ (h : Header) (w : World) (b e : Block) (r : ℕ) where
+  success_posted : report_success h (posted h w b) r e ≡ option_map (λ v. posted h v b) (report_success h w r e)
   unfolding report_success with_reported posted stored stored_block unreported
   success_posted =
-      map_twice (λ v. posted h v b) (λ n. with_reported h w r (w.reported r + n + 1)) (position (λ x. x == a) (unreported w r))
+      map_twice (λ v. posted h v b) (λ n. with_reported h w r (w.reported r + n + 1)) (position (names e) (unreported w r))
 
   module _ (s i : ℕ) where
-    report_posted : (c : ℕ) → report_code h (posted h w b) c s i r a ≡ option_map (λ v. posted h v b) (report_code h w c s i r a)
+    report_posted : (c : ℕ) → report_code h (posted h w b) c s i r e ≡ option_map (λ v. posted h v b) (report_code h w c s i r e)
     unfolding report_code report_error with_reported posted stored stored_block unreported report_stop stopped_with
     report_posted c = search (rules, option_map, map_choice, success_posted)
 

@@ -1,5 +1,5 @@
 -- What a reset leaves
-use Rattle.controller_model.proofs.LowerLaws.{take-append-le, ◌≡◌, ◌++◌, ◌*◌, ◌≤◌, ℕ, List, Some, None, ap, length, take, drop, arith, refl, sym, subst, slice_get, slice_get_within, get_or_from_slice_get, get_or, take_all, replicate, false, Off, slice_get-get_or, ◌+◌, ◌<◌, Header, World, Slot, Endpoint, RingState, SlotState, EndpointState, FollowsRing, FollowsRings, FollowsSlots, FollowsEndpoints, AreLeft, IsLeft, left_alone, ring_held, reset, replicate_at, Disabled}
+use Rattle.controller_model.proofs.LowerLaws.{take-append-le, ◌≡◌, ◌++◌, ◌*◌, ℕ, List, Some, None, ap, length, take, drop, arith, refl, subst, slice_get, slice_get_within, get_or, take_all, replicate, false, Off, slice_get-get_or, ◌+◌, ◌<◌, Header, World, Slot, Endpoint, RingState, FollowsRings, FollowsSlots, FollowsEndpoints, AreLeft, ring_held, reset, replicate_at, Disabled}
 
 -- what a vector holds whose slice was written over
 pub written_over : {X : Type 0} (n : ℕ) (new old : List X) → length new ≡ length old → length old ≡ n → take n (new ++ drop (length new) old) ≡ new

@@ -1,5 +1,5 @@
 -- What a step at one ring does to the rings' harms
-use Rattle.controller_model.proofs.MiddleLaws.{rules, Scene, step_made, ◌≡◌, ◌≢◌, ◌==◌, ◌&&◌, ◌||◌, ◌∙◌, if◌then◌else◌, ◌∷◌, ℕ, zero, suc, not, Bool, true, false, List, [], Option, Some, None, option_map, ap, sym, subst, refl, inl, inr, IsSome, find, eq-eqb, arith, list_any, slice_get, cases_Bool, cases_eq, cond-false, cond-true, cond_both, Block, block_at, cycle, Header, command_id, Ring, Look, ring_with, shape_of, some_ring, World, has_other_words, is_inside_descriptor, is_out_of_order, waits, RingHarms, command_begun, crossed, looked, looked_at, seen_by_look, taken, taken_on, counted, made, stepped, until_halted, while_running, same_Some, RingHeld, ring_held, ChangesOnly, HasRingHarms, may_be_inside, with_world, none_any, crossed_other, taken_other}
+use Rattle.controller_model.proofs.MiddleLaws.{Scene, step_made, ◌≡◌, ◌≢◌, ◌==◌, ◌&&◌, ◌||◌, ◌∙◌, if◌then◌else◌, ◌∷◌, ℕ, zero, suc, not, Bool, true, false, List, [], Option, Some, None, option_map, ap, sym, subst, refl, inl, inr, IsSome, find, eq-eqb, arith, list_any, slice_get, cases_Bool, cases_eq, cond-false, cond-true, cond_both, Block, block_at, cycle, Header, command_id, Ring, Look, ring_with, shape_of, some_ring, World, has_other_words, is_inside_descriptor, is_out_of_order, waits, RingHarms, command_begun, crossed, looked, looked_at, seen_by_look, taken, taken_on, counted, made, stepped, until_halted, while_running, same_Some, RingHeld, ring_held, ChangesOnly, HasRingHarms, may_be_inside, with_world, none_any, crossed_other, taken_other}
 
 first_false : (a b : Bool) → (a || b) ≡ false → a ≡ false
 first_false a b e = grind arith

@@ -1,6 +1,5 @@
 -- Which definition a step goes by
-use Rattle.traces.specs.Versions.{has_runs}
-use Rattle.controller_model.proofs.Words.{is_none, Bool, Ring, sym, ◌∙◌, ap, event_ring, noting_post, or-true, arith, rules, ◌≡◌, ◌≢◌, ◌&&◌, ◌||◌, true, false, Option, Some, None, Ok, Err, option_map, Header, Step, NextRow, World, Seen, StepFault, acts, counted, made, stepped, until_halted, while_running, IsStep}
+use Rattle.controller_model.proofs.Words.{has_runs, is_none, Bool, Ring, sym, ◌∙◌, ap, event_ring, noting_post, or-true, arith, rules, ◌≡◌, ◌≢◌, ◌&&◌, ◌||◌, true, false, Option, Some, None, Ok, Err, option_map, Header, Step, NextRow, World, Seen, StepFault, acts, counted, made, stepped, until_halted, while_running, IsStep}
 
 module _ (h : Header) (w : World) where
   -- after the stop only rows are possible, and once it has halted a controller looks at nothing and posts nothing

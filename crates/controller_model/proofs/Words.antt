@@ -1,5 +1,5 @@
 -- The words of std, of the crates below and of this crate's own definitions that its proofs cite, passed on by one file
-pub use Rattle.commands.specs.Changes.{Change, DeviceLeft, Disables, Places, Resets, SlotGoesOn, Stops, placed_by_context, slot_gone_on}
+pub use Rattle.commands.specs.Changes.{Change, placed_by_context, slot_gone_on}
 unfoldable pub use Rattle.commands.specs.Changes.{changes}
 pub use Rattle.commands.specs.Command.{command_of, named_context}
 pub use Rattle.commands.specs.States.{endpoint_meant, endpoint_success, is_running, is_slot_enabled, is_stopped, slot_success}
@@ -41,14 +41,14 @@ pub use Rattle.controller_model.specs.declared.seen.Seen.{Seen}
 pub use Rattle.controller_model.specs.declared.seen.Seen.TheVariants.{Posted, Row as RowSeen}
 pub use Rattle.controller_model.specs.declared.stamps.Stamps.{Stamps}
 pub use Rattle.event_ring.proofs.Words.{Data, Link, address_aligned, has_room, or_from, place_at-address_of, position_from, same_in_lap}
-pub use Rattle.event_ring.specs.EventRing.{erdp_address, is_event_place}
+pub use Rattle.event_ring.specs.EventRing.{is_event_place}
 pub use Rattle.guest_memory.specs.Memory.{put_pair}
 pub use Rattle.segments.proofs.Crossings.{link_target-crossed}
 pub use Rattle.segments.proofs.InsideLemmas.{is_inside-word}
 pub use Rattle.segments.proofs.PlaceAtLemmas.{place_at-link_address}
 pub use Rattle.segments.proofs.Search.{cases_option}
 pub use Rattle.segments.proofs.Withdrawing.{length-no_ops, split_all}
-pub use Rattle.segments.proofs.Words.{All-push, Block, Evt, IsShape, Shape, Xfer, address_of, aligned, and_from, and_parts, block_at, cases_Bool, cases_eq, cases_lt, cond-false, cond-true, cycle, cycle_of, false_from_ne_true, false≢true, is_inside, is_set, link_address, link_crossed, list_any, none-some, or_cases, or_left, or_right, place_at, place_count, pointer, put, range_with_len, same_Some, slice_get-get_or, slice_get_within, word}
+pub use Rattle.segments.proofs.Words.{All-push, Block, Evt, IsShape, Shape, Xfer, address_of, aligned, and_from, and_parts, block_at, cases_Bool, cases_eq, cases_lt, cond-false, cond-true, cycle, cycle_of, false_from_ne_true, false≢true, is_inside, is_set, link_address, link_crossed, list_any, none-some, or_cases, or_left, or_right, place_at, place_count, pointer, position_or_len, put, range_with_len, same_Some, slice_get-get_or, slice_get_within, word}
 unfoldable pub use Rattle.segments.proofs.Words.{is_border}
 pub use Rattle.segments.specs.Descriptors.{DeclaredBlock, no_op}
 unfoldable pub use Rattle.segments.specs.Descriptors.{declared_at, length_from, no_ops, split_at}
@@ -58,6 +58,7 @@ pub use Rattle.std.proofs.Math.ListN.{length-set}
 pub use Rattle.std.proofs.Math.Nat.{add-mod_right, div-add-mod'}
 pub use Rattle.std.proofs.Math.Path.{fun_ext}
 pub use Rattle.std.proofs.lemmas.Bool.{cond_both}
+pub use Rattle.std.proofs.lemmas.Bool.Decides.{nat_tests}
 pub use Rattle.std.proofs.lemmas.Grind.{common_steps, take_at_read}
 pub use Rattle.std.proofs.lemmas.List.{drop-append-le, drop_all, take-append-le, take_all}
 pub use Rattle.std.proofs.lemmas.List.Edits.{length-remove}
@@ -76,10 +77,10 @@ pub use Rattle.traces.specs.Header.{id_of, id_or_none, is_command_kind, is_ring,
 unfoldable pub use Rattle.traces.specs.Header.{command_id, command_ring, event_ring, event_shape, event_size, ring_having, shape_of, some_ring}
 unfoldable pub use Rattle.traces.specs.LivingRings.{with_ring, without_ring}
 pub use Rattle.traces.specs.Register.{base_address, register_or_zero, reset_bit, ring_cycle_state, run_bit, with_register}
-pub use Rattle.traces.specs.Versions.{has_isoch}
+pub use Rattle.traces.specs.Versions.{has_isoch, has_runs}
 pub use Rattle.traces.specs.declared.header.Header.{Header, Header as HeaderValue}
 pub use Rattle.traces.specs.declared.register.Register.{Register}
-pub use Rattle.traces.specs.declared.register.Register.TheVariants.{Config, Crcr, Dcbaap, Dnctrl, Erdp, Erstba, Erstsz, Iman, Imod, Usbcmd, Usbsts}
+pub use Rattle.traces.specs.declared.register.Register.TheVariants.{Config, Crcr, Dcbaap, Erdp, Erstba, Erstsz, Usbcmd, Usbsts}
 pub use Rattle.traces.specs.declared.ring.Ring.{Ring}
 pub use Rattle.traces.specs.declared.row.Row.{Row}
 pub use Rattle.traces.specs.declared.row.Row.TheVariants.{Bell, Free as FreeRow, Nop as NopRow, Read, Reg, RegRead, Ring as RingRow, Sub, Write}
@@ -87,7 +88,7 @@ pub use Rattle.traces.specs.declared.step.Step.{Step}
 pub use Rattle.traces.specs.declared.step.Step.TheVariants.{Finish, Halt, Look, NextRow, Other, Report, Scribble}
 pub use Rattle.traces.specs.declared.version.Version.{Version}
 pub use Rattle.traces.specs.declared.version.Version.TheVariants.{Four, One, Three, Two}
-pub use Rattle.trb.specs.Block.{code, endpoint, slot}
+pub use Rattle.trb.specs.Block.{code, endpoint, has_event_data, slot}
 pub use Rattle.trb.specs.CompletionCode.{counted_code}
 pub use Rattle.trb.specs.declared.ring_kind.RingKind.TheVariants.{Cmd}
 pub use Rattle.world_state.proofs.AddedEndpoints.{adds_end, adds_next}
@@ -102,16 +103,17 @@ unfoldable pub use Rattle.world_state.specs.Finishes.{ended, ended_with, finishe
 unfoldable pub use Rattle.world_state.specs.Harms.{harm_of, harms, has_changed_context, has_other_words, is_changed_since, is_context_changed, is_end, is_inside_descriptor, is_out_of_order, is_right_place, waits}
 unfoldable pub use Rattle.world_state.specs.Looks.{command_begun, crossed, looked, looked_at, may_scribble, seen_by_look, taken, taken_on}
 pub use Rattle.world_state.specs.PlacingCommands.{HasRoom, places_from}
-unfoldable pub use Rattle.world_state.specs.Posts.{can_post, code_posted, is_last, other_posted, posted, report_code, report_error, report_stop, report_success, reported, reported_on, stopped_with, with_reported, with_stopped}
+unfoldable pub use Rattle.world_state.specs.Posts.{can_post, code_posted, other_posted, posted, report_code, report_error, report_stop, report_success, reported, reported_on, stopped_with, with_reported, with_stopped}
 pub use Rattle.world_state.specs.Replays.{Ending, Harmful, NoHarm, NotPossible, scene_ending}
 unfoldable pub use Rattle.world_state.specs.Replays.{stepped}
 pub use Rattle.world_state.specs.RingRows.{is_in_way}
 unfoldable pub use Rattle.world_state.specs.RingRows.{emptied, listed, may_come, resting, without_descriptor}
 pub use Rattle.world_state.specs.Scenes.{Scene, row_made, row_next, scene_reached, step_made, with_coming, with_left, with_world}
 unfoldable pub use Rattle.world_state.specs.Steps.{counted, halts, is_scribbled, made, noting_post, scribbled, until_halted, while_running}
-unfoldable pub use Rattle.world_state.specs.Takes.{declared_next, first_at, is_as_declared, is_place, next_take, takes_of, unreported, was_placed}
+unfoldable pub use Rattle.world_state.specs.Takes.{declared_next, first_at, is_as_declared, is_place, names, names_last, next_take, take_of, takes_of, unreported, was_placed}
 pub use Rattle.world_state.specs.World.{Placed, RingEvent, Took, UnderWay, World}
 unfoldable pub use Rattle.world_state.specs.World.{opening, stored, stored_block}
 pub use Rattle.world_state.specs.declared.harm.Harm.{Harm}
 pub use Rattle.world_state.specs.declared.harm.Harm.TheVariants.{InputContextChanged, LooksOutside, PostsOverUnread, TakenOtherWords, TakenOutOfOrder, WaitsInsideDescriptor}
+pub use Rattle.world_state.specs.declared.take.Take.{Take}
 pub use mathlib.Core.Bool.{beq}

@@ -1,5 +1,5 @@
 -- Replays in which an endpoint is used that may be isochronous, by evaluation
-use Rattle.controller_model.proofs.LowerLaws.{ℕ, ◌*◌, ◌++◌, replicate, ◌≡◌, List, [], ◌∷◌, refl, Xfer, Bytes32, Block, Header, Row, Sub, Write, Bell, Step, NextRow, Look, Report, Finish, model_on_literals, scene_ending, NoHarm, NotPossible, addressed_steps, three_rings, Version, Three, Four, Ending}
+use Rattle.controller_model.proofs.LowerLaws.{ℕ, ◌*◌, ◌++◌, replicate, ◌≡◌, List, [], ◌∷◌, refl, Xfer, Header, Row, Sub, Write, Bell, Step, NextRow, Look, Report, Finish, model_on_literals, scene_ending, NoHarm, NotPossible, addressed_steps, three_rings, Version, Three, Four, Ending}
 use Rattle.controller_model.proofs.WorkedReplays.{addressed}
 
 abbrev four_rings : Version → Header

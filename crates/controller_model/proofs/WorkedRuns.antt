@@ -1,5 +1,5 @@
 -- Replays in which the controller halts and runs again, by evaluation
-use Rattle.controller_model.proofs.LowerLaws.{◌≡◌, ◌++◌, ◌∷◌, [], ℕ, Bool, true, false, List, Option, Some, option_map, take, replicate, refl, Evt, Block, Header, Row, Sub, Write, Reg, Bell, RegRead, RingRow, FreeRow, Usbcmd, Usbsts, Crcr, Erdp, Step, NextRow, Look, Other, Scribble, Halt, Version, Three, Four, World, PostsOverUnread, model_on_literals, scene_reached, scene_replayed, scene_ending, Ending, NoHarm, NotPossible, Harmful, reverse, Seen, addressed_steps, three_rings, Cmd}
+use Rattle.controller_model.proofs.LowerLaws.{◌≡◌, ◌++◌, ◌∷◌, [], ℕ, Bool, true, false, List, Option, Some, option_map, replicate, refl, Evt, Block, Header, Row, Sub, Write, Reg, Bell, RegRead, RingRow, FreeRow, Usbcmd, Usbsts, Crcr, Erdp, Step, NextRow, Look, Other, Scribble, Halt, Version, Three, Four, World, PostsOverUnread, model_on_literals, scene_reached, scene_replayed, scene_ending, Ending, NoHarm, NotPossible, Harmful, reverse, Seen, addressed_steps, three_rings, Cmd}
 use Rattle.controller_model.proofs.WorkedReplays.{addressed}
 use Rattle.controller_model.specs.declared.seen.Seen.TheVariants as seen
 

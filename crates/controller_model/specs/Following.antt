@@ -37,7 +37,7 @@ use Rattle.controller_model.specs.declared.kept.Slot.{Slot}
 use Rattle.controller_model.specs.declared.kept.Endpoint.{Endpoint}
 use Rattle.controller_model.specs.declared.kept.Events.{Events}
 use Rattle.controller_model.specs.declared.kept.Pending.{Pending}
-use Rattle.trb.specs.Block.{code, slot, endpoint, pointer as pointer_of}
+use Rattle.trb.specs.Block.{code, slot, endpoint}
 use Rattle.trb.specs.CompletionCode.{is_of_service}
 use Rattle.world_state.specs.Posts.{code_posted, report_code}
 use Rattle.world_state.specs.Bindings.{is_had_by_another}
@@ -235,7 +235,7 @@ abbrev pub told : Header → World → Block → Option ℕ → Option World
 told h w b None = None
 told h w b (Some r) =
     if has_isoch h.version && is_of_service (code b) then Some w
-    else report_code h w (code_posted h w b) (slot b) (endpoint b) r (pointer_of b)
+    else report_code h w (code_posted h w b) (slot b) (endpoint b) r b
 
 -- slot 0 and index 0 are no endpoint's
 abbrev pub is_endpoint : ℕ → ℕ → Bool

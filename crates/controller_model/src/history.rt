@@ -1,21 +1,21 @@
-ghost use Rattle.std.specs.Prelude.{◌≡◌, ℕ, ◌+◌, ◌-◌, ◌==◌, ◌∷◌, ◌&&◌, ◌%◌, ◌^◌, [], List, Option, Some, None, length, OnOk, IsTrue, IfSome, true, false, ◌≤◌, ◌<◌, option_map, position};
+ghost use Rattle.std.specs.Prelude.{◌≡◌, ℕ, ◌+◌, ◌-◌, ◌==◌, ◌∷◌, ◌&&◌, ◌%◌, ◌^◌, [], List, Option, Some, None, length, OnOk, IsTrue, IfSome, true, false, ◌≤◌, ◌<◌, option_map};
 ghost use Rattle.trb.specs.Block.{same_words};
 ghost use Rattle.trb.specs.declared.block.Block.{Block};
 ghost use Rattle.segments.specs.ShapeValue.{Shape};
 ghost use Rattle.segments.specs.Places.{address_of, is_crossing, link_address, place_count};
-ghost use Rattle.traces.specs.declared.header.Header.{Header};
 ghost use Rattle.world_state.specs.World.{RingEvent, Took, Placed};
 ghost use Rattle.world_state.specs.Takes.{takes_of, first_at, is_as_declared, is_place};
 ghost use Rattle.world_state.specs.Harms.{is_end, is_right_place};
-ghost use Rattle.world_state.specs.Posts.{is_last};
 ghost use Rattle.controller_model.specs.Declarations.{as_declared};
 ghost use Rattle.controller_model.specs.Histories.{Keeps, ShowsHarms};
 
 use crate::declared::Declared;
+use crate::takes::take_of;
 use segments::{Place, RingShape};
 use std::alloc::{AllocError, Global};
 use std::collections::VecDeque;
 use trb::Block;
+use world_state::Take;
 
 /// What happened on a ring, as far as it decides harms and later steps.
 #[derive(Drop)]
@@ -29,8 +29,8 @@ pub struct History {
     /// Some take was out of order, or of other words than the declared ones.
     out_of_order: bool,
     other_words: bool,
-    /// The addresses of the takes that weren't reported, the oldest first.
-    unreported: VecDeque<u64>,
+    /// The takes that weren't reported, the oldest first.
+    unreported: VecDeque<Take>,
 }
 
 /// Whether an address names the place of a position, by its block or by the Link before it.
@@ -228,7 +228,7 @@ impl History {
         let is_right = is_right_place(self.was_placed, declared);
         let is_there = shape.address(self.next) == address;
         let is_same = is_as_declared(shape, declared, self.next, block);
-        self.take_anywhere(address, declared)?;
+        self.take_anywhere(address, block, declared)?;
         self.out_of_order = !is_right | !is_there | self.out_of_order;
         self.other_words = !is_same | self.other_words;
         Ok(())
@@ -238,15 +238,16 @@ impl History {
     pub(crate) fn take_anywhere(
         &mut self,
         address: u64,
+        block: &Block,
         declared: Option<Declared>,
     ) -> Result<(), AllocError>
-        ensures keeps { OnOk result ((shape : Shape) (events : List RingEvent) (reported : ℕ) (block : Block) → Keeps shape events reported self.old →
-            Keeps shape (Took address block (option_map as_declared declared) ∷ events) reported self.new) }
+        ensures keeps { OnOk result ((shape : Shape) (events : List RingEvent) (reported : ℕ) → Keeps shape events reported self.old →
+            Keeps shape (Took address block.now (option_map as_declared declared) ∷ events) reported self.new) }
         ensures order { self.new.out_of_order ≡ self.old.out_of_order }
         ensures words { self.new.other_words ≡ self.old.other_words }
     {
         let next = self.next.checked_add(1).ok_or(AllocError)?;
-        self.unreported.push_back(address)?;
+        self.unreported.push_back(take_of(address, block))?;
         self.is_inside = !is_end(declared);
         self.was_placed = false;
         self.next = next;
@@ -269,16 +270,6 @@ impl History {
         Ok(())
     }
 
-    /// The last take that wasn't reported lies at this address.
-    pub(crate) fn is_last(&self, address: u64) -> bool
-        ensures { (h : Header) → result ≡ is_last h address self.now.unreported.items }
-    {
-        match self.unreported.back() {
-            None => false,
-            Some(last) => *last == address,
-        }
-    }
-
     /// So many takes more are reported, the oldest first.
     pub(crate) fn report_first(&mut self, count: usize)
         ensures keeps { (shape : Shape) (events : List RingEvent) (reported : ℕ) → count ≤ length self.old.unreported.items →
@@ -291,7 +282,7 @@ impl History {
     }
 
     /// The takes that weren't reported, the oldest first.
-    pub(crate) fn unreported_takes(&self) -> &VecDeque<u64>
+    pub(crate) fn unreported_takes(&self) -> &VecDeque<Take>
         ensures { result.now ≡ self.now.unreported }
     {
         &self.unreported
@@ -302,14 +293,5 @@ impl History {
         ensures { result ≡ length self.now.unreported.items }
     {
         self.unreported.len()
-    }
-
-    /// Which of the takes that weren't reported is the oldest at this address.
-    pub(crate) fn position_of(&self, address: u64) -> Option<usize>
-        ensures value { result ≡ position (λ a. a == address) self.now.unreported.items }
-        ensures below { IfSome result (λ n. n < length self.now.unreported.items) }
-        ensures end { IfSome result (λ n. n + 1 < 2 ^ 64) }
-    {
-        self.unreported.iter().position(|a| *a == address)
     }
 }

@@ -37,6 +37,7 @@ mod slots;
 mod stamps;
 mod steps;
 mod successes;
+mod takes;
 mod trials;
 mod types;
 mod views;

@@ -89,7 +89,7 @@ fn note_take(state: &mut RingState, there: Option<&Ring>, block: &Block) -> Resu
         Some(ring) => state
             .history
             .take(&ring.shape, state.pointer, block, declared)?,
-        None => state.history.take_anywhere(state.pointer, declared)?,
+        None => state.history.take_anywhere(state.pointer, block, declared)?,
     }
     Ok(())
 }

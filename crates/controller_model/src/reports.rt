@@ -1,6 +1,5 @@
-ghost use Rattle.std.specs.Prelude.{◌≡◌, ℕ, ◌+◌, ◌-◌, ◌==◌, ◌&&◌, ◌<◌, ◌≤◌, ◌^◌, not, false, length, position, IfSome, Err, Option};
-ghost use Rattle.trb.specs.Bits.{is_set};
-ghost use Rattle.trb.specs.Block.{code, endpoint, kind, pointer, slot, word};
+ghost use Rattle.std.specs.Prelude.{◌≡◌, ℕ, ◌+◌, ◌-◌, ◌&&◌, ◌<◌, ◌≤◌, ◌^◌, false, length, position, IfSome, Err, Option};
+ghost use Rattle.trb.specs.Block.{code, endpoint, kind, slot};
 ghost use Rattle.trb.specs.CompletionCode.{counted_code, is_success, is_halting, is_of_service, is_trb_error, is_stopping};
 ghost use Rattle.trb.specs.Kind.{is_transfer_event};
 ghost use Rattle.commands.specs.Command.{is_stop_of};
@@ -8,11 +7,11 @@ ghost use Rattle.commands.specs.States.{is_running};
 ghost use Rattle.segments.specs.Places.{address_of};
 ghost use Rattle.traces.specs.declared.header.Header.{Header as HeaderValue};
 ghost use Rattle.traces.specs.Header.{event_shape};
-ghost use Rattle.traces.specs.Versions.{has_isoch};
+ghost use Rattle.traces.specs.Versions.{has_isoch, may_have_data};
 ghost use Rattle.world_state.specs.World.{World};
-ghost use Rattle.world_state.specs.Takes.{unreported};
+ghost use Rattle.world_state.specs.Takes.{names, names_last, unreported};
 ghost use Rattle.controller_model.specs.declared.seen.Seen.TheVariants.{Posted};
-ghost use Rattle.world_state.specs.Posts.{is_last, is_stop_under_way, report_code, report_error, report_stop, report_success, reported, stopped_with, with_reported, with_stopped};
+ghost use Rattle.world_state.specs.Posts.{is_stop_under_way, report_code, report_error, report_stop, report_success, reported, stopped_with, with_reported, with_stopped};
 ghost use Rattle.controller_model.specs.Following.{Follows, IsChange, IsStep, KeepsRun, told};
 
 use crate::endpoints::{endpoint_of, set_state};
@@ -22,6 +21,7 @@ use crate::looks::command_of;
 use crate::posts::{can_post, event_ring, post};
 use crate::rings::{deactivate, ring_state};
 use crate::seen::Seen;
+use crate::takes::{names_last, oldest_named};
 use commands::{Command, EndpointState, is_stop_of};
 use guest_memory::WordMemory;
 use traces::Header;
@@ -47,23 +47,25 @@ fn unreported(kept: &Kept, ring: u8) -> usize
     ring_state(kept, ring).history.unreported()
 }
 
-/// Whether the last take of a ring wasn't reported, and lies at this address.
-fn is_last(kept: &Kept, ring: u8, address: u64) -> bool
+/// Whether the last take of a ring wasn't reported, and an event names it.
+fn is_last(kept: &Kept, ring: u8, event: Block) -> bool
     ensures { (h : HeaderValue) (words : ℕ → ℕ) (w : World) → Follows h words kept.now w →
-        result ≡ is_last h address (unreported w ring) }
+        result ≡ names_last event (unreported w ring) }
 {
-    ring_state(kept, ring).history.is_last(address)
+    let history = &ring_state(kept, ring).history;
+    names_last(event, history.unreported_takes())
 }
 
-/// Which of a ring's takes that weren't reported is the oldest at this address.
-fn take_at(kept: &Kept, ring: u8, address: u64) -> Option<usize>
+/// Which of a ring's takes that weren't reported is the oldest that an event names.
+fn take_named(kept: &Kept, ring: u8, event: Block) -> Option<usize>
     ensures value { (h : HeaderValue) (words : ℕ → ℕ) (w : World) → Follows h words kept.now w →
-        result ≡ position (λ b. b == address) (unreported w ring) }
+        result ≡ position (names event) (unreported w ring) }
     ensures below { (h : HeaderValue) (words : ℕ → ℕ) (w : World) → Follows h words kept.now w →
         IfSome result (λ n. n < length (unreported w ring)) }
     ensures end { IfSome result (λ n. n + 1 < 2 ^ 64) }
 {
-    ring_state(kept, ring).history.position_of(address)
+    let history = &ring_state(kept, ring).history;
+    oldest_named(event, history.unreported_takes())
 }
 
 /// Whether an endpoint is Running, and a ring active.
@@ -82,14 +84,14 @@ fn is_running(state: EndpointState) -> bool
     matches!(state, EndpointState::Running)
 }
 
-/// Success: the oldest take with this address that wasn't reported is reported, with those before it (xHCI 4.10.2).
-fn report_success(kept: &mut Kept, ring: u8, address: u64) -> bool
+/// Success: the oldest take that an event names and that wasn't reported is reported, with those before it (xHCI 4.10.2, 4.11.5.2).
+fn report_success(kept: &mut Kept, ring: u8, event: Block) -> bool
     ensures change { (h : HeaderValue) (words : ℕ → ℕ) (w : World) → Follows h words kept.old w →
-        IsChange result (report_success h w ring address) (Follows h words kept.new) }
+        IsChange result (report_success h w ring event) (Follows h words kept.new) }
     ensures refused { result ≡ false → kept.new ≡ kept.old }
     ensures rest { KeepsRun kept.old kept.new }
 {
-    match take_at(kept, ring, address) {
+    match take_named(kept, ring, event) {
         None => false,
         Some(n) => {
             report_takes(kept, ring, n + 1);
@@ -105,19 +107,19 @@ fn report_error(
     slot: u8,
     index: u8,
     ring: u8,
-    address: u64,
+    event: Block,
     state: EndpointState,
 ) -> bool
     requires { index < 32 }
     ensures change { (h : HeaderValue) (words : ℕ → ℕ) (w : World) → Follows h words kept.old w →
-        IsChange result (report_error h w slot index ring address state) (Follows h words kept.new) }
+        IsChange result (report_error h w slot index ring event state) (Follows h words kept.new) }
     ensures refused { result ≡ false → kept.new ≡ kept.old }
     ensures rest { KeepsRun kept.old kept.new }
 {
     if !works(kept, slot, index, ring) {
         return false;
     }
-    if !is_last(kept, ring, address) {
+    if !is_last(kept, ring, event) {
         return false;
     }
     let count = unreported(kept, ring);
@@ -163,10 +165,10 @@ fn stop_after(kept: &mut Kept, ring: u8, count: usize)
 
 /// A Stop Endpoint stops the endpoint: at the last take, where that wasn't reported, which then still may be, or at the
 /// dequeue pointer (xHCI 4.6.9).
-fn report_stop(kept: &mut Kept, slot: u8, index: u8, ring: u8, address: u64) -> bool
+fn report_stop(kept: &mut Kept, slot: u8, index: u8, ring: u8, event: Block) -> bool
     requires { index < 32 }
     ensures change { (h : HeaderValue) (words : ℕ → ℕ) (w : World) → Follows h words kept.old w →
-        IsChange result (report_stop h w slot index ring address) (Follows h words kept.new) }
+        IsChange result (report_stop h w slot index ring event) (Follows h words kept.new) }
     ensures refused { result ≡ false → kept.new ≡ kept.old }
     ensures rest { KeepsRun kept.old kept.new }
 {
@@ -177,11 +179,11 @@ fn report_stop(kept: &mut Kept, slot: u8, index: u8, ring: u8, address: u64) -> 
         return false;
     }
     let count = unreported(kept, ring);
-    if is_last(kept, ring, address) {
+    if is_last(kept, ring, event) {
         stop_after(kept, ring, count.saturating_sub(1));
         return true;
     }
-    if address != ring_state(kept, ring).pointer {
+    if event.pointer() != ring_state(kept, ring).pointer {
         return false;
     }
     stop_after(kept, ring, count);
@@ -190,33 +192,34 @@ fn report_stop(kept: &mut Kept, slot: u8, index: u8, ring: u8, address: u64) -> 
 
 /// What a Transfer Event with this completion code says of an endpoint and its ring (xHCI 6.4.5).
 #[tactic(auto, unfolding(world_state::specs::Posts::report_code))]
-fn report_code(kept: &mut Kept, code: u8, slot: u8, index: u8, ring: u8, address: u64) -> bool
+fn report_code(kept: &mut Kept, code: u8, slot: u8, index: u8, ring: u8, event: Block) -> bool
     requires { index < 32 }
     ensures change { (h : HeaderValue) (words : ℕ → ℕ) (w : World) → Follows h words kept.old w →
-        IsChange result (report_code h w code slot index ring address) (Follows h words kept.new) }
+        IsChange result (report_code h w code slot index ring event) (Follows h words kept.new) }
     ensures refused { result ≡ false → kept.new ≡ kept.old }
     ensures rest { KeepsRun kept.old kept.new }
 {
     if is_success(code) {
-        return report_success(kept, ring, address);
+        return report_success(kept, ring, event);
     }
     if is_halting(code) {
-        return report_error(kept, slot, index, ring, address, EndpointState::Halted);
+        return report_error(kept, slot, index, ring, event, EndpointState::Halted);
     }
     if is_trb_error(code) {
-        return report_error(kept, slot, index, ring, address, EndpointState::Error);
+        return report_error(kept, slot, index, ring, event, EndpointState::Error);
     }
     if is_stopping(code) {
-        return report_stop(kept, slot, index, ring, address);
+        return report_stop(kept, slot, index, ring, event);
     }
     false
 }
 
-/// Whether the words are those of a Transfer Event without Event Data (xHCI 6.4.2.1).
-fn is_report(block: &Block) -> bool
-    ensures { result ≡ (is_transfer_event (kind block.now) && not (is_set (word block.now 3) 2)) }
+/// Whether the words are those of a Transfer Event, with Event Data only where the version and the code have it (xHCI 6.4.2.1,
+/// 4.11.5.2).
+fn is_report(header: &Header, block: &Block) -> bool
+    ensures { result ≡ (is_transfer_event (kind block.now) && may_have_data header.now.version block.now) }
 {
-    matches!(block.kind(), BlockKind::TransferEvent) && block.w[3] / 4 % 2 != 1
+    matches!(block.kind(), BlockKind::TransferEvent) && header.version.may_have_data(*block)
 }
 
 /// Whether an event tells of the service of its endpoint, as isochronous ones have it, and of no block (xHCI 4.10.3).
@@ -248,7 +251,7 @@ fn report_on(header: &Header, kept: &mut Kept, block: &Block) -> bool
         Some(_) if tells_of_service(header, block) => true,
         Some(ring) => {
             let code = code_at(header, endpoint.is_isochronous, block);
-            report_code(kept, code, slot, index, ring, block.pointer())
+            report_code(kept, code, slot, index, ring, *block)
         }
     }
 }
@@ -275,7 +278,7 @@ pub(crate) fn report<M: WordMemory>(
     if !can_post(shape, kept, block) {
         return Err(StepFault::NotPossible);
     }
-    if !is_report(block) {
+    if !is_report(header, block) {
         return Err(StepFault::NotPossible);
     }
     if !report_on(header, kept, block) {

@@ -21,6 +21,7 @@ use commands::EndpointState;
 use guest_memory::WordMemory;
 use std::collections::VecDeque;
 use traces::Header;
+use world_state::Take;
 
 impl<M: WordMemory + Drop> Controller<M> {
     /// The memory, as the rows and steps so far left it.
@@ -66,8 +67,8 @@ impl<M: WordMemory + Drop> Controller<M> {
         ring_state(&self.kept, ring).pointer
     }
 
-    /// The addresses of the TRBs that were taken of a ring, and that no event has reported, the oldest first.
-    pub fn unreported(&self, ring: u8) -> &VecDeque<u64>
+    /// What was taken of a ring, and no event has reported, the oldest first.
+    pub fn unreported(&self, ring: u8) -> &VecDeque<Take>
         ensures { (x : Scene) → IsBeside M.words self.now x → result.now.items ≡ unreported x.world ring }
     {
         ring_state(&self.kept, ring).history.unreported_takes()

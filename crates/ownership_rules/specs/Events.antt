@@ -3,8 +3,7 @@ use Rattle.std.specs.Prelude.{ℕ, ◌-◌, ◌==◌, ◌&&◌, ◌||◌, if◌t
 use Rattle.trb.specs.declared.block.Block.{Block}
 use Rattle.trb.specs.declared.kind.BlockKind.{BlockKind}
 use Rattle.trb.specs.declared.kind.BlockKind.TheVariants.{TransferEvent, CommandCompletion}
-use Rattle.trb.specs.Bits.{is_set}
-use Rattle.trb.specs.Block.{word, cycle, kind, pointer, code, slot, endpoint}
+use Rattle.trb.specs.Block.{cycle, kind, pointer, code, slot, endpoint}
 use Rattle.trb.specs.Kind.{is_event, is_transfer_event}
 use Rattle.trb.specs.CompletionCode.{is_isoch_error, is_of_service, is_success, is_halting, is_stopping, is_trb_error, is_transfer_code}
 use Rattle.segments.specs.declared.spot.Spot.{Spot}
@@ -18,7 +17,7 @@ use Rattle.traces.specs.declared.header.Header.{Header}
 use Rattle.traces.specs.declared.register.Register.TheVariants.{Config}
 use Rattle.traces.specs.Header.{shape_of, command_id, event_shape, event_size}
 use Rattle.traces.specs.Register.{register_or_zero}
-use Rattle.traces.specs.Versions.{has_isoch}
+use Rattle.traces.specs.Versions.{has_isoch, may_have_data}
 use Rattle.ring_knowledge.specs.Known.{Known}
 use Rattle.ring_knowledge.specs.Rings.{RingSpot, code_told, command_at, event_at, next_command}
 use Rattle.ownership_rules.specs.Refusal.{Test}
@@ -47,9 +46,9 @@ module _ (h : Header) where
       is_transfer_code (code b)
       || (has_isoch h.version && (is_of_service (code b) || (k.isochronous (slot b) (endpoint b) && is_isoch_error (code b))))
 
-  -- no Event Data (ED), and a code of the profile
+  -- a value (ED) only where the version and the code have it, and a code of the profile
   unfoldable pub is_in_profile : Known → Block → Bool
-  is_in_profile k b = not (is_set (word b 3) 2) && is_code_of_profile k b
+  is_in_profile k b = may_have_data h.version b && is_code_of_profile k b
 
   -- the controller may have come to the next command
   unfoldable pub may_be_taken : Known → Bool

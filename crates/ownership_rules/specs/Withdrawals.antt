@@ -1,9 +1,9 @@
 -- The rules of a descriptor that is withdrawn (`nop`), and of what was withdrawn. Of a ring whose endpoint is stopped a driver turns a descriptor
 -- into No Ops; what was handed over of it is free then, its words are the driver's again. Until the ring is started or moved the driver puts the
 -- No Ops there: xHCI 4.6.9, 4.6.10
-use Rattle.std.specs.Prelude.{ℕ, ◌+◌, ◌==◌, ◌&&◌, ◌||◌, Bool, false, not, if◌then◌else◌, nat_le, nat_lt, Option, None, Some}
+use Rattle.std.specs.Prelude.{ℕ, ◌+◌, ◌==◌, ◌&&◌, ◌||◌, Bool, false, not, if◌then◌else◌, nat_le, nat_lt, is_some, Option, None, Some}
 use Rattle.std.specs.List.{list_any, range_with_len}
-use Rattle.segments.specs.Ceiling.{ceiling}
+use Rattle.segments.specs.Ceiling.{ceiling, data_at}
 use Rattle.segments.specs.Givings.{descriptor_length, flips_passed, is_not_restored}
 use Rattle.segments.specs.RingView.{RingView, floor_number}
 use Rattle.segments.specs.ShapeValue.{Shape}
@@ -16,6 +16,14 @@ use Rattle.traces.specs.Versions.{has_runs, is_lenient}
 use Rattle.ring_knowledge.specs.Known.{Known}
 use Rattle.ownership_rules.specs.Doorbells.{is_touched}
 
+-- the block at a position holds a value (Event Data), and the controller may have taken it and not told of it yet: xHCI 4.11.5.2
+unfoldable pub may_be_told : Shape → RingView → ℕ → Bool
+may_be_told shape v q = nat_le (floor_number v) q && nat_lt q (ceiling shape v) && is_some (data_at v.queue q)
+
+-- so is one of the blocks of the descriptor that begins at p: the event that tells its value would name no block any more
+unfoldable pub may_tell_value : Shape → RingView → ℕ → Bool
+may_tell_value shape v p = list_any (may_be_told shape v) (range_with_len p (descriptor_length v p))
+
 module _ (h : Header) where
   -- the endpoint has the ring, is Stopped, and no unfinished command touches it
   unfoldable pub rests_with : Known → ℕ → ℕ → ℕ → Bool
@@ -24,10 +32,11 @@ module _ (h : Header) where
   unfoldable pub has_stopped : Known → ℕ → Bool
   has_stopped k r = list_any (λ s. list_any (λ i. rests_with k r s i) (range_with_len 1 31)) (range_with_len 1 255)
 
-  -- no endpoint that has the ring has stopped, or no descriptor begins at p, or one of its blocks was withdrawn before
+  -- no endpoint that has the ring has stopped, or no descriptor begins at p, or one of its blocks was withdrawn before, or an event may tell a value of it
   unfoldable pub is_bad_withdraw : Known → ℕ → ℕ → Bool
   is_bad_withdraw k r p =
-      not (has_stopped k r) || (descriptor_length (k.ring r) p == 0 || list_any (k.ring r).withdrawn (range_with_len p (descriptor_length (k.ring r) p)))
+      not (has_stopped k r) || (descriptor_length (k.ring r) p == 0
+      || (list_any (k.ring r).withdrawn (range_with_len p (descriptor_length (k.ring r) p)) || may_tell_value (shape_of h r) (k.ring r) p))
 
   -- what the trace's version refuses besides: versions 1 and 2 a descriptor below the ceiling, version 3 one that the floor has come into, and
   -- version 4 one that the floor has passed whole: of one inside which the controller stopped the rest is taken back too (xHCI 4.6.9)

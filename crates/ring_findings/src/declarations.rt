@@ -173,7 +173,14 @@ fn note_no_command(case: &mut Case, blocks: &[Block]) {
 
 /// Notes why TRBs are no TD of a Transfer Ring.
 fn note_no_transfer(case: &mut Case, blocks: &[Block]) {
-    if has_stages(blocks) {
+    if begins_with_value(blocks) {
+        note_cause(
+            case,
+            0,
+            "the {} TRB: Event Data stands behind the TRBs of the TD whose end its event tells (xHCI 4.11.5.2)",
+            "log the whole TD in one `sub` row",
+        );
+    } else if has_stages(blocks) {
         note_cause(
             case,
             0,
@@ -189,6 +196,14 @@ fn note_no_transfer(case: &mut Case, blocks: &[Block]) {
         );
     } else {
         note_chain(case, blocks);
+    }
+}
+
+/// Whether TRBs begin with Event Data.
+fn begins_with_value(blocks: &[Block]) -> bool {
+    match blocks {
+        [first, ..] => first.kind() == BlockKind::EventData,
+        [] => false,
     }
 }
 
@@ -254,8 +269,8 @@ fn note_chained(case: &mut Case, index: usize) {
 
 /// Notes that TRBs of these types don't stand together.
 fn note_mixed(case: &mut Case) {
-    let cause = if case.header.version.has_isoch() {
-        "Normal TRBs make a TD, and so do a Data Stage or an Isoch TRB with Normal TRBs behind it; Setup Stage, Status Stage and No Op stand alone"
+    let cause = if case.header.version.has_data() {
+        "a Normal TRB, a Data Stage or an Isoch TRB begins a TD, and Normal and Event Data TRBs go on with it; a Status Stage stands alone or before one Event Data TRB, Setup Stage and No Op stand alone"
     } else {
         "Normal TRBs make a TD, and so do a Data Stage with Normal TRBs behind it; Setup Stage, Status Stage and No Op stand alone"
     };

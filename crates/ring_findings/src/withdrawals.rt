@@ -197,6 +197,8 @@ fn tell_td(case: &mut Case, id: u8, known: &RingRecord, td: Submitted, had: Endp
             &[],
         );
         case.help("leave the row out", &[]);
+    } else if let Some(position) = value_that_may_come(known, td) {
+        tell_value(case, id, position, had);
     } else if back > 0 {
         tell_passed(case, id, known, td, back);
     } else if !case.header.version.is_lenient() && td.first < known.ceiling() {
@@ -209,6 +211,35 @@ fn tell_td(case: &mut Case, id: u8, known: &RingRecord, td: Submitted, had: Endp
             &[],
         );
     }
+}
+
+/// The first Event Data TRB of a TD that the controller may have passed, and whose event may still come.
+fn value_that_may_come(known: &RingRecord, td: Submitted) -> Option<u64> {
+    let end = td.first.saturating_add(td.count).min(known.ceiling());
+    (td.first.max(known.floor_number())..end).find(|position| known.data_at(*position).is_some())
+}
+
+/// Of a TD with an Event Data TRB that the controller may have passed: by which event.
+fn tell_value(case: &mut Case, id: u8, position: u64, had: Endpoint) {
+    case.head("a TD is withdrawn whose Event Data may still be told", &[]);
+    mark_stopped(case, had);
+    case.note(
+        "on ring {} the controller may have passed the Event Data TRB at position {}: a Transfer Event may still come that tells its value (xHCI 4.11.5.2)",
+        &[Id(id), Address(position)],
+    );
+    case.help(
+        "leave the row out and Set TR Dequeue Pointer past the TD (xHCI 4.6.10); or read that event first",
+        &[],
+    );
+}
+
+/// Marks the Stopped event that says how far the controller has come on the ring of an endpoint.
+fn mark_stopped(case: &mut Case, had: Endpoint) {
+    case.mark(
+        case.before.iter().rposition(|row| is_stop(row, had)),
+        "this Stopped event says how far the controller has come",
+        &[],
+    );
 }
 
 /// Of a TD the first of whose TRBs came back: which row brought the controller past it.
@@ -250,11 +281,7 @@ fn tell_passed(case: &mut Case, id: u8, known: &RingRecord, td: Submitted, back:
 /// Of a TD that the controller may have begun: by which event.
 fn tell_begun(case: &mut Case, id: u8, known: &RingRecord, had: Endpoint) {
     case.head("a TD is withdrawn that the controller may have begun", &[]);
-    case.mark(
-        case.before.iter().rposition(|row| is_stop(row, had)),
-        "this Stopped event says how far the controller has come",
-        &[],
-    );
+    mark_stopped(case, had);
     case.note(
         "on ring {} the controller may have begun what is before position {} (xHCI 4.6.9)",
         &[Id(id), Address(known.ceiling())],

@@ -17,6 +17,7 @@ pub mod RegisterWrites
 pub mod SpotsAt
 pub mod SpotsBetween
 pub mod NamedNow
+pub mod DataNamed
 pub mod StopSpots
 pub mod Borders
 pub mod WholeBelow

@@ -29,7 +29,7 @@ pub use Rattle.segments.proofs.StepFacts.{all_in_range, in_range_all, length_fro
 pub use Rattle.segments.proofs.Withdrawing.{length-no_ops, split_sum}
 pub use Rattle.segments.proofs.Words.{All-head, All-tail, All-weaker, Block, Declares, Holds, IsShape, IsSpot, Opens, Reaches, Restores, RingView, Shape, Withdraws, Writes, add-mod_right, address_of, after, and_from, and_parts, cases_Bool, cases_eq, cases_lt, changed, cond-false, cond-true, cycle_of, data_count, declared, ends, false_from_ne_true, false≢true, flat_map, floor_number, gives, gives_crossing, is_crossing, is_crossing_due, is_due, is_handed_over, is_in, is_spot, length-map, link_address, link_crossed, links, list_all, list_any, mod-lt, mod-mul-add, named_spot, nat_tests, new_ring, no_op, none-some, number, or_cases, or_left, or_right, overlap, place_at, place_count, range_with_len, rank, spot_address, spot_cycle, sum_by-cons}
 unfoldable pub use Rattle.segments.proofs.Words.{are_given, are_ways_given, ceiling, crossings_given, descriptor_length, due_crossings, due_positions, first_not_given, flips_passed, given_count, has_no_room, is_border, is_declared_as, is_move, is_not_restored, is_not_whole, is_reached, is_step_given, is_stop_spot, is_target, is_way_given, leased_crossings, leased_positions, length_from, link_of, may_move_to, named, no_ops, positions_given, split_at, spots_between, stopped_number, target, unrestored}
-unfoldable pub use Rattle.segments.specs.Ceiling.{is_open}
+unfoldable pub use Rattle.segments.specs.Ceiling.{data_at, is_open, named_data}
 unfoldable pub use Rattle.segments.specs.Moves.{is_placement}
 pub use Rattle.segments.specs.declared.place.Place.{Place}
 pub use Rattle.segments.specs.declared.place.Place.TheVariants.{Data as AtData, Link as AtLink}
@@ -50,12 +50,12 @@ pub use Rattle.std.specs.Cmp.{nat_cmp_total}
 pub use Rattle.std.specs.List.{AllByRecursion}
 pub use Rattle.std.specs.Map.Iter.{deref}
 pub use Rattle.std.specs.Ordering.{nat_cmp}
-pub use Rattle.std.specs.Prelude.{is_none, slice_get, unwrap_or}
+pub use Rattle.std.specs.Prelude.{MatchOption, is_none, slice_get, unwrap_or}
 pub use Rattle.std.specs.declared.cmp.Ordering.TheVariants.{Less}
 pub use Rattle.traces.specs.Register.{ordinal, reset_bit, run_bit, with_register}
 pub use Rattle.traces.specs.declared.header.Header.{Header}
 pub use Rattle.traces.specs.declared.register.Register.{Register}
 pub use Rattle.traces.specs.declared.register.Register.TheVariants.{Crcr, Usbcmd}
 pub use Rattle.traces.specs.declared.halt.Halt.TheVariants.{Asked, Done, Not}
-pub use Rattle.trb.specs.Block.{block_at, same_words, with_cycle}
+pub use Rattle.trb.specs.Block.{block_at, has_value, same_words, with_cycle}
 unfoldable pub use Rattle.traces.specs.Header.{command_id}

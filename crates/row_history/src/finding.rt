@@ -5,6 +5,7 @@ use crate::rows::last_register;
 use crate::running::mark_reset;
 use crate::unfinished::Unfinished;
 use crate::words::{NOT_JUDGED, Ordinal, command_name, endpoint_state_name, type_name};
+use commands::Command;
 use ring_knowledge::RingRecord;
 use segments::Segment;
 use std::alloc::{AllocError, Global};
@@ -23,6 +24,8 @@ pub enum Shown<'a> {
     Line(u32),
     /// A slot, and the DCI of one of its endpoints.
     Endpoint(u8, u8),
+    /// A command, and the endpoint or the slot that it names.
+    Command(Command),
     /// The ID of a ring.
     Id(u8),
     /// A word of memory.
@@ -62,6 +65,7 @@ impl fmt::Display for Shown<'_> {
             Shown::Hex(number) => write!(f, "{number:x}"),
             Shown::Line(line) => write!(f, "{line}"),
             Shown::Endpoint(slot, endpoint) => write!(f, "slot {slot}, DCI {endpoint}"),
+            Shown::Command(command) => write_command(f, command),
             Shown::Id(id) => write!(f, "{id:02x}"),
             Shown::Word(word) => write!(f, "{word:08x}"),
             Shown::Address(address) => write!(f, "{address:016x}"),
@@ -92,6 +96,15 @@ impl fmt::Display for Shown<'_> {
             Shown::NoArea(why) => write!(f, "{why}"),
             Shown::Name(name) => f.write_str(name),
         }
+    }
+}
+
+fn write_command<W: fmt::Write>(f: &mut fmt::Formatter<W>, command: Command) -> fmt::Result {
+    let name = command_name(command);
+    match (command.endpoint(), command.slot()) {
+        (Some((slot, endpoint)), _) => write!(f, "{name} of slot {slot}, DCI {endpoint}"),
+        (None, Some(slot)) => write!(f, "{name} of slot {slot}"),
+        (None, None) => f.write_str(name),
     }
 }
 
@@ -302,15 +315,8 @@ impl<'a> Case<'a> {
 
     /// Points at the row that gave a command.
     pub fn mark_unfinished(&mut self, given: Unfinished) {
-        let name = Shown::Name(command_name(given.command));
-        match given.command.slot() {
-            Some(slot) => self.mark(
-                given.row,
-                "{} of slot {}, unfinished",
-                &[name, Shown::Small(slot)],
-            ),
-            None => self.mark(given.row, "{}, unfinished", &[name]),
-        }
+        let name = Shown::Command(given.command);
+        self.mark(given.row, "{}, unfinished", &[name]);
     }
 }
 

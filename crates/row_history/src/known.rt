@@ -553,7 +553,7 @@ impl Known {
             self.rings.get_mut(number),
             self.pasts.get_mut(number),
         ) {
-            if let Some(spot) = known.named(&ring.shape, event.pointer()) {
+            if let Some(spot) = known.named_by(&ring.shape, event) {
                 if is_success(code) {
                     known.pass(&ring.shape, spot);
                 } else if is_failure(code) {

@@ -104,10 +104,13 @@ fn may_change(case: &Case, command: Command, endpoint: u8) -> bool {
     }
 }
 
-/// The first unfinished command by which a command of its slot may not be given now.
+/// The first unfinished command by which a command of its slot may not be given now: first of those beside which no version lets it stand.
 pub fn unfinished_beside(case: &Case, command: Command) -> Option<Unfinished> {
     let mut all = case.unfinished.iter();
-    all.find(|given| may_not_stand_beside(case, given.command, command))
+    let excluding = all.find(|given| exclude(case, given.command, command));
+    let mut all = case.unfinished.iter();
+    excluding
+        .or_else(|| all.find(|given| may_not_stand_beside(case, given.command, command)))
         .copied()
 }
 

@@ -194,8 +194,9 @@ What a controller does to a driver that breaks it
 What to write instead
   One `sub` row for each TD, and each stage of a control transfer is one:
   Setup Stage (8 bytes, IDT), Data Stage and what is chained to it, Status
-  Stage. Chain on every TRB but the TD's last; the Cycle bit is 0 in the row;
-  Link TRBs are left out.
+  Stage. In `xtrace 4` Event Data TRBs stand behind the TRBs whose end they
+  tell (xHCI 4.11.5.2). Chain on every TRB but the TD's last; the Cycle bit is
+  0 in the row; Link TRBs are left out.
 
 A trace that breaks it
   Row 4 submits a TRB with Chain and nothing behind it, and is refused.
@@ -355,9 +356,10 @@ an event that no controller can have posted
 
 What it is for
   What the driver reads as an event is one: with the Cycle bit of its Consumer
-  Cycle State, of a TRB that was handed over, behind a doorbell, or of the
-  command that is next; with a code that fits the endpoint's type and state
-  (xHCI 4.6, 4.8.3, 4.9.4, 4.10, 6.4.2).
+  Cycle State, of a TRB that was handed over, behind a doorbell, which it names
+  by address or by the value of Event Data, or of the command that is next; with
+  a code that fits the endpoint's type and state (xHCI 4.6, 4.8.3, 4.9.4, 4.10,
+  4.11.5.2, 6.4.2).
 
 What a controller does to a driver that breaks it
   It has posted no such event. Mostly the driver read one of the last lap, and
@@ -418,25 +420,25 @@ const NOT_IN_PROFILE: &str = "\
 what xHCI allows and this checker leaves out
 
 What it is for
-  Left out are streams, Event Data, interrupters other than 0, some commands
-  and completion codes, and Link TRBs with IOC; README has the whole list. Only
-  `xtrace 4` has Isoch TRBs, and what events say of isochronous endpoints.
-  `xtrace 3` lets such an endpoint be added; `xtrace 1` and `2` don't.
+  Left out are streams, interrupters other than 0, some commands and completion
+  codes, and Link TRBs with IOC; README has the whole list. Only `xtrace 4` has
+  Isoch and Event Data TRBs, and what events say of them. `xtrace 3` lets an
+  isochronous endpoint be added; `xtrace 1` and `2` don't.
 
 What a controller does to a driver that breaks it
   Nothing is said of what a controller does. This refusal is no bug.
 
 What to write instead
-  Nothing. Record a run of the driver without it; of isochronous endpoints
-  begin the trace with `xtrace 4`.
+  Nothing. Record a run of the driver without it; of isochronous endpoints and
+  of Event Data begin the trace with `xtrace 4`.
 
 A trace that breaks it
-  Row 4 submits an Event Data TRB, and is refused.
+  Row 4 submits a TRB for Interrupter 1, and is refused.
 
     xtrace 1
     ctx 20
     ring 02 xfer 0000000000030000:0004
-    sub 02 00001000 00000000 00000000 00001c20
+    sub 02 00001000 00000000 00400000 00000420
 ";
 
 const AFTER_STOP: &str = "\
@@ -536,6 +538,8 @@ What it is for
   withdrawn before (xHCI 4.6.9, 6.4.1.4.1). In version 2 the controller can't
   have come to that TD, in version 3 it isn't past its first TRB, and in
   version 4 it isn't past its last one: then the rest of the TD is withdrawn.
+  No TRB of it is Event Data that the controller may have passed, since the
+  event that tells its value may still come (xHCI 4.11.5.2).
 
 What a controller does to a driver that breaks it
   While the endpoint runs, it takes a TRB that is half the TD and half a No

@@ -1,5 +1,5 @@
 -- An event that may be read at one of two knowledges that are alike: it may be read at the other, and leaves both alike
-use Rattle.safety.proofs.MiddleLaws.{[], ◌≡◌, ◌≤◌, ◌==◌, ◌&&◌, ℕ, false, not, Some, refl, ap, rules, or_parts, or_from, not-false, Block, BlockKind, TransferEvent, CommandCompletion, kind, is_transfer_event, Spot, named, Header, Read, Config, shape_of, register_or_zero, Known, event_read, learned, is_in_profile, is_impossible_by_kind, lenient, if◌then◌else◌, true, List, arith, sym, subst, ltb-true, lt-ltb, false≢true, and_parts, and_from, not_from_true, code, slot, number, after, Reaches, cases_option, Command, Change, changes, command_id, on_ring, command_at, next_command, changed_by_all, succeeded, stop_ended, finished, completed, was_stop_seen, can_finish, may_be_taken, is_stopping_now, is_impossible_completion, event_facts, event_still, Alike, ceiling_more, reached_alike, both_sides, seen_put, Option, None}
+use Rattle.safety.proofs.MiddleLaws.{spot_named, has_event_data, ceiling, ◌<◌, endpoint, [], ◌≡◌, ◌≤◌, ◌==◌, ◌&&◌, ℕ, false, not, Some, refl, ap, rules, or_parts, or_from, not-false, Block, BlockKind, TransferEvent, CommandCompletion, kind, is_transfer_event, Spot, Header, Read, Config, shape_of, register_or_zero, Known, event_read, learned, is_in_profile, is_impossible_by_kind, lenient, if◌then◌else◌, true, List, arith, sym, subst, ltb-true, lt-ltb, false≢true, and_parts, and_from, not_from_true, code, slot, number, after, Reaches, cases_option, Command, Change, changes, command_id, on_ring, command_at, next_command, changed_by_all, succeeded, stop_ended, finished, completed, was_stop_seen, can_finish, may_be_taken, is_stopping_now, is_impossible_completion, event_facts, event_still, Alike, ceiling_more, reached_alike, both_sides, seen_put, Option, None}
 use Rattle.safety.proofs.AlikeTransfers.{transfer_alike}
 use Rattle.safety.proofs.AlikeChanges.{TargetsAre, changes_alike}
 
@@ -81,7 +81,7 @@ pub record EventAlike (h : Header) (k l : Known) : Type 0 where
   pub reads : l.reads ≡ k.reads
   pub room : k.dequeue ≤ l.dequeue
   pub config : register_or_zero l.register Config ≡ register_or_zero k.register Config
-  pub names : (s i r p : ℕ) (t : Spot) → k.ring_of s i ≡ Some r → named (shape_of h r) (k.ring r) p ≡ Some t → named (shape_of h r) (l.ring r) p ≡ Some t
+  pub names : (b : Block) (r : ℕ) (t : Spot) → k.ring_of (slot b) (endpoint b) ≡ Some r → (has_event_data b ≡ true → number t < ceiling (shape_of h r) (k.ring r)) → spot_named h k b r ≡ Some t → spot_named h l b r ≡ Some t
   pub command : CommandAlike h k l
 
 pub record ReadAlike (h : Header) (P : ℕ → Type 0) (k l : Known) (e : Block) : Type 0 where

@@ -1,5 +1,5 @@
 -- A Transfer Event that is possible at one of two knowledges that are alike: it is possible at the other, and leaves both alike
-use Rattle.safety.proofs.LowerLaws.{None, cond-true, code, is_of_service, told_alike, ◌≡◌, ◌&&◌, ◌||◌, if◌then◌else◌, ◌∙◌, ℕ, Bool, true, false, not, Option, Some, arith, refl, sym, ap, inl, inr, rules, false≢true, and_parts, and_from, or_parts, and_cases, or_from, not-false, not_from_true, none-some, put_pair, Block, pointer, slot, endpoint, Spot, number, after, named, EndpointState, is_off, Header, shape_of, Known, RingSpot, on_ring, spot_on, event_at, passed, broken_off, stopped_at, transferred, transferred_at, transfer_read, is_in_profile, is_working, is_stopping_now, can_report, can_report_at, is_impossible_transfer}
+use Rattle.safety.proofs.LowerLaws.{spot_named, has_event_data, ceiling, told_below, ◌<◌, option_map, same_Some, None, cond-true, code, is_of_service, told_alike, ◌≡◌, ◌&&◌, ◌||◌, if◌then◌else◌, ◌∙◌, ℕ, Bool, true, false, not, Option, Some, arith, refl, sym, ap, inl, inr, rules, false≢true, and_parts, and_from, or_parts, and_cases, or_from, not-false, not_from_true, none-some, put_pair, Block, slot, endpoint, Spot, number, after, EndpointState, is_off, Header, shape_of, Known, RingSpot, on_ring, spot_on, event_at, passed, broken_off, stopped_at, transferred, transferred_at, transfer_read, is_in_profile, is_working, is_stopping_now, can_report, can_report_at, is_impossible_transfer}
 use Rattle.safety.proofs.Alike.{Alike, below_more, open_alike, stop_more, stopped_more, reached_alike, held_alike}
 
 pub both_sides : {A : Type 0} (R : A → A → Type 0) (b : Bool) (x y u v : A) → R x u → R y v → R (if b then x else y) (if b then u else v)
@@ -54,10 +54,10 @@ module _ (h : Header) (P : ℕ → Type 0) (k l : Known) (a : Alike P k l) where
     report_at b o p same none can = search (rules, false≢true, report_alike, told_alike, Alike, both_sides, passed_alike, move_put, broken_alike, stopped_alike)
 
     -- each spot that is named on an endpoint's ring is so at the other too
-    module _ (names : (s i r p : ℕ) (t : Spot) → k.ring_of s i ≡ Some r → named (shape_of h r) (k.ring r) p ≡ Some t → named (shape_of h r) (l.ring r) p ≡ Some t) where
-      event_alike : (b : Block) (at : RingSpot) → event_at h k b ≡ Some at → event_at h l b ≡ Some at
+    module _ (names : (b : Block) (r : ℕ) (t : Spot) → k.ring_of (slot b) (endpoint b) ≡ Some r → (has_event_data b ≡ true → number t < ceiling (shape_of h r) (k.ring r)) → spot_named h k b r ≡ Some t → spot_named h l b r ≡ Some t) where
+      event_alike : (b : Block) (at : RingSpot) → (has_event_data b ≡ true → number at.spot < ceiling (shape_of h at.ring) (k.ring at.ring)) → event_at h k b ≡ Some at → event_at h l b ≡ Some at
       unfolding event_at spot_on
-      event_alike b at e = search (rules, spot_on, pointer, slot, endpoint, none-some, k.ring_of)
+      event_alike b at below e = grind (arith, none-some, same_Some, option_map, names)
 
       none_alike : (b : Block) → is_of_service (code b) ≡ true → event_at h l b ≡ None
       unfolding event_at
@@ -71,7 +71,8 @@ module _ (h : Header) (P : ℕ → Type 0) (k l : Known) (a : Alike P k l) where
             | inl outside ↦ absurd (false≢true (sym outside ∙ inside))
             | inr none ↦
                 let parts = or_parts (is_off (k.endpoint_state (slot b) (endpoint b))) (not (can_report_at h k b (event_at h k b))) none in
-                let reported = report_at b (event_at h k b) (event_at h l b) (event_alike b) (none_alike b) (not-false (can_report_at h k b (event_at h k b)) parts.1) in (
+                let reported = report_at b (event_at h k b) (event_at h l b) (λ at found.
+                event_alike b at (told_below h k b at inside (ap (can_report_at h k b) (sym found) ∙ not-false (can_report_at h k b (event_at h k b)) parts.1)) found) (none_alike b) (not-false (can_report_at h k b (event_at h k b)) parts.1) in (
                   and_right (is_in_profile h l b) (is_off (l.endpoint_state (slot b) (endpoint b)) || not (can_report_at h l b (event_at h l b)))
                       (or_from (is_off (l.endpoint_state (slot b) (endpoint b))) (not (can_report_at h l b (event_at h l b)))
                       (ap (λ f. is_off (f (slot b) (endpoint b))) a.endpoint_state ∙ parts.0) (not_from_true (can_report_at h l b (event_at h l b)) reported.0)),

@@ -1,6 +1,5 @@
 -- Areas and ranges under lease that have no byte in common
-use Rattle.safety.proofs.LowerLaws.{inl, inr, lenient, Write, free_or_same, [], ◌≡◌, ◌≢◌, ◌+◌, ◌*◌, ◌/◌, ◌^◌, ◌<◌, ◌≤◌, ◌⊎◌, ◌∷◌, ◌∙◌, ℕ, Bool, false, List, nat_lt, nat_le, Some, arith, refl, sym, lt-ltb, le-ltb, ltb-true, leb-true, rules, list_any, flat_map, cases_lt, and_left, and_right, or_parts, or_from, and_parts, and_cases, false≢true, false_from_ne_true, list_any-append, is_in, overlap, device_context_bytes, input_context_bytes, Command, named_context, table_bytes, event_shape, base_address, Erstba, Header, touches_ring, Known, entry_of, Range, SegmentTable, Use, InputContext, SlotEntry, DeviceContext, covers, lease_start, lease_bytes, range_of_device, device_ranges, open_ranges, open_leases, is_leased, is_bad_area, is_in_range_lease, is_soiled, IsUnfinished, is_the_controllers, none_in_range, fails_in, context_leased, device_listed, device_leased, entry_leased, table_leased, in_right}
-use Rattle.safety.proofs.Writing.{unchained_is}
+use Rattle.safety.proofs.LowerLaws.{inl, inr, lenient, Write, free_or_same, [], ◌≡◌, ◌≢◌, ◌+◌, ◌*◌, ◌/◌, ◌^◌, ◌<◌, ◌≤◌, ◌⊎◌, ◌∷◌, ◌∙◌, ℕ, Bool, false, List, nat_lt, nat_le, Some, arith, refl, sym, lt-ltb, le-ltb, ltb-true, leb-true, rules, list_any, flat_map, cases_lt, and_left, and_right, or_parts, or_from, and_parts, and_cases, false≢true, false_from_ne_true, list_any-append, is_in, overlap, device_context_bytes, input_context_bytes, Command, named_context, table_bytes, event_shape, base_address, Erstba, Header, touches_ring, Known, entry_of, Range, SegmentTable, Use, InputContext, SlotEntry, DeviceContext, covers, lease_start, lease_bytes, range_of_device, device_ranges, open_ranges, open_leases, is_leased, is_bad_area, is_in_range_lease, is_soiled, IsUnfinished, is_the_controllers, none_in_range, fails_in, context_leased, device_listed, device_leased, entry_leased, table_leased, in_right, unchained_is}
 
 -- ---- two ranges of bytes
 

@@ -1,5 +1,6 @@
 -- Behind an event that is read before it, a write that gives a command breaks no rule: what is tested of its bindings and its slot
-use Rattle.safety.proofs.UpperLaws.{[], ◌≡◌, ◌||◌, ◌∷◌, ◌∙◌, ℕ, not, true, false, List, map, All, Some, refl, sym, ap, subst, inl, inr, eq-eqb, rules, MayCome, list_any, or_from, not_from_true, false≢true, false_from_ne_true, All-head, All-tail, cases_option, Block, Command, NoOp, EnableSlot, DisableSlot, AddressDevice, ConfigureEndpoint, EvaluateContext, ResetEndpoint, StopEndpoint, SetTrDequeue, ResetDevice, Header, Write, Read, IsHeader, command_id, is_ring, Known, unfinished, command_given, learned, Binding, binding_in, binds, ring_bound, binds_ring, has_repeats, drops, is_kept, is_taken, is_placed, is_bad_place, is_being_bound, is_bad_binding, lenient, IsIn, some_of, any_of, IsUnfinished, CommandKeeps, DriverKeeps, exclude, adds_streams, is_busy, streams_in, arith, none_fewer, beside_old, command_same, listed_unfinished, listed_before, none_kept, binds_ring_beside, event_behind}
+use Rattle.safety.proofs.UpperLaws.{[], ◌≡◌, ◌||◌, ◌∷◌, ◌∙◌, ℕ, not, true, false, List, map, All, Some, refl, sym, ap, subst, inl, inr, eq-eqb, rules, MayCome, list_any, or_from, not_from_true, false≢true, false_from_ne_true, All-head, All-tail, cases_option, Block, Command, NoOp, EnableSlot, DisableSlot, AddressDevice, ConfigureEndpoint, EvaluateContext, ResetEndpoint, StopEndpoint, SetTrDequeue, ResetDevice, Header, Write, Read, IsHeader, command_id, is_ring, Known, unfinished, command_given, learned, Binding, binding_in, binds, ring_bound, binds_ring, has_repeats, drops, is_kept, is_taken, is_placed, is_bad_place, is_being_bound, is_bad_binding, lenient, IsIn, some_of, any_of, IsUnfinished, CommandKeeps, DriverKeeps, exclude, adds_streams, is_busy, streams_in, arith, none_fewer, beside_old, command_same, listed_unfinished, listed_before, binds_ring_beside, event_behind}
+use Rattle.safety.proofs.RingsKept.{none_kept}
 use Rattle.safety.proofs.CommandBeneath.{rings_there, floors_alike, alike_there}
 use Rattle.safety.proofs.GivenBehind.{between, there, kept, keeps, facts, beside, beside_given, own_between}
 

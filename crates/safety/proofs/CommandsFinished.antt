@@ -1,5 +1,5 @@
 -- A completion keeps what is kept of the commands that stay unfinished
-use Rattle.safety.proofs.MiddleLaws.{◌≡◌, ◌≢◌, ◌∙◌, ℕ, true, false, Some, option_and_then, slice_get, arith, refl, sym, ap, subst, Bool, Option, None, false≢true, Block, Spot, after, RingView, Reaches, changed, is_due, due_is, due_from, number-after, Command, command_of, named_slot, is_disabled, is_off, is_at_rest, Header, IsHeader, shape_of, command_id, Known, command_at, next_command, finished, completed, input_context_bytes, binds_ring, IsDriverRing, IsUnfinished, CommandKeeps, DriverKeeps, AddressDevice, has_bad_context, rules, command_not_transfer, bound_transfer, drops_concerns, transfer_not_command, ring_here, endpoints_of, next_is, SameDriver, clean_same, area_parts, area_from, device_apart, devices_apart, IsPart, OtherSlots, Beside, Concerns, some_concerned, not_both, Standing, PlacesStay, MovesAhead, RingsBeside, still_restored, context_good, finish_elsewhere, OfCommand, Has, Binds, Commands, eq-eqb}
+use Rattle.safety.proofs.MiddleLaws.{◌≡◌, ◌≢◌, ◌∙◌, ℕ, true, false, Some, option_and_then, slice_get, arith, refl, sym, ap, subst, Bool, Option, None, false≢true, Block, Spot, after, RingView, Reaches, changed, is_due, due_is, due_from, number-after, Command, command_of, named_slot, is_off, is_at_rest, Header, IsHeader, shape_of, command_id, Known, command_at, next_command, finished, completed, input_context_bytes, binds_ring, IsDriverRing, IsUnfinished, CommandKeeps, DriverKeeps, AddressDevice, has_bad_context, rules, command_not_transfer, bound_transfer, drops_concerns, transfer_not_command, ring_here, endpoints_of, next_is, SameDriver, clean_same, area_parts, area_from, device_apart, devices_apart, IsPart, OtherSlots, Beside, Concerns, some_concerned, not_both, Standing, PlacesStay, MovesAhead, RingsBeside, still_restored, context_good, finish_elsewhere, OfCommand, Has, Binds, Commands, eq-eqb}
 use Rattle.safety.proofs.WriteBeside.{ContextParts, context_parts, context_from}
 use Rattle.safety.specs.EndpointsKeep as endpoints
 

@@ -1,6 +1,5 @@
 -- What is kept of unfinished commands is kept where nothing that they read has changed
-use Rattle.safety.proofs.LowerLaws.{◌≡◌, ◌≢◌, ◌≤◌, ◌∙◌, ℕ, not, Bool, true, false, map, All, Some, arith, refl, sym, ap, subst, List, get_or, eq-eqb, rules, MovesRestored, or_parts, or_from, not-false, not_from_true, Shape, RingView, declared, floor_number, ceiling, is_move, Command, AddressDevice, SetTrDequeue, is_at_rest, context_pointer, context_cycle, Header, shape_of, Known, binds, ring_bound, binds_ring, has_repeats, is_bad_dequeue, is_bad_move, IsUnfinished, StaysIf, MovesIf, CommandKeeps, is_placed, is_placement, drops, Binding, list_any, is_ring, Any-from_list_any, All-get_or, cases_option, list_any_at, false≢true, placement_still, exclude, adds_streams, is_bad_command, Concerns, pointer_same, cycle_same, ring_is, Beside, good_beside, in_profile_beside, binds_beside, binds_ring_beside, drops_beside}
-use Rattle.safety.proofs.CommandsBeside.{exclude_beside}
+use Rattle.safety.proofs.LowerLaws.{◌≡◌, ◌≢◌, ◌≤◌, ◌∙◌, ℕ, not, Bool, true, false, map, All, Some, arith, refl, sym, ap, subst, List, get_or, eq-eqb, rules, MovesRestored, or_parts, or_from, not-false, not_from_true, Shape, RingView, declared, floor_number, ceiling, is_move, Command, AddressDevice, SetTrDequeue, is_at_rest, context_pointer, context_cycle, Header, shape_of, Known, binds, ring_bound, binds_ring, has_repeats, is_bad_dequeue, is_bad_move, IsUnfinished, StaysIf, MovesIf, CommandKeeps, is_placed, is_placement, drops, Binding, list_any, is_ring, Any-from_list_any, All-get_or, cases_option, list_any_at, false≢true, placement_still, exclude, adds_streams, is_bad_command, Concerns, pointer_same, cycle_same, ring_is, Beside, good_beside, in_profile_beside, binds_beside, binds_ring_beside, drops_beside, exclude_beside}
 
 -- the pointer of a ring on which nothing is given stands there still, and nothing is given still
 pub record Standing (shape : Shape) (v w : RingView) : Type 0 where

@@ -1,5 +1,5 @@
 -- A Transfer Event keeps what is kept of unfinished commands
-use Rattle.safety.proofs.MiddleLaws.{spot_told, ◌≡◌, ◌≢◌, ◌==◌, ◌||◌, ◌∙◌, ℕ, not, Bool, true, false, nat_lt, Option, None, Some, arith, refl, sym, ap, subst, inl, inr, eq-eqb, ltb-true, rules, cases_eq, and_parts, and_cases, or_parts, not-false, false≢true, Block, slot, endpoint, pointer, Spot, number, ceiling, is_data_below, cases_option, given_below, step_is, ceiling_within, below_is, IsAhead, named_ahead, Command, AddressDevice, StopEndpoint, is_stop_of, EndpointState, is_off, is_running, is_at_rest, Header, IsHeader, shape_of, command_id, Known, RingSpot, event_at, command_at, next_command, transferred_at, transfer_read, is_in_profile, may_be_taken, is_stopping_now, can_report, can_report_at, is_impossible_transfer, IsDriverRing, IsUnfinished, Stays, DriverKeeps, CommandsKeep, binds_ring, drops, same_Some, and_from, ring_shape, transfer_driver, transfer_not_command, ceiling_given, AtFloor, at_floor, chain, spot_is, spot_ring, due_has_ring, SameDriver, TransferLeaves, transferred_leaves, ahead_held, unfinished_view, Standing, PlacesStay, MovesAhead, bound_still, still_restored, drops_concerns, stops_drop_none, not_both, SameStates, RingsStay, same_stay, stop_is}
+use Rattle.safety.proofs.MiddleLaws.{spot_ahead, spot_told, ◌≡◌, ◌≢◌, ◌||◌, ◌∙◌, ℕ, not, Bool, true, false, nat_lt, Option, None, Some, arith, refl, sym, ap, subst, inl, inr, eq-eqb, ltb-true, rules, cases_eq, and_parts, and_cases, or_parts, not-false, false≢true, Block, slot, endpoint, Spot, number, ceiling, is_data_below, cases_option, given_below, step_is, ceiling_within, below_is, IsAhead, Command, AddressDevice, StopEndpoint, is_stop_of, EndpointState, is_off, is_running, is_at_rest, Header, IsHeader, shape_of, command_id, Known, RingSpot, event_at, command_at, next_command, transferred_at, transfer_read, is_in_profile, may_be_taken, is_stopping_now, can_report, can_report_at, is_impossible_transfer, IsDriverRing, IsUnfinished, Stays, DriverKeeps, CommandsKeep, binds_ring, drops, same_Some, ring_shape, transfer_driver, transfer_not_command, ceiling_given, AtFloor, at_floor, chain, spot_is, spot_ring, due_has_ring, SameDriver, TransferLeaves, transferred_leaves, ahead_held, unfinished_view, Standing, PlacesStay, MovesAhead, bound_still, still_restored, drops_concerns, stops_drop_none, not_both, SameStates, RingsStay, same_stay, stop_is}
 use Rattle.safety.proofs.SameDriver.{transfer_same}
 
 pub rest_not_running : (e : EndpointState) → is_at_rest e ≡ true → is_running e ≡ false
@@ -114,10 +114,10 @@ module _ (h : Header) (is : IsHeader h) (k : Known) (d : DriverKeeps h k) where
   unfolding transferred_at can_report_at
   at_commands b None found on can driver = d.unfinished
   at_commands b (Some at) found on can driver =
-      let has = spot_ring h k (pointer b) (k.ring_of (slot b) (endpoint b)) at (spot_told h k b at found) in
+      let has = spot_ring h k b (k.ring_of (slot b) (endpoint b)) at (spot_told h k b at found) in
       let ring : IsDriverRing h at.ring = transfer_driver h at.ring (d.states.transfer (slot b) (endpoint b) at.ring has) in
-      let ahead = named_ahead (shape_of h at.ring) k.memory (k.ring at.ring) (d.rings at.ring ring) (pointer b) at.spot
-      (spot_is h k (pointer b) (k.ring_of (slot b) (endpoint b)) at (spot_told h k b at found)) in
+      let ahead = spot_ahead h k b at.ring at.spot (d.rings at.ring ring)
+      (spot_is h k b (k.ring_of (slot b) (endpoint b)) at (spot_told h k b at found)) in
       search (rules, reported_commands, transferred_leaves)
 
   pub transfer_commands : (b : Block) → is_impossible_transfer h k b ≡ false → is_in_profile h k b ≡ true → CommandsKeep h (transfer_read h k b)

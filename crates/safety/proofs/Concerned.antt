@@ -1,5 +1,5 @@
 -- What a command is about: of two commands that don't exclude each other nothing is both's
-use Rattle.safety.proofs.Words.{◌≡◌, ◌==◌, ◌&&◌, ◌∙◌, ℕ, not, true, false, Option, None, Some, refl, sym, ap, subst, eq-eqb, eqb-true, and_from, false_from_ne_true, false≢true, or_right, from_filter, range_with_len, IsIn, added_endpoints, input_add_flag, Command, ResetEndpoint, StopEndpoint, SetTrDequeue, ConfigureEndpoint, named_slot, named_endpoint, same_slot, name_one_slot, exclude, concerns, concerns_named, rules, arith}
+use Rattle.safety.proofs.Words.{◌≡◌, ◌==◌, ◌∙◌, ℕ, true, false, Some, refl, sym, ap, eq-eqb, eqb-true, false_from_ne_true, false≢true, or_right, from_filter, range_with_len, IsIn, added_endpoints, input_add_flag, Command, ResetEndpoint, StopEndpoint, SetTrDequeue, ConfigureEndpoint, named_slot, named_endpoint, same_slot, name_one_slot, exclude, concerns, concerns_named, rules}
 
 -- the slot that it names, and of this the endpoints and the slot as a whole that it is about
 abbrev pub Concerns : (ℕ → ℕ) → Command → ℕ → ℕ → Type 0

@@ -1,7 +1,7 @@
 -- A device context that a write takes: an event reads nothing of it
-use Rattle.safety.proofs.MiddleLaws.{[], ◌≡◌, ◌≢◌, ◌∙◌, ℕ, Option, Some, arith, ap, none-some, same_Some, Block, changes, Header, Read, Config, command_id, register_or_zero, Known, next_command, with_device, lenient, at_number, SameDriver, Alike, held_same}
+use Rattle.safety.proofs.MiddleLaws.{spot_same, [], ◌≡◌, ◌≢◌, ◌∙◌, ℕ, Option, Some, arith, ap, none-some, same_Some, Block, changes, Header, Read, Config, command_id, register_or_zero, Known, next_command, with_device, lenient, at_number, SameDriver, Alike, held_same}
 use Rattle.safety.proofs.AlikeEvents.{EventAlike, ReadAlike, read_alike}
-use Rattle.safety.proofs.HeldFurther.{named_same, command_same, targets_are, counted}
+use Rattle.safety.proofs.HeldFurther.{command_same, targets_are, counted}
 
 -- the slots whose device contexts aren't taken
 abbrev pub Untaken : Option (ℕ × ℕ) → ℕ → Type 0
@@ -33,7 +33,7 @@ module _ (h : Header) (x : Known) where
     reads = b.reads;
     room = let e = b.dequeue in omega arith;
     config = ap (λ f. register_or_zero f Config) b.register;
-    names = λ s i r p t has at. named_same h r p (x.ring r) (y.ring r) (a.rings r).floor (ap (λ f. (f r).queue) b.ring) ∙ at;
+    names = λ e r t has below at. spot_same h x y e r (a.rings r).floor (ap (λ f. (f r).queue) b.ring) ∙ at;
     command = record {
       command = λ c may at. command_same h x y (next_command h x) (ap (λ f. (f (command_id h)).queue) b.ring) ∙ at;
       does = λ n c may at. ap (λ f. changes h.context_size f n c) b.memory;

@@ -1,9 +1,6 @@
 -- Declarations, writes, register writes and doorbells keep what the rules keep of each ring
-use Rattle.safety.proofs.RunOrStop.{runs_leave}
-use Rattle.safety.proofs.LowerLaws.{[], ◌≡◌, ◌≢◌, ◌==◌, ◌∙◌, ℕ, List, Option, None, Some, option_and_then, refl, sym, ap, subst, inl, inr, eq-eqb, ne_eqb, rules, cases_eq, cond-true, cond-false, cond_both, Block, RingView, RingChange, Declares, Opens, Writes, EndpointRestored, IsRestored, MayCome, RingKept, RingsKept, changed, new_ring_keeps, declares_keeps, writes_keeps, opens_keeps, Header, Register, Crcr, Erdp, Usbcmd, register_read, status_read, Sub, Write, IsHeader, shape_of, command_id, Known, nothing, on_ring, with_device, with_word, written, command_given, taken_device, valued, register_written, endpoint_rung, rung, lenient, RingsKeep, arith, shape_allowed, may_declare, same_word_keeps, free_or_same, may_write, passes_same, passes_both, passes_restored, passes_held}
+use Rattle.safety.proofs.LowerLaws.{runs_leave, [], ◌≡◌, ◌≢◌, ◌==◌, ◌∙◌, ℕ, List, Option, None, Some, option_and_then, refl, sym, ap, subst, inl, inr, eq-eqb, ne_eqb, rules, cases_eq, cond-true, cond-false, cond_both, Block, RingView, RingChange, Declares, Opens, Writes, EndpointRestored, IsRestored, MayCome, RingKept, RingsKept, changed, new_ring_keeps, declares_keeps, writes_keeps, opens_keeps, Header, Register, Crcr, Erdp, Usbcmd, register_read, status_read, Sub, Write, IsHeader, shape_of, command_id, Known, nothing, on_ring, with_device, with_word, written, command_given, taken_device, valued, register_written, endpoint_rung, rung, lenient, RingsKeep, arith, shape_allowed, may_declare, same_word_keeps, free_or_same, may_write, passes_same, passes_both, passes_restored, passes_held, cleared_keeps, is_no_other, unchained_is}
 use Rattle.safety.specs.DriverRings.{IsDriverRing}
-use Rattle.safety.proofs.Unchained.{cleared_keeps}
-use Rattle.safety.proofs.Writing.{is_no_other, unchained_is}
 
 module _ (h : Header) where
   pub ring_here : (k : Known) (r : ℕ) (change : RingChange) → (on_ring h k r change).ring r ≡ changed (shape_of h r) (k.ring r) change

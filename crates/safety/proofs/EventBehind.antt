@@ -1,9 +1,8 @@
 -- What stands behind an event that may be read: rings whose floors moved on, and no device context more
-use Rattle.safety.proofs.KeptRings.{completion_facts}
-use Rattle.safety.proofs.MiddleLaws.{spot_told, code_told, typed, Types, [], ◌≡◌, ◌∷◌, ◌∙◌, ℕ, List, Option, None, Some, refl, sym, ap, subst, inl, inr, flips_passed, RingView, cond_both, none-some, Block, BlockKind, TransferEvent, CommandCompletion, kind, code, slot, is_command_completion, RingKeeps, Command, Change, DeviceLeft, Places, Stops, Resets, changes, Header, Read, IsHeader, shape_of, command_id, Known, on_ring, command_at, next_command, disabled, changed_by, changed_by_all, succeeded, stop_ended, finished, completed, event_read, learned, lenient, KeepsPassed, RingsKeep, RingsKept, EndpointsKeep, DriverKeeps, MayRead, ◌≤◌, ◌⊎◌, Bool, arith, eqb-true, rules, pointer, endpoint, Spot, number, after, RingChange, Reaches, Holds, changed, floor_number, ceiling, target, IsAhead, named_ahead, target_ahead, number-after, Stopped, is_off, SlotGoesOn, Disables, ring_having, RingSpot, event_at, passed, broken_off, stopped_at, transferred, transferred_at, transfer_read, set_to, bound_to, moved_to, moved, pointed, in_state, held_at_ceiling, MayChange, MayChangeAll, MayFinish, still_reads, shape_allowed, driver_test, rings_of, endpoints_of, transfer_ring, command_is_ring, event_facts, transfer_slots, event_ring_of, at_number, placed_leaves, stops_slot, resets_slot, ring_here, ring_elsewhere, having_transfer, transfer_driver, change_keeps, spot_is, passes_shown, finish_elsewhere, named_if_taken, true}
+use Rattle.safety.proofs.MiddleLaws.{spot_ahead, spot_told, code_told, typed, Types, [], ◌≡◌, ◌∷◌, ◌∙◌, ℕ, List, Option, None, Some, refl, sym, ap, subst, inl, inr, flips_passed, RingView, cond_both, none-some, Block, BlockKind, TransferEvent, CommandCompletion, kind, code, slot, is_command_completion, RingKeeps, Command, Change, DeviceLeft, Places, Stops, Resets, changes, Header, Read, IsHeader, shape_of, command_id, Known, on_ring, command_at, next_command, disabled, changed_by, changed_by_all, succeeded, stop_ended, finished, completed, event_read, learned, lenient, KeepsPassed, RingsKeep, RingsKept, EndpointsKeep, DriverKeeps, MayRead, ◌≤◌, ◌⊎◌, Bool, arith, eqb-true, rules, endpoint, Spot, number, after, RingChange, Reaches, Holds, changed, floor_number, ceiling, target, IsAhead, target_ahead, number-after, Stopped, is_off, SlotGoesOn, Disables, ring_having, RingSpot, event_at, passed, broken_off, stopped_at, transferred, transferred_at, transfer_read, set_to, bound_to, moved_to, moved, pointed, in_state, held_at_ceiling, MayChange, MayChangeAll, MayFinish, still_reads, shape_allowed, driver_test, rings_of, endpoints_of, transfer_ring, command_is_ring, event_facts, transfer_slots, event_ring_of, at_number, placed_leaves, stops_slot, resets_slot, ring_here, ring_elsewhere, having_transfer, transfer_driver, change_keeps, spot_is, passes_shown, finish_elsewhere, named_if_taken, true}
+use Rattle.safety.proofs.KeptRings.{completion_facts, still_of}
 use Rattle.safety.specs.DriverRings.{IsDriverRing}
 use Rattle.safety.proofs.Histories.{row_kept}
-use Rattle.safety.proofs.KeptRings.{still_of}
 use Rattle.safety.proofs.HeldFurther.{read_same}
 use Rattle.safety.proofs.LeasesBehind.{RingsBehind, Behind}
 use Rattle.safety.proofs.PassedBehind.{no_flips_behind}
@@ -55,7 +54,7 @@ module _ (h : Header) where
     at_on b (Some at) found =
         let driver : IsDriverRing h at.ring = transfer_is_driver at.ring (endpoints.transfer (slot b) (endpoint b) at.ring (event_ring_of h k b at found)) in
         let ahead : IsAhead (shape_of h at.ring) (k.ring at.ring) at.spot =
-        named_ahead (shape_of h at.ring) k.memory (k.ring at.ring) (rings at.ring driver) (pointer b) at.spot (spot_is h k (pointer b) (k.ring_of (slot b) (endpoint b)) at (spot_told h k b at found)) in
+        spot_ahead h k b at.ring at.spot (rings at.ring driver) (spot_is h k b (k.ring_of (slot b) (endpoint b)) at (spot_told h k b at found)) in
         transferred_on k at.ring driver at.spot ahead.from (code_told h k b) (slot b) (endpoint b)
 
     pub transfer_on : (b : Block) → FloorsOn k (transfer_read h k b)

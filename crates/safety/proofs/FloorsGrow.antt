@@ -1,5 +1,5 @@
 -- An event that may be read moves no floor back
-use Rattle.safety.proofs.MiddleLaws.{spot_told, code_told, typed, [], ◌≡◌, ◌≤◌, ◌∷◌, ℕ, Bool, true, List, Option, None, Some, arith, refl, ap, eqb-true, rules, cond_both, none-some, same_Some, Block, BlockKind, TransferEvent, CommandCompletion, kind, code, slot, endpoint, pointer, is_command_completion, Spot, number, after, Reaches, Holds, floor_number, ceiling, named, stopped_number, target, number-after, named_ahead, target_ahead, Command, Stopped, is_off, Change, Places, Stops, changes, Header, Read, IsHeader, shape_of, ring_having, Known, RingSpot, on_ring, spot_on, event_at, command_at, next_command, passed, broken_off, stopped_at, transferred, transferred_at, transfer_read, set_to, bound_to, moved_to, moved, pointed, disabled, in_state, held_at_ceiling, changed_by, changed_by_all, succeeded, stop_ended, finished, completed, event_read, learned, lenient, DriverKeeps, EndpointsKeep, MayChange, MayChangeAll, transfer_driver, rings_of, endpoints_of, view_after, still_places, EventFacts, event_facts, finish_elsewhere}
+use Rattle.safety.proofs.MiddleLaws.{spot_named, spot_ahead, spot_told, code_told, typed, [], ◌≡◌, ◌≤◌, ◌∷◌, ℕ, Bool, true, List, Option, None, Some, arith, refl, ap, eqb-true, rules, cond_both, none-some, same_Some, Block, BlockKind, TransferEvent, CommandCompletion, kind, code, slot, endpoint, is_command_completion, Spot, number, after, Reaches, Holds, floor_number, ceiling, stopped_number, target, number-after, target_ahead, Command, Stopped, is_off, Change, Places, Stops, changes, Header, Read, IsHeader, shape_of, ring_having, Known, RingSpot, on_ring, spot_on, event_at, command_at, next_command, passed, broken_off, stopped_at, transferred, transferred_at, transfer_read, set_to, bound_to, moved_to, moved, pointed, disabled, in_state, held_at_ceiling, changed_by, changed_by_all, succeeded, stop_ended, finished, completed, event_read, learned, lenient, DriverKeeps, EndpointsKeep, MayChange, MayChangeAll, transfer_driver, rings_of, endpoints_of, view_after, still_places, EventFacts, event_facts, finish_elsewhere}
 use Rattle.safety.proofs.KeptRings.{completion_facts, next_unfinished, command_holds}
 
 abbrev pub FloorsGrow : Known → Known → Type 0
@@ -43,17 +43,17 @@ module _ (h : Header) where
     transferred_grows c s i = search (rules, passed_grows, grow_twice, passed, on_ring, number, hold_grows, stopped_grows, grow_none)
 
   -- the spot that an event names lies on the ring of its endpoint
-  found_on : (k : Known) (p : ℕ) (o : Option ℕ) (at : RingSpot) → spot_on h k p o ≡ Some at → (o ≡ Some at.ring) × (named (shape_of h at.ring) (k.ring at.ring) p ≡ Some at.spot)
+  found_on : (k : Known) (b : Block) (o : Option ℕ) (at : RingSpot) → spot_on h k b o ≡ Some at → (o ≡ Some at.ring) × (spot_named h k b at.ring ≡ Some at.spot)
   unfolding spot_on
-  found_on k p o at e = grind (arith, none-some, same_Some)
+  found_on k b o at e = grind (arith, none-some, same_Some)
 
   at_grows : (k : Known) (d : DriverKeeps h k) (b : Block) (o : Option RingSpot) → event_at h k b ≡ o → FloorsGrow k (transferred_at h k b o)
   unfolding transferred_at
   at_grows k d b None found = grow_none k
   at_grows k d b (Some at) found =
-      let is = found_on k (pointer b) (k.ring_of (slot b) (endpoint b)) at (spot_told h k b at found) in
+      let is = found_on k b (k.ring_of (slot b) (endpoint b)) at (spot_told h k b at found) in
       let ring = d.rings at.ring (transfer_driver h at.ring (d.states.transfer (slot b) (endpoint b) at.ring is.0)) in
-      transferred_grows k at.ring at.spot (named_ahead (shape_of h at.ring) k.memory (k.ring at.ring) ring (pointer b) at.spot is.1).from (code_told h k b) (slot b) (endpoint b)
+      transferred_grows k at.ring at.spot (spot_ahead h k b at.ring at.spot ring is.1).from (code_told h k b) (slot b) (endpoint b)
 
   -- ---- a completion
 

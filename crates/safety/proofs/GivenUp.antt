@@ -1,7 +1,5 @@
 -- What the rules keep of a ring stays where it is given up, and where it is held as far as its controller may have come
-use Rattle.safety.proofs.Words.{◌≡◌, ◌+◌, ◌-◌, ◌<◌, ◌≤◌, ◌∙◌, ℕ, suc, zero, None, true, false, arith, refl, sym, ap, subst, inl, inr, cases_Bool, cases_eq, cases_lt, cond-true, cond-false, false≢true, none-some, Shape, number, crossing_positive, IsShape, RingView, given_count, ceiling, RingKeeps, MayReach, IsRestored, IsShownTo, behind_blocks, first_free, given_up, held_at_given, ceiling_within, ceiling_held, holds_keeps, floor_given, number-after}
-use Rattle.segments.proofs.ReachedSpots.{after_reached, data_reached}
-use Rattle.segments.proofs.Reaching.{moved_keeps}
+use Rattle.safety.proofs.Words.{◌≡◌, ◌+◌, ◌-◌, ◌<◌, ◌≤◌, ◌∙◌, ℕ, suc, zero, None, true, false, arith, refl, sym, ap, subst, inl, inr, cases_Bool, cases_eq, cases_lt, cond-true, cond-false, false≢true, none-some, Shape, number, crossing_positive, IsShape, RingView, given_count, ceiling, RingKeeps, MayReach, IsRestored, IsShownTo, behind_blocks, first_free, given_up, held_at_given, ceiling_within, ceiling_held, holds_keeps, floor_given, number-after, after_reached, data_reached, moved_keeps}
 
 -- ---- the least of n positions from q on that is free
 

@@ -1,5 +1,5 @@
 -- Where rings are held at greater numbers, the same events are possible, and what they lead to is the same but for these numbers
-use Rattle.safety.proofs.MiddleLaws.{[], ◌≡◌, ◌+◌, ◌∷◌, ◌∙◌, ℕ, List, length, find, option_and_then, slice_get, arith, sym, ap, rules, Block, number, named_spot, RingView, floor_number, named, is_target, spots_between, target, Command, command_of, Change, changes, Header, Read, Config, shape_of, command_id, register_or_zero, Known, command_at, next_command, learned, changed_by, IsHeldMore, HeldMore, MoreLaw, SameDriver, both_drivers, change_same, event_same, Alike}
+use Rattle.safety.proofs.MiddleLaws.{spot_same, [], ◌≡◌, ◌+◌, ◌∷◌, ◌∙◌, ℕ, List, length, find, option_and_then, slice_get, arith, sym, ap, rules, Block, number, floor_number, is_target, spots_between, target, Command, command_of, Change, changes, Header, Read, Config, shape_of, command_id, register_or_zero, Known, command_at, next_command, learned, changed_by, IsHeldMore, HeldMore, MoreLaw, SameDriver, both_drivers, change_same, event_same, Alike}
 use Rattle.safety.proofs.AlikeChanges.{TargetIs, TargetsAre, change_alike}
 use Rattle.safety.proofs.AlikeEvents.{EventAlike, ReadAlike, read_alike}
 
@@ -44,10 +44,6 @@ module _ (h : Header) where
 
   -- ---- what is the same where queues and floors are
 
-  pub named_same : (r p : ℕ) (v w : RingView) → w.floor ≡ v.floor → w.queue ≡ v.queue → named (shape_of h r) w p ≡ named (shape_of h r) v p
-  unfolding named
-  named_same r p v w floor queue = search (rules, named_spot, shape_of, length, v.floor)
-
   module _ (P : ℕ → Type 0) where
     pub targets_are : (c : Command) (k l : Known) → Alike P k l → ((r : ℕ) → (l.ring r).queue ≡ (k.ring r).queue) → (all : List Change) → TargetsAre h c k l all
     unfolding target
@@ -70,7 +66,7 @@ module _ (h : Header) where
     reads = d.reads;
     room = let e = d.dequeue in omega arith;
     config = ap (λ x. register_or_zero x Config) d.register;
-    names = λ s i r p t has at. named_same r p (k.ring r) (l.ring r) (a.rings r).floor (d.rings r).queue ∙ at;
+    names = λ b r t has below at. spot_same h k l b r (a.rings r).floor (d.rings r).queue ∙ at;
     command = record {
       command = λ c may at. command_same k l (next_command h k) (d.rings (command_id h)).queue ∙ at;
       does = λ n c may at. ap (λ x. changes h.context_size x n c) d.memory;

@@ -1,6 +1,5 @@
 -- Where no command can have been taken an event leaves the command ring as it is
-use Rattle.safety.proofs.UpperLaws.{◌≡◌, false, [], refl, ap, false≢true, Block, BlockKind, TransferEvent, CommandCompletion, is_command_completion, kind, Header, Read, IsHeader, command_id, Known, event_read, learned, lenient, is_impossible_by_kind, may_be_taken, DriverKeeps, event_facts, endpoints_of, lt-ltb, sym, ◌∙◌, shape_of, next_command, ceiling, RingView, nat_lt, floor_number}
-use Rattle.safety.proofs.TransferFrames.{transfer_command}
+use Rattle.safety.proofs.MiddleLaws.{◌≡◌, false, [], refl, ap, false≢true, Block, BlockKind, TransferEvent, CommandCompletion, is_command_completion, kind, Header, Read, IsHeader, command_id, Known, event_read, learned, lenient, is_impossible_by_kind, may_be_taken, DriverKeeps, event_facts, endpoints_of, lt-ltb, sym, ◌∙◌, shape_of, next_command, ceiling, RingView, nat_lt, floor_number, transfer_command}
 use Rattle.safety.proofs.KeptRings.{completion_facts}
 
 module _ (h : Header) (is : IsHeader h) (k : Known) (d : DriverKeeps h k) (e : Block) (may : lenient h k (Read e) ≡ []) (none : may_be_taken h k ≡ false) where

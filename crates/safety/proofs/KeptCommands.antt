@@ -1,7 +1,6 @@
 -- The command ring holds commands, each alone in its descriptor, and is open from its first doorbell on: kept by each row
-use Rattle.safety.proofs.MiddleLaws.{profile_of, Profile, [], ◌≡◌, ◌-◌, ◌<◌, ◌⊎◌, ◌==◌, ◌&&◌, ◌++◌, ◌∙◌, ℕ, nat_lt, true, false, List, length, All, None, Some, is_some, slice_get, arith, refl, sym, ap, subst, inl, inr, get_or, length-append, eqb-true, ltb-true, rules, list_all, cases_lt, cond-false, and_cases, and_parts, or_parts, not-false, false≢true, slice_get_within, get_or_from_slice_get, get_or-append_right, All-push, All-get_or, Block, BlockKind, RingKind, Cmd, kind, is_command_completion, is_no_command, is_command_left_out, is_bad_descriptor, is_left_out, Data, Shape, is_shape, RingView, Declares, Reaches, changed, after, ceiling, cases_option, slice_get-append, ceiling_held, command_of, Header, Sub, Write, Reg, Bell, Read, IsHeader, may_stand_together, is_command_kind, ring_with, shape_of, command_ring, command_id, Known, on_ring, command_at, next_command, endpoint_rung, rung, finished, completed, event_read, learned, is_driver_ring, declaration_tests, lenient_tests, lenient, CommandRingKeeps, KeptByRows, EndpointsKeep, AllFail, tests_fail, each_fails, HasRing, has_ring, found_allowed, command_found, command_named, shape_is, command_not_transfer, ring_here, ring_elsewhere, finish_elsewhere, endpoints_of, view_after, register_leaves, written_view, transfer_command, event_facts, RegRead, status_leaves}
+use Rattle.safety.proofs.MiddleLaws.{profile_of, Profile, [], ◌≡◌, ◌-◌, ◌<◌, ◌⊎◌, ◌==◌, ◌&&◌, ◌++◌, ◌∙◌, ℕ, nat_lt, true, false, List, length, All, None, Some, is_some, slice_get, arith, refl, sym, ap, subst, inl, inr, get_or, length-append, eqb-true, ltb-true, rules, list_all, cases_lt, cond-false, and_cases, and_parts, or_parts, not-false, false≢true, slice_get_within, get_or_from_slice_get, get_or-append_right, All-push, All-get_or, Block, BlockKind, RingKind, Cmd, kind, is_command_completion, is_no_command, is_command_left_out, is_bad_descriptor, is_left_out, Data, Shape, is_shape, RingView, Declares, Reaches, changed, after, ceiling, cases_option, slice_get-append, ceiling_held, command_of, Header, Sub, Write, Reg, Bell, Read, IsHeader, may_stand_together, is_command_kind, ring_with, shape_of, command_ring, command_id, Known, on_ring, command_at, next_command, endpoint_rung, rung, finished, completed, event_read, learned, is_driver_ring, declaration_tests, lenient_tests, lenient, CommandRingKeeps, KeptByRows, EndpointsKeep, AllFail, tests_fail, each_fails, HasRing, has_ring, found_allowed, command_found, command_named, shape_is, command_not_transfer, ring_here, ring_elsewhere, finish_elsewhere, endpoints_of, view_after, register_leaves, written_view, transfer_command, event_facts, RegRead, status_leaves, command_with}
 use Rattle.safety.specs.DriverRings.{IsDriverRing}
-use Rattle.safety.proofs.NamesRing.{command_with}
 use Rattle.safety.proofs.KeptRings.{completion_facts}
 
 -- ---- the blocks of a declaration

@@ -1,12 +1,6 @@
 -- Whether the controller runs, and whether CRCR names the command ring, is kept by each row
-use Rattle.traces.specs.Versions.{has_runs}
-use Rattle.traces.specs.Halts.{told}
-use Rattle.safety.proofs.MiddleLaws.{◌≡◌, ◌&&◌, ◌||◌, ◌∙◌, if◌then◌else◌, ℕ, Bool, not, true, false, Option, refl, sym, ap, inl, inr, arith, false≢true, cases_Bool, Block, Header, Register, Usbcmd, Crcr, Sub, Write, Reg, Bell, Read, RegRead, IsHeader, command_id, kind, run_bit, reset_bit, Known, RunKeeps, DriverKeeps, KeptByRows, learned, is_used, is_named, is_asked, is_done, HaltState, is_some, is_value, is_in_run, register_written, valued, run_or_stop, runs_once, runs_again, event_read, is_bad_register, is_bad_command_register, is_early_resume, is_early_start, is_bad_crcr, or_parts, register_facts, bell_facts, status_leaves, declaration_leaves, write_leaves, bell_leaves, event_same, endpoints_of, IsDriverRing, NotHalting, cond_both, is_unwritten, and_from, false_from_ne_true}
-use Rattle.safety.proofs.NamesRing.{names_ring}
-use Rattle.safety.proofs.SafeContext.{named_in_run, not_done}
-use Rattle.safety.proofs.KeptRegisters.{some_is}
+use Rattle.safety.proofs.MiddleLaws.{has_runs, told, ◌≡◌, ◌&&◌, ◌||◌, ◌∙◌, if◌then◌else◌, ℕ, Bool, not, true, false, Option, refl, sym, ap, inl, inr, arith, false≢true, cases_Bool, Block, Header, Register, Usbcmd, Crcr, Sub, Write, Reg, Bell, Read, RegRead, IsHeader, command_id, kind, run_bit, reset_bit, Known, RunKeeps, DriverKeeps, KeptByRows, learned, is_used, is_named, is_asked, is_done, HaltState, is_some, is_value, is_in_run, register_written, valued, run_or_stop, runs_once, runs_again, event_read, is_bad_register, is_bad_command_register, is_early_resume, is_early_start, is_bad_crcr, or_parts, register_facts, bell_facts, status_leaves, declaration_leaves, write_leaves, bell_leaves, event_same, endpoints_of, IsDriverRing, NotHalting, cond_both, is_unwritten, and_from, false_from_ne_true, names_ring, named_in_run, not_done, some_is, transfer_command}
 use Rattle.safety.proofs.KeptCommands.{completed_view}
-use Rattle.safety.proofs.TransferFrames.{transfer_command}
 
 module _ (h : Header) where
   -- the phase is as it was, and so are what CRCR was written with and whether the command ring was started

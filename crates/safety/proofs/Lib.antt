@@ -9,6 +9,7 @@ pub mod Passing
 pub mod DriverRows
 pub mod NothingFree
 pub mod CodesTold
+pub mod NamedData
 pub mod Transfers
 pub mod Completions
 pub mod Histories

@@ -1,5 +1,6 @@
 -- Behind a look the run goes on
-use Rattle.safety.proofs.LowerLaws.{◌≡◌, ◌≢◌, ◌∙◌, ℕ, List, Some, sym, ap, inl, inr, cases_Bool, cases_eq, false≢true, Block, Header, IsHeader, command_id, World, looked, counted, Known, DriverKeeps, Agrees, Runs, all_read, ◌==◌, ◌&&◌, ◌||◌, ◌⊎◌, Bool, true, false, not, Option, None, is_some, slice_get, arith, refl, subst, eq-eqb, eqb-true, rules, cond-true, and_cases, or_cases, same_Some, Spot, Data, Link, is_inside, cycle_of_bit, Command, AddressDevice, command_of, shape_of, UnderWay, seen_by_look, crossed, taken_on, command_begun, may_scribble, next_command, was_stop_seen, IsDriverRing, IsUnfinished, RingState, state_of, RingMatches, CommandMatches, UnderWayMatches, TakenCommand, add-zero, ne_eqb, cond-false, or_from, not_from_true, after, spot_address, DeclaredBlock, declared_at, next_take, Unreported, BoundRing, Matches, looked_is, seen, LookEnds, only_seen, only_crossed, only_taken, only_begun, behind_link, behind_block, command_of-with_cycle, AtFloor, at_floor, command_is_ring, command_at_is, OnlyRing, matches_command, stands_only, events_only, late_only, read_only, matches_transfer, transfer_driver, ring_shape, spot_lies, agrees_counted, number_after, crossed_unreported, taken_unreported, is_named, is_used, is_value}
+use Rattle.safety.proofs.LowerLaws.{◌≡◌, ◌≢◌, ◌∙◌, ℕ, List, Some, sym, ap, inl, inr, cases_Bool, cases_eq, false≢true, Block, Header, IsHeader, command_id, World, looked, counted, Known, DriverKeeps, Agrees, Runs, all_read, ◌==◌, ◌&&◌, ◌||◌, ◌⊎◌, Bool, true, false, not, Option, None, is_some, slice_get, arith, refl, subst, eq-eqb, eqb-true, rules, cond-true, and_cases, or_cases, same_Some, Spot, Data, Link, is_inside, cycle_of_bit, Command, AddressDevice, command_of, shape_of, UnderWay, seen_by_look, crossed, taken_on, command_begun, may_scribble, next_command, was_stop_seen, IsDriverRing, IsUnfinished, RingState, state_of, RingMatches, CommandMatches, UnderWayMatches, TakenCommand, add-zero, ne_eqb, cond-false, or_from, not_from_true, after, spot_address, DeclaredBlock, declared_at, next_take, Unreported, BoundRing, Matches, looked_is, LookEnds, only_seen, only_crossed, only_taken, only_begun, behind_link, behind_block, command_of-with_cycle, AtFloor, at_floor, command_is_ring, command_at_is, OnlyRing, matches_command, stands_only, events_only, late_only, read_only, matches_transfer, transfer_driver, ring_shape, spot_lies, agrees_counted, number_after, crossed_unreported, taken_unreported, is_named, is_used, is_value}
+use Rattle.safety.proofs.LookKinds.{seen}
 use Rattle.world_state.specs.Looks.{taken}
 use Rattle.safety.proofs.LookSpots.{CrossDone, cross_done, TakeDone, take_done}
 
@@ -75,7 +76,7 @@ module _ (h : Header) (is : IsHeader h) (k : Known) (unread : List Block) (w : W
         let allowed = ring_shape h is r its_ring in
         let u = taken_unreported (shape_of h r) allowed.is allowed.other k.memory (k.ring r) (state_of w r) c.number
         (subst (λ t. RingMatches (shape_of h r) (k.ring r) (state_of w r) t) c.was b.matches)
-        (subst (λ t. Unreported (shape_of h r) (k.ring r) (state_of w r) t) c.was b.takes) (behind_block h w r (seen w r)).pointer (seen w r) (declared_then h w r) in
+        (subst (λ t. Unreported (shape_of h r) (k.ring r) (state_of w r) t) c.was b.takes) c.block (behind_block h w r (seen w r)).pointer (seen w r) (declared_then h w r) c.found in
         agrees_only v (behind_block h w r (seen w r)) o
         (matches_transfer h k w v r (behind_block h w r (seen w r)) o d g.matches other (now_at (behind_block h w r (seen w r)) (after (shape_of h r) c.number) c.matches u)
         rest.under_way rest.scribbles (rest.outside ∙ inside_still its_ring b.spot b.matches))

@@ -1,5 +1,6 @@
 -- A look at a ring of a rule-keeping driver: what it finds, and where the pointer stands behind it
-use Rattle.safety.proofs.LowerLaws.{◌≡◌, ◌+◌, ◌-◌, ◌%◌, ◌^◌, ◌≤◌, if◌then◌else◌, ◌∷◌, ◌∙◌, ℕ, true, false, arith, refl, sym, ap, subst, inl, inr, cases_Bool, false≢true, mod-eq_of_lt, is_set, aligned, block_at, cycle, kind, pointer, word, is_link, kind-with_cycle, Spot, Data, Link, address_of, cycle_of, link_address, after, spot_address, declared_at, ceiling, cycle_of_bit, next_is_spot, spot_address-after, Header, IsHeader, shape_of, World, Took, next_take, Known, IsDriverRing, DriverKeeps, Stands, RingMatches, state_of, rules, ring_shape, Takeable, Crossable, takeable, crossable, waits_at_block, waits_at_link, ceiling_open, step_inside, spot_lies, leads_on, crossed_matches, taken_matches, seen, behind_link, behind_block}
+use Rattle.safety.proofs.LowerLaws.{◌≡◌, ◌+◌, ◌-◌, ◌%◌, ◌^◌, ◌≤◌, if◌then◌else◌, ◌∷◌, ◌∙◌, ℕ, true, false, arith, refl, sym, ap, subst, inl, inr, cases_Bool, false≢true, mod-eq_of_lt, is_set, aligned, block_at, cycle, kind, pointer, word, is_link, kind-with_cycle, Spot, Data, Link, address_of, cycle_of, link_address, after, spot_address, declared_at, ceiling, cycle_of_bit, next_is_spot, spot_address-after, Header, IsHeader, shape_of, World, Took, next_take, Known, IsDriverRing, DriverKeeps, Stands, RingMatches, state_of, rules, ring_shape, Takeable, Crossable, takeable, crossable, waits_at_block, waits_at_link, ceiling_open, step_inside, spot_lies, leads_on, crossed_matches, taken_matches, behind_link, behind_block}
+use Rattle.safety.proofs.LookKinds.{seen}
 use Rattle.safety.proofs.Safe.{stands_at, block_found}
 
 module _ (h : Header) (is : IsHeader h) (k : Known) (w : World) (d : DriverKeeps h k) (s : Stands h k w) (r : ℕ) (ring : IsDriverRing h r) where

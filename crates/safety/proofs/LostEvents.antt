@@ -1,16 +1,7 @@
 -- Events that were posted and will not be read: they change no more than where rings stand and what is known of slots
-use Rattle.safety.proofs.MiddleLaws.{◌&&◌, ◌||◌, not, ceiling, ceiling_within, given_count, is_crossing, is_step_given, is_way_given, rings_of, shape_allowed}
-use Rattle.safety.proofs.UpperLaws.{[], ◌≡◌, ◌≤◌, ◌⊎◌, ◌∷◌, ◌∙◌, ℕ, false, List, refl, sym, ap, inl, inr, arith, subst, Block, kind, RingView, floor_number, Header, Read, IsHeader, shape_of, Known, learned, lenient, DriverKeeps, ArePossible, all_read}
-use Rattle.safety.proofs.SameDriver.{SameGiven, event_same}
-use Rattle.safety.specs.RingsKeep.{PassesNoMore}
+use Rattle.safety.proofs.UpperLaws.{◌&&◌, ◌||◌, not, ceiling, ceiling_within, given_count, is_crossing, is_step_given, is_way_given, rings_of, shape_allowed, [], ◌≡◌, ◌≤◌, ◌⊎◌, ◌∷◌, ◌∙◌, ℕ, false, List, refl, sym, ap, inl, inr, arith, subst, Block, kind, RingView, floor_number, Header, Read, IsHeader, shape_of, Known, learned, lenient, DriverKeeps, ArePossible, all_read, SameGiven, event_same, PassesNoMore, passes_both, behind_kept, event_on, given_count_still, given_count_near, Shape, last, last_from, last_most}
 use Rattle.safety.specs.DriverRings.{IsDriverRing}
-use Rattle.safety.proofs.Passing.{passes_both}
-use Rattle.safety.proofs.EventBehind.{behind_kept, event_on}
 use Rattle.safety.proofs.DriverHistories.{kept_driver}
-use Rattle.segments.proofs.GivenCount.{given_count_still}
-use Rattle.segments.proofs.Reaching.{given_count_near}
-use Rattle.segments.specs.ShapeValue.{Shape}
-use Rattle.safety.proofs.GivenUp.{last, last_from, last_most}
 
 module _ (h : Header) where
   -- a ring of the driver: its floor isn't behind where it was, and nothing free is passed that wasn't

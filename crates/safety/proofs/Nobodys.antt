@@ -1,15 +1,8 @@
 -- On the ID that no ring has nothing happens, whatever the row
-use Rattle.traces.specs.Header.{no_id}
-use Rattle.segments.specs.ShapeValue.{Shape}
-use Rattle.safety.specs.Keeps.{IsNobodys}
-use Rattle.safety.specs.EndpointsKeep as endpoints
-use Rattle.safety.proofs.MiddleLaws.{◌≡◌, ◌≢◌, ◌+◌, ◌≤◌, ◌<◌, ◌==◌, ◌||◌, ◌∙◌, ℕ, true, false, nat_le, nat_lt, Option, None, Some, arith, refl, sym, ap, subst, inl, inr, rules, and_parts, leb-true, ltb-true, cases_option, cond_both, false≢true, false_from_ne_true, Block, BlockKind, TransferEvent, CommandCompletion, kind, slot, endpoint, is_command_completion, number, after, place_count, RingView, Declares, Opens, Reaches, Writes, changed, gives, Command, Header, IsHeader, Sub, Write, Reg, Bell, Read, RegRead, ring_with, shape_of, command_id, Known, on_ring, command_at, next_command, endpoint_rung, rung, succeeded, stop_ended, finished, completed, event_read, learned, is_driver_ring, IsDriverRing, DriverKeeps, KeptByRows, EventFacts, event_facts, bell_facts, ring_elsewhere, endpoints_of, register_leaves, status_leaves, written_view, command_is_ring, named_in_run, named_if_taken}
-use Rattle.safety.proofs.Declaring.{may_declare}
-use Rattle.safety.proofs.RingIds.{none_has_256, transfer_driver}
-use Rattle.safety.proofs.TransferFrames.{transfer_off}
-use Rattle.safety.proofs.CommandRing.{no_places}
-use Rattle.safety.proofs.Endpoints.{changes_elsewhere}
+use Rattle.safety.proofs.MiddleLaws.{no_id, Shape, IsNobodys, ◌≡◌, ◌≢◌, ◌+◌, ◌≤◌, ◌<◌, ◌==◌, ◌||◌, ◌∙◌, ℕ, true, false, nat_le, nat_lt, Option, None, Some, arith, refl, sym, ap, subst, inl, inr, rules, and_parts, leb-true, ltb-true, cases_option, cond_both, false≢true, false_from_ne_true, Block, BlockKind, TransferEvent, CommandCompletion, kind, slot, endpoint, is_command_completion, number, after, place_count, RingView, Declares, Opens, Reaches, Writes, changed, gives, Command, Header, IsHeader, Sub, Write, Reg, Bell, Read, RegRead, ring_with, shape_of, command_id, Known, on_ring, command_at, next_command, endpoint_rung, rung, succeeded, stop_ended, finished, completed, event_read, learned, is_driver_ring, IsDriverRing, DriverKeeps, KeptByRows, EventFacts, event_facts, bell_facts, ring_elsewhere, endpoints_of, register_leaves, status_leaves, written_view, command_is_ring, named_in_run, named_if_taken, may_declare, none_has_256, transfer_off, no_places, changes_elsewhere}
+use Rattle.safety.proofs.RingIds.{transfer_driver}
 use Rattle.safety.proofs.KeptRings.{completion_facts}
+use Rattle.safety.specs.EndpointsKeep as endpoints
 
 -- a position of a ring without places is never due
 none_due : (shape : Shape) (v : RingView) (a w p : ℕ) → place_count shape ≡ 0 → gives shape v.floor p a w ≡ false

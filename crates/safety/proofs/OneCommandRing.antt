@@ -1,6 +1,6 @@
 -- The rings of a header have at most one command ring among them
+use Rattle.safety.proofs.Words.{[], ◌≡◌, ◌≢◌, ◌==◌, ◌&&◌, ◌∷◌, ◌∙◌, ℕ, Bool, not, true, false, List, find, refl, sym, list_any, cases_Bool, false≢true, and_parts, or_parts, or_from, not-true, eqb-true, arith, Header, Ring, IsHeader, clash, may_stand_together, is_command_kind, command_ring, command_id, id_or_none, is_command_ring, inl, inr}
 use Rattle.safety.proofs.RingIds.{together}
-use Rattle.safety.proofs.LowerLaws.{[], ◌≡◌, ◌≢◌, ◌==◌, ◌&&◌, ◌∷◌, ◌∙◌, ℕ, Bool, not, true, false, List, find, refl, sym, list_any, cases_Bool, false≢true, and_parts, or_parts, or_from, not-true, eqb-true, arith, Header, Ring, IsHeader, clash, may_stand_together, is_command_kind, command_ring, command_id, id_or_none, is_command_ring, inl, inr}
 
 abbrev is_command : Ring → Bool
 is_command q = is_command_kind q.shape.kind

@@ -1,8 +1,7 @@
 -- Whether the controller runs, halts or has halted, as the rows say and as the world has it
-use Rattle.safety.proofs.UpperLaws.{[], ◌≡◌, ◌∷◌, ◌∙◌, ◌&&◌, ◌||◌, ℕ, not, true, false, List, refl, sym, ap, inl, inr, and_parts, and_from, or_left, or_right, cases_Bool, cond-true, false≢true, false_from_ne_true, not_from_false, Block, kind, Header, Read, Register, Usbcmd, reset_bit, World, Known, learned, learned_read, event_same, all_read, is_asked, is_done, DriverKeeps, Runs}
-use Rattle.traces.specs.Versions.{has_runs}
-use Rattle.ring_knowledge.specs.Resets.{resets}
-use Rattle.ownership_rules.specs.Registers.{has_gap, is_bad_command_register, is_bad_register, is_early_reset, is_early_resume, saves_badly}
+use Rattle.safety.proofs.Words.{[], ◌≡◌, ◌∷◌, ◌∙◌, ◌&&◌, ◌||◌, ℕ, not, true, false, List, refl, sym, ap, inl, inr, and_parts, and_from, or_left, or_right, cases_Bool, cond-true, false≢true, false_from_ne_true, not_from_false, Block, kind, Header, Read, Register, Usbcmd, reset_bit, World, Known, learned, all_read, is_asked, is_done, DriverKeeps, Runs, has_runs, resets, has_gap, is_bad_command_register, is_bad_register, is_early_reset, is_early_resume, saves_badly}
+use Rattle.safety.proofs.EventRead.{learned_read}
+use Rattle.safety.proofs.SameDriver.{event_same}
 use Rattle.world_state.specs.DriverRows as driver
 
 module _ (h : Header) where

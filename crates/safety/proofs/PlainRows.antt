@@ -1,10 +1,5 @@
 -- What a row does that doesn't reset the controller; and a register that is read
-use Rattle.safety.proofs.LowerLaws.{◌≡◌, ◌&&◌, ◌||◌, ◌∙◌, if◌then◌else◌, ℕ, Bool, not, true, List, Option, Some, sym, subst, arith, cases_Bool, cond-true, cond-false, inl, inr, and_parts, cond_some, Usbsts, DriverKeeps, Block, Header, Row, Reg, RegRead, Register, World, counted, Known, learned, Agrees, is_asked, HaltState, register_read, status_read}
-use Rattle.traces.specs.Halts.{seen}
-use Rattle.traces.specs.Register.{halted_bit}
-use Rattle.safety.proofs.RowFrames.{seen_asked}
-use Rattle.safety.proofs.RowRegister.{agrees_once_counted}
-use Rattle.safety.proofs.RowRegisters.{phase_agrees}
+use Rattle.safety.proofs.MiddleLaws.{◌≡◌, ◌&&◌, ◌||◌, ◌∙◌, if◌then◌else◌, ℕ, Bool, not, true, List, Option, Some, sym, subst, arith, cases_Bool, cond-true, cond-false, inl, inr, and_parts, cond_some, Usbsts, DriverKeeps, Block, Header, Row, Reg, RegRead, Register, World, counted, Known, learned, Agrees, is_asked, HaltState, register_read, status_read, seen, halted_bit, seen_asked, agrees_once_counted, phase_agrees}
 use Rattle.world_state.specs.DriverRows as driver
 
 abbrev pub plain_done : Header → World → Row → Option World

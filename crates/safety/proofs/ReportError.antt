@@ -1,20 +1,20 @@
 -- The controller reports that an endpoint has halted, or gone to Error: the run goes on
-use Rattle.safety.proofs.MiddleLaws.{code_told, [], ◌≡◌, ◌≢◌, ◌+◌, ◌<◌, ◌==◌, ◌&&◌, ◌||◌, if◌then◌else◌, ◌∷◌, ◌++◌, ◌∙◌, ℕ, Bool, true, false, not, List, length, drop, Some, None, arith, refl, sym, ap, subst, rules, and_parts, and_from, and_right, or_left, or_right, cond-true, cond-false, not_from_true, none-some, same_Some, put, put_pair, Block, IsBlock, endpoint, kind, pointer, slot, is_transfer_event, is_command_completion, is_other_event, is_success, is_halting, is_trb_error, is_transfer_code, Data, Holds, ceiling, is_data_below, is_open, EndpointState, Halted, Error, is_running, Header, Read, IsHeader, shape_of, command_id, World, unreported, posted, is_last, with_reported, report_error, report_code, counted, Known, event_read, learned, event_at, on_ring, passed, broken_off, transferred, transferred_at, transfer_read, is_in_profile, is_working, can_report, can_report_at, DriverKeeps, RingState, state_of, BoundRing, Agrees, transfer_driver, transfer_not_command, ring_shape, agrees_counted, with_reads, PostKeeps, post_keeps, learned_read, event_clean, OnlyRing, stands_only, events_only, cond_is, put_at, put_off, LearnsRing, stands_learns, matches_learns, known_states, world_states, stands_states, events_states, matches_states, open_takes, broken_at, last_is, last_take, broken_matches, broken_unreported, held_open, possible, where_bound, IsReport, ReportKeeps, transfer_kind, spot_named, in_profile_is}
+use Rattle.safety.proofs.MiddleLaws.{spot_named, code_told, [], ◌≡◌, ◌≢◌, ◌+◌, ◌<◌, ◌==◌, ◌&&◌, ◌||◌, if◌then◌else◌, ◌∷◌, ◌++◌, ◌∙◌, ℕ, Bool, true, false, not, List, length, drop, Some, None, arith, refl, sym, ap, subst, rules, and_parts, and_from, and_right, or_left, or_right, cond-true, cond-false, not_from_true, none-some, same_Some, put, put_pair, Block, IsBlock, endpoint, kind, slot, is_transfer_event, is_command_completion, is_other_event, is_success, is_halting, is_trb_error, is_transfer_code, Data, Holds, ceiling, is_data_below, is_open, EndpointState, Halted, Error, is_running, Header, Read, IsHeader, shape_of, command_id, World, unreported, posted, names_last, with_reported, report_error, report_code, counted, Known, event_read, learned, event_at, on_ring, passed, broken_off, transferred, transferred_at, transfer_read, is_in_profile, is_working, can_report, can_report_at, DriverKeeps, RingState, state_of, BoundRing, Agrees, transfer_driver, transfer_not_command, ring_shape, agrees_counted, with_reads, PostKeeps, post_keeps, learned_read, event_clean, OnlyRing, stands_only, events_only, cond_is, put_at, put_off, LearnsRing, stands_learns, matches_learns, known_states, world_states, stands_states, events_states, matches_states, open_takes, broken_at, last_take, broken_matches, broken_unreported, held_open, possible, where_bound, IsReport, ReportKeeps, transfer_kind, event_named, in_profile_is}
 use Rattle.safety.proofs.ReportSuccess.{below_is}
 
 -- the ring at rest, its takes reported
 abbrev pub ended_ring : World → ℕ → ℕ → World
 ended_ring u r c = record u { reported = put u.reported r c; is_active = put u.is_active r false }
 
-pub record Breaks (h : Header) (u v : World) (s i r a : ℕ) (state : EndpointState) : Type 0 where
+pub record Breaks (h : Header) (u v : World) (s i r : ℕ) (b : Block) (state : EndpointState) : Type 0 where
   pub runs : is_running (u.endpoint_state s i) ≡ true
   pub active : u.is_active r ≡ true
-  pub last : is_last h a (open_takes (state_of u r)) ≡ true
+  pub last : names_last b (open_takes (state_of u r)) ≡ true
   pub is : world_states (ended_ring u r (u.reported r + length (open_takes (state_of u r)))) (put_pair u.endpoint_state s i state) ≡ v
 
-breaks_is : (h : Header) (u v : World) (s i r a : ℕ) (state : EndpointState) → report_error h u s i r a state ≡ Some v → Breaks h u v s i r a state
+breaks_is : (h : Header) (u v : World) (s i r : ℕ) (b : Block) (state : EndpointState) → report_error h u s i r b state ≡ Some v → Breaks h u v s i r b state
 unfolding report_error with_reported unreported
-breaks_is h u v s i r a state at = search (rules, cond_is, drop, and_parts, same_Some, none-some)
+breaks_is h u v s i r b state at = search (rules, cond_is, drop, and_parts, same_Some, none-some)
 
 pub only_ended : (u : World) (r c : ℕ) → OnlyRing u (ended_ring u r c) r (record (state_of u r) { active = false; reported = c })
 only_ended u r c = search (rules, put_at, put_off)
@@ -78,7 +78,7 @@ module _ (h : Header) (k : Known) (b : Block) (transfer : is_transfer_event (kin
   }
 
 module _ (h : Header) (is : IsHeader h) (k : Known) (unread : List Block) (w v : World) (b : Block) (block : IsBlock b) (running : w.stopped ≡ false) (d : DriverKeeps h k) (g : Agrees h k unread w)
-    (x : IsReport h k w v b) (state : EndpointState) (must : ℕ → ℕ → Bool) (by : BreaksBy h k b state must) (f : Breaks h (posted h w b) v (slot b) (endpoint b) x.ring (pointer b) state) where
+    (x : IsReport h k w v b) (state : EndpointState) (must : ℕ → ℕ → Bool) (by : BreaksBy h k b state must) (f : Breaks h (posted h w b) v (slot b) (endpoint b) x.ring b state) where
   p : PostKeeps h k unread w b
   p = post_keeps h is k unread w b block d g x.can
 
@@ -89,6 +89,7 @@ module _ (h : Header) (is : IsHeader h) (k : Known) (unread : List Block) (w v :
   other = transfer_not_command h is x.ring (d.states.transfer (slot b) (endpoint b) x.ring had)
 
   on_bound : BoundRing (shape_of h x.ring) k.ring_of (k.ring x.ring) (state_of (posted h w b) x.ring) x.ring → ReportKeeps h k unread w v b
+  unfolding spot_named
   on_bound bound =
       let r : ℕ = x.ring in
       let u : World = posted h w b in
@@ -96,10 +97,9 @@ module _ (h : Header) (is : IsHeader h) (k : Known) (unread : List Block) (w v :
       let allowed = (ring_shape h is r driver).is in
       let keeps = d.rings r driver in
       let s : RingState = state_of u r in
-      let end = last_is h (pointer b) (open_takes s) f.last in
-      let l = last_take (shape_of h r) allowed k.memory (k.ring r) keeps s bound.spot bound.matches bound.takes (pointer b) end.0 end.1 end.2 in
+      let l = last_take (shape_of h r) allowed k.memory (k.ring r) keeps s bound.spot bound.matches bound.takes b f.last in
       let q : ℕ = l.position in
-      let at = spot_named h k b r (Data q) by.code_is had l.named_is in
+      let at = event_named h k b r (Data q) by.code_is had l.named_is in
       let c : ℕ = u.reported r + length (open_takes s) in
       let learns = learns_held h k r q (k.reads + 1) in
       let o = only_ended u r c in
@@ -109,8 +109,8 @@ module _ (h : Header) (is : IsHeader h) (k : Known) (unread : List Block) (w v :
         index = bound.index;
         bound = bound.bound;
         spot = bound.spot;
-        matches = broken_matches (shape_of h r) allowed k.memory (k.ring r) keeps s bound.spot bound.matches bound.takes (pointer b) c l;
-        takes = broken_unreported (shape_of h r) allowed k.memory (k.ring r) keeps s bound.spot bound.matches bound.takes (pointer b) l;
+        matches = broken_matches (shape_of h r) allowed k.memory (k.ring r) keeps s bound.spot bound.matches bound.takes b c l;
+        takes = broken_unreported (shape_of h r) allowed k.memory (k.ring r) keeps s bound.spot bound.matches bound.takes b l;
       } in
       let z : World = ended_ring u r c in
       let m : Known = with_reads (held_behind h k r q) (k.reads + 1) in
@@ -131,7 +131,7 @@ module _ (h : Header) (is : IsHeader h) (k : Known) (unread : List Block) (w v :
         clean = event_clean h k w b g.stands g.read running p.can p.room
             (or_left (is_transfer_event (kind b) || is_command_completion (kind b)) (is_other_event (kind b)) (or_left (is_transfer_event (kind b)) (is_command_completion (kind b)) x.transfer))
             (possible h k b (record { ring = r; spot = Data q }) x.transfer at (by.may r q below (works h k (slot b) (endpoint b) r runs open_ring)) (d.states.on (slot b) (endpoint b) r had))
-            (and_right (is_transfer_event (kind b)) (not (is_in_profile h k b)) (not_from_true (is_in_profile h k b) (in_profile_is h k b x.no_data by.code_is)));
+            (and_right (is_transfer_event (kind b)) (not (is_in_profile h k b)) (not_from_true (is_in_profile h k b) (in_profile_is h k b x.may_data by.code_is)));
         agrees = subst (λ n. Agrees h n (unread ++ b ∷ []) (counted h v)) (sym learned_is) (subst (λ y. Agrees h (known_states m e must) (unread ++ b ∷ []) (counted h y)) f.is after_z);
       }
 
@@ -145,11 +145,11 @@ module _ (h : Header) (is : IsHeader h) (k : Known) (unread : List Block) (w v :
   unfolding report_code
   halted_keeps halting =
       error_keeps h is k unread w v b block running d g x Halted _ (halts h k b x.transfer fails halting)
-      (breaks_is h (posted h w b) v (slot b) (endpoint b) x.ring (pointer b) Halted (sym (cond-false (is_success (code_told h k b)) _ _ fails ∙ cond-true (is_halting (code_told h k b)) _ _ halting) ∙ x.by_code))
+      (breaks_is h (posted h w b) v (slot b) (endpoint b) x.ring b Halted (sym (cond-false (is_success (code_told h k b)) _ _ fails ∙ cond-true (is_halting (code_told h k b)) _ _ halting) ∙ x.by_code))
 
   pub erred_keeps : is_halting (code_told h k b) ≡ false → is_trb_error (code_told h k b) ≡ true → ReportKeeps h k unread w v b
   unfolding report_code
   erred_keeps quiet error =
       error_keeps h is k unread w v b block running d g x Error _ (errs h k b x.transfer fails quiet error)
-      (breaks_is h (posted h w b) v (slot b) (endpoint b) x.ring (pointer b) Error
+      (breaks_is h (posted h w b) v (slot b) (endpoint b) x.ring b Error
       (sym (cond-false (is_success (code_told h k b)) _ _ fails ∙ cond-false (is_halting (code_told h k b)) _ _ quiet ∙ cond-true (is_trb_error (code_told h k b)) _ _ error) ∙ x.by_code))

@@ -1,5 +1,5 @@
 -- Whatever the controller reports of a take, the run goes on
-use Rattle.safety.proofs.MiddleLaws.{event_read, is_set, word, not_from_false, not_from_true, or_from, or_left, or_right, and_right, transfer_read, event_at, transferred_at, transfer_kind, can_report_at, is_impossible_transfer, is_off, on_is, is_impossible_by_kind, IsOfService, told_same, is_code_of_profile, is_of_service, ◌⊎◌, code_told, [], ◌≡◌, ◌∙◌, false, List, Some, sym, inl, inr, cases_Bool, cond-false, none-some, Block, IsBlock, code, endpoint, pointer, slot, is_success, is_halting, is_trb_error, is_stopping, Header, IsHeader, World, posted, report_code, reported, counted, DriverKeeps, Agrees, Runs, all_read, Known, ◌≢◌, ◌+◌, ◌-◌, ◌<◌, ◌==◌, ◌&&◌, ◌||◌, ◌∷◌, ◌++◌, ℕ, Bool, true, not, length, Option, arith, refl, ap, subst, eq-eqb, lt-ltb, false≢true, and_from, cond-true, put_pair, kind, is_transfer_event, is_command_completion, is_other_event, Spot, Data, Shape, RingView, Reaches, Holds, floor_number, ceiling, given_count, is_stop_spot, named, stopped_number, cycle_of_bit, rank_least, command_of, is_stop_of, is_running, shape_of, command_id, UnderWay, is_stop_under_way, with_stopped, report_stop, command_at, next_command, on_ring, is_in_profile, RingState, state_of, BoundRing, RingMatches, Unreported, UnderWayMatches, CommandMatches, ◌≤◌, nat_lt, nat_le, drop, eqb-true, le-leb, rules, and_parts, not-false, same_Some, Link, number, is_way_given, Command, unreported, is_last, with_reported, stopped_with, was_stop_seen, Stands, EventsStand, TakenCommand, Matches, map, min, length-drop, drop-drop, range_with_len, address_of, rank, IsShape, declared, RingKeeps, rank_most, named_spot-near, given_count_declared, given_count_near, takes_of, IsReport, ReportKeeps, report_is, runs_more, success_keeps, where_bound, spot_named, in_profile_is, transfer_driver, transfer_not_command, ring_shape, command_of-with_cycle, ceiling_given, at_floor, command_is_ring, command_at_is, agrees_counted, with_reads, PostKeeps, post_keeps, learned_read, event_clean, stands_only, events_only, next_same, stands_learns, matches_learns, LearnsRing, open_takes, low, count, drop_range, last_is, last_take, cond_is, put_at, put_off, held_from, is_named, under_way_named, is_some, Crcr, Register}
+use Rattle.safety.proofs.MiddleLaws.{floor_unreported, event_read, not_from_true, or_from, or_left, or_right, and_right, transfer_read, event_at, transferred_at, transfer_kind, can_report_at, is_impossible_transfer, is_off, on_is, is_impossible_by_kind, IsOfService, told_same, is_code_of_profile, is_of_service, ◌⊎◌, code_told, [], ◌≡◌, ◌∙◌, false, List, Some, sym, inl, inr, cases_Bool, cond-false, none-some, Block, IsBlock, code, endpoint, pointer, slot, is_success, is_halting, is_trb_error, is_stopping, Header, IsHeader, World, posted, report_code, reported, counted, DriverKeeps, Agrees, Runs, all_read, Known, ◌≢◌, ◌+◌, ◌-◌, ◌<◌, ◌==◌, ◌&&◌, ◌||◌, ◌∷◌, ◌++◌, ℕ, Bool, true, not, length, Option, arith, refl, ap, subst, eq-eqb, lt-ltb, false≢true, and_from, cond-true, put_pair, kind, is_transfer_event, is_command_completion, is_other_event, Spot, Data, Shape, RingView, Reaches, Holds, floor_number, ceiling, given_count, is_stop_spot, named, stopped_number, cycle_of_bit, rank_least, command_of, is_stop_of, is_running, shape_of, command_id, UnderWay, is_stop_under_way, with_stopped, report_stop, command_at, next_command, on_ring, is_in_profile, RingState, state_of, BoundRing, RingMatches, Unreported, UnderWayMatches, CommandMatches, ◌≤◌, nat_lt, nat_le, drop, eqb-true, le-leb, rules, and_parts, not-false, same_Some, Link, number, is_way_given, Command, unreported, names_last, with_reported, stopped_with, was_stop_seen, Stands, EventsStand, TakenCommand, Matches, min, rank, IsShape, declared, RingKeeps, rank_most, named_spot-near, given_count_declared, given_count_near, IsReport, ReportKeeps, report_is, runs_more, success_keeps, where_bound, event_named, spot_named, by_address, stop_by_address, in_profile_is, transfer_driver, transfer_not_command, ring_shape, command_of-with_cycle, ceiling_given, at_floor, command_is_ring, command_at_is, agrees_counted, with_reads, PostKeeps, post_keeps, learned_read, event_clean, stands_only, events_only, next_same, stands_learns, matches_learns, LearnsRing, open_takes, low, count, last_take, cond_is, put_at, put_off, held_from, is_named, under_way_named, is_some, Crcr, Register}
 use Rattle.safety.proofs.Other.{silent_agrees}
 use Rattle.safety.proofs.ReportError.{halted_keeps, erred_keeps, ended_ring, only_ended, works}
 use Rattle.safety.proofs.StopRead.{StopCode, stop_transfer_code, stop_read, stop_possible}
@@ -44,21 +44,6 @@ module _ (shape : Shape) (is : IsShape shape) (memory : ℕ → ℕ) (v : RingVi
   pub stopped_matches : (f : Spot) (c n : ℕ) → rank f ≤ rank t → number t ≤ n → RingMatches shape (stopped_view v f n) (record s { active = false; reported = c }) t
   stopped_matches f c n reached below = held_from shape v s t f (Some n) false c m reached (omega (arith, ceiling_held shape (stopped_view v f n) n refl)) (λ on. absurd (false≢true on))
 
-  -- the takes before the floor's number are reported
-  pub stopped_unreported : (f : Spot) (n e : ℕ) → floor_number v + e ≡ number f → number f ≤ number t → Unreported shape (stopped_view v f n) (record s { active = false; reported = s.reported + e }) t
-  stopped_unreported f n e at below =
-      let before = low shape is memory v k s t m u in
-      let all = count shape is memory v k s t m u in
-      let rest : number t - floor_number v - e ≡ number t - number f = omega arith in
-      let long = length-drop s.reported (takes_of s.events) in
-      record {
-        takes = sym (drop-drop e s.reported (takes_of s.events)) ∙ ap (λ x. drop e x) u.takes
-            ∙ drop_range (address_of shape) (floor_number v) (number t - floor_number v) e (omega arith)
-            ∙ ap (λ b. map (address_of shape) (range_with_len b (number t - floor_number v - e))) at
-            ∙ ap (λ n. map (address_of shape) (range_with_len (number f) n)) rest;
-        most = omega (arith, u.most);
-      }
-
 -- What the report of a stop is, and what is known of the ring and of its Stop Endpoint behind it
 
 -- ---- what such a report is
@@ -71,17 +56,17 @@ pub stopped_world_is : (h : Header) (u : World) (r c : ℕ) → stopped_with h u
 unfolding stopped_with with_reported
 stopped_world_is h u r c = refl
 
-pub record IsStop (h : Header) (u v : World) (s i r a : ℕ) : Type 0 where
+pub record IsStop (h : Header) (u v : World) (s i r : ℕ) (b : Block) : Type 0 where
   pub under : is_stop_under_way h s i u.under_way ≡ true
   pub runs : is_running (u.endpoint_state s i) ≡ true
   pub active : u.is_active r ≡ true
   -- it names the last take, which stays unreported, or the pointer
-  pub names : ((is_last h a (open_takes (state_of u r)) ≡ true) × (stopped_with h u r (u.reported r + length (open_takes (state_of u r)) - 1) ≡ v))
-      ⊎ ((a ≡ u.pointer_of r) × (stopped_with h u r (u.reported r + length (open_takes (state_of u r))) ≡ v))
+  pub names : ((names_last b (open_takes (state_of u r)) ≡ true) × (stopped_with h u r (u.reported r + length (open_takes (state_of u r)) - 1) ≡ v))
+      ⊎ ((pointer b ≡ u.pointer_of r) × (stopped_with h u r (u.reported r + length (open_takes (state_of u r))) ≡ v))
 
-pub stop_is : (h : Header) (u v : World) (s i r a : ℕ) → report_stop h u s i r a ≡ Some v → IsStop h u v s i r a
+pub stop_is : (h : Header) (u v : World) (s i r : ℕ) (b : Block) → report_stop h u s i r b ≡ Some v → IsStop h u v s i r b
 unfolding report_stop unreported
-stop_is h u v s i r a at = search (rules, cond_is, none-some, not-false, and_parts, drop, same_Some, eqb-true)
+stop_is h u v s i r b at = search (rules, cond_is, none-some, not-false, and_parts, drop, same_Some, eqb-true)
 
 -- ---- what is known of the ring once the event is read
 
@@ -134,9 +119,9 @@ module _ (h : Header) (k : Known) (seen : ℕ → ℕ → Bool) (s i : ℕ) (may
   matches_seen w o m under on = search (rules, with_seen, false≢true)
 
 -- The controller reports that an endpoint has stopped: the run goes on
-pub code_stops : (h : Header) (u v : World) (c s i r a : ℕ) → StopCode c → report_code h u c s i r a ≡ Some v → report_stop h u s i r a ≡ Some v
+pub code_stops : (h : Header) (u v : World) (c s i r : ℕ) (b : Block) → StopCode c → report_code h u c s i r b ≡ Some v → report_stop h u s i r b ≡ Some v
 unfolding report_code
-code_stops h u v c s i r a stop at = search rules
+code_stops h u v c s i r b stop at = search rules
 
 under_way_is : (h : Header) (s i : ℕ) (o : Option UnderWay) → is_stop_under_way h s i o ≡ true → (x : UnderWay) × (o ≡ Some x) × (is_stop_of s i (command_of x.block) ≡ true)
 unfolding is_stop_under_way
@@ -154,17 +139,17 @@ put_pair_here : (f : ℕ → ℕ → Bool) (s i : ℕ) → put_pair f s i true s
 put_pair_here f s i = cond-true (s == s && i == i) true (f s i) (and_from (s == s) (i == i) (eq-eqb s s refl) (eq-eqb i i refl))
 
 -- the spot that a stop names, the number at which the ring is then held, and the ring behind it
-pub record StopSpot (h : Header) (k : Known) (u : World) (v : World) (r a : ℕ) (t : Spot) : Type 0 where
+pub record StopSpot (h : Header) (k : Known) (u : World) (v : World) (r : ℕ) (b : Block) (t : Spot) : Type 0 where
   pub spot : Spot
   pub count : ℕ
-  pub named_is : named (shape_of h r) (k.ring r) a ≡ Some spot
+  pub named_is : spot_named h k b r ≡ Some spot
   pub may : is_stop_spot (shape_of h r) (k.ring r) spot ≡ true
   pub matches : RingMatches (shape_of h r) (stopped_view (k.ring r) spot (stopped_number (shape_of h r) (k.ring r) spot)) (record (state_of u r) { active = false; reported = count }) t
   pub takes : Unreported (shape_of h r) (stopped_view (k.ring r) spot (stopped_number (shape_of h r) (k.ring r) spot)) (record (state_of u r) { active = false; reported = count }) t
   pub is : stopped_world h u r count ≡ v
 
 module _ (h : Header) (is : IsHeader h) (k : Known) (unread : List Block) (w v : World) (b : Block) (block : IsBlock b) (running : w.stopped ≡ false) (d : DriverKeeps h k) (g : Agrees h k unread w)
-    (x : IsReport h k w v b) (s : StopCode (code_told h k b)) (f : IsStop h (posted h w b) v (slot b) (endpoint b) x.ring (pointer b)) where
+    (x : IsReport h k w v b) (s : StopCode (code_told h k b)) (f : IsStop h (posted h w b) v (slot b) (endpoint b) x.ring b) where
   p : PostKeeps h k unread w b
   p = post_keeps h is k unread w b block d g x.can
 
@@ -174,7 +159,8 @@ module _ (h : Header) (is : IsHeader h) (k : Known) (unread : List Block) (w v :
   other : x.ring ≢ command_id h
   other = transfer_not_command h is x.ring (d.states.transfer (slot b) (endpoint b) x.ring had)
 
-  stop_spot : (bound : BoundRing (shape_of h x.ring) k.ring_of (k.ring x.ring) (state_of (posted h w b) x.ring) x.ring) → StopSpot h k (posted h w b) v x.ring (pointer b) bound.spot
+  stop_spot : (bound : BoundRing (shape_of h x.ring) k.ring_of (k.ring x.ring) (state_of (posted h w b) x.ring) x.ring) → StopSpot h k (posted h w b) v x.ring b bound.spot
+  unfolding spot_named
   stop_spot bound =
       let r : ℕ = x.ring in
       let u : World = posted h w b in
@@ -188,21 +174,20 @@ module _ (h : Header) (is : IsHeader h) (k : Known) (unread : List Block) (w v :
       let all = count (shape_of h r) allowed k.memory (k.ring r) keeps z t bound.matches bound.takes in
       elim f.names [
         | inl last ↦
-            let end = last_is h (pointer b) (open_takes z) last.0 in
-            let l = last_take (shape_of h r) allowed k.memory (k.ring r) keeps z t bound.matches bound.takes (pointer b) end.0 end.1 end.2 in
-            let e : ℕ = end.0 in
+            let l = last_take (shape_of h r) allowed k.memory (k.ring r) keeps z t bound.matches bound.takes b last.0 in
+            let e : ℕ = l.position - floor_number (k.ring r) in
             let c : ℕ = u.reported r + e in
-            let same : u.reported r + length (open_takes z) - 1 ≡ u.reported r + e = omega (arith, end.1) in
+            let same : u.reported r + length (open_takes z) - 1 ≡ u.reported r + e = omega (arith, l.from, l.last) in
             let n = stopped_high (shape_of h r) allowed k.memory (k.ring r) keeps z t bound.matches bound.takes (Data l.position) (stopped_number (shape_of h r) (k.ring r) (Data l.position)) refl (inr (l.position, refl, l.last)) in
             let top = rank_least t in
-            let at : floor_number (k.ring r) + e ≡ l.position = omega (arith, end.1, l.last) in
+            let at : floor_number (k.ring r) + e ≡ l.position = omega (arith, l.from) in
             record {
               spot = Data l.position;
               count = c;
               named_is = l.named_is;
               may = below_stop (shape_of h r) (k.ring r) l.position (omega (arith, l.last, bound.matches.below));
               matches = stopped_matches (shape_of h r) allowed k.memory (k.ring r) keeps z t bound.matches bound.takes (Data l.position) c _ (omega (arith, l.last)) n;
-              takes = stopped_unreported (shape_of h r) allowed k.memory (k.ring r) keeps z t bound.matches bound.takes (Data l.position) _ e at (omega (arith, l.last));
+              takes = floor_unreported (shape_of h r) allowed k.memory (k.ring r) keeps z t bound.matches bound.takes (Data l.position) _ false e at (omega (arith, l.last));
               is = ap (λ y. stopped_world h u r y) (sym same) ∙ sym (stopped_world_is h u r _) ∙ last.1;
             }
         | inr here ↦
@@ -211,10 +196,10 @@ module _ (h : Header) (is : IsHeader h) (k : Known) (unread : List Block) (w v :
             record {
               spot = t;
               count = u.reported r + e;
-              named_is = ap (λ a. named (shape_of h r) (k.ring r) a) here.0 ∙ pointer_named (shape_of h r) allowed k.memory (k.ring r) keeps z t bound.matches bound.takes;
+              named_is = by_address (shape_of h r) (k.ring r) b (stop_by_address h k b x.may_data s.stopping) ∙ ap (λ a. named (shape_of h r) (k.ring r) a) here.0 ∙ pointer_named (shape_of h r) allowed k.memory (k.ring r) keeps z t bound.matches bound.takes;
               may = may_stop_at (shape_of h r) (k.ring r) t (omega (arith, bound.matches.below)) bound.matches.way;
               matches = stopped_matches (shape_of h r) allowed k.memory (k.ring r) keeps z t bound.matches bound.takes t (u.reported r + e) _ (omega arith) n;
-              takes = stopped_unreported (shape_of h r) allowed k.memory (k.ring r) keeps z t bound.matches bound.takes t _ e (omega arith) (omega arith);
+              takes = floor_unreported (shape_of h r) allowed k.memory (k.ring r) keeps z t bound.matches bound.takes t _ false e (omega arith) (omega arith);
               is = sym (stopped_world_is h u r _) ∙ here.1;
             }
       ]
@@ -238,7 +223,7 @@ module _ (h : Header) (is : IsHeader h) (k : Known) (unread : List Block) (w v :
       let u : World = posted h w b in
       let q = stop_spot bound in
       let n : ℕ = stopped_number (shape_of h r) (k.ring r) q.spot in
-      let at = spot_named h k b r q.spot (stop_transfer_code (code_told h k b) s) had q.named_is in
+      let at = event_named h k b r q.spot (stop_transfer_code (code_told h k b) s) had q.named_is in
       let learns = learns_stopped h k r n (k.reads + 1) q.spot in
       let o = only_ended u r q.count in
       let next : BoundRing (shape_of h r) k.ring_of (stopped_view (k.ring r) q.spot n) (record (state_of u r) { active = false; reported = q.count }) r =
@@ -270,7 +255,7 @@ module _ (h : Header) (is : IsHeader h) (k : Known) (unread : List Block) (w v :
         clean = event_clean h k w b g.stands g.read running p.can p.room
             (or_left (is_transfer_event (kind b) || is_command_completion (kind b)) (is_other_event (kind b)) (or_left (is_transfer_event (kind b)) (is_command_completion (kind b)) x.transfer))
             (stop_possible h k b r q.spot x.transfer s at (works h k (slot b) (endpoint b) r runs open_ring) (taken_now h k stop.0) stop.1 q.may (d.states.on (slot b) (endpoint b) r had))
-            (and_right (is_transfer_event (kind b)) (not (is_in_profile h k b)) (not_from_true (is_in_profile h k b) (in_profile_is h k b x.no_data (stop_transfer_code (code_told h k b) s))));
+            (and_right (is_transfer_event (kind b)) (not (is_in_profile h k b)) (not_from_true (is_in_profile h k b) (in_profile_is h k b x.may_data (stop_transfer_code (code_told h k b) s))));
         agrees = subst (λ n. Agrees h n (unread ++ b ∷ []) (counted h v)) (sym (learned_read h k b ∙ ap (λ n. with_reads n (k.reads + 1)) (stop_read h k b r q.spot x.transfer s at)))
             (subst (λ e. Agrees h (with_seen h m seen (slot b) (endpoint b) may) (unread ++ b ∷ []) (counted h e)) q.is after_z);
       }
@@ -291,7 +276,7 @@ module _ (h : Header) (is : IsHeader h) (k : Known) (unread : List Block) (w v :
             | inr right ↦ elim (cases_Bool (is_stopping (code_told h k b))) [
               | inl stopping ↦
                   let s : StopCode (code_told h k b) = record { success = fails; halting = quiet; error = right; stopping = stopping } in
-                  stop_keeps h is k unread w v b block running d g x s (stop_is h (posted h w b) v (slot b) (endpoint b) x.ring (pointer b) (code_stops h (posted h w b) v (code_told h k b) (slot b) (endpoint b) x.ring (pointer b) s x.by_code))
+                  stop_keeps h is k unread w v b block running d g x s (stop_is h (posted h w b) v (slot b) (endpoint b) x.ring b (code_stops h (posted h w b) v (code_told h k b) (slot b) (endpoint b) x.ring b s x.by_code))
               | inr going ↦ absurd (none-some v (sym (cond-false _ _ _ fails ∙ cond-false _ _ _ quiet ∙ cond-false _ _ _ right ∙ cond-false _ _ _ going) ∙ x.by_code))
             ]
           ]
@@ -310,7 +295,7 @@ module _ (h : Header) (is : IsHeader h) (k : Known) (unread : List Block) (w v :
 
   service_inside : is_in_profile h k b ≡ true
   unfolding is_in_profile is_code_of_profile
-  service_inside = and_from _ _ (not_from_false (is_set (word b 3) 2) x.no_data) (or_right _ _ (and_from _ _ x.has (or_left _ _ x.service)))
+  service_inside = and_from _ _ x.may_data (or_right _ _ (and_from _ _ x.has (or_left _ _ x.service)))
 
   service_keeps : ReportKeeps h k unread w v b
   service_keeps =

@@ -1,5 +1,5 @@
 -- The controller reports that a take has succeeded: the run goes on
-use Rattle.safety.proofs.LowerLaws.{None, cond-false, ◌⊎◌, ◌&&◌, counted_code, is_of_service, has_isoch, code_told, code_posted, in_profile_is, no_service, [], ◌≡◌, ◌≢◌, ◌+◌, ◌<◌, ◌==◌, ◌||◌, ◌∷◌, ◌++◌, ◌∙◌, ℕ, true, false, not, List, drop, Option, Some, position, arith, refl, sym, ap, subst, inl, inr, lt-ltb, rules, false≢true, and_parts, and_right, or_from, or_left, cond-true, not-true, not_from_true, none-some, same_Some, Block, BlockKind, is_set, IsBlock, code, endpoint, kind, pointer, slot, word, is_transfer_event, is_command_completion, is_other_event, is_success, is_transfer_code, Spot, Data, after, number, floor_number, ceiling, named, is_data_below, Off, is_off, Header, Read, IsHeader, shape_of, command_id, World, takes_of, unreported, can_post, posted, with_reported, report_success, report_code, reported_on, reported, counted, Known, event_read, learned, RingSpot, event_at, on_ring, spot_on, passed, transferred, transferred_at, transfer_read, lenient, is_in_profile, is_impossible_by_kind, is_impossible_transfer, can_report, can_report_at, DriverKeeps, state_of, BoundRing, Agrees, Runs, all_read, TransferEvent, transfer_driver, transfer_not_command, ring_shape, agrees_counted, with_reads, OnlyRing, stands_only, events_only, late_only, cond_is, put_at, put_off, LearnsRing, stands_learns, matches_learns}
+use Rattle.safety.proofs.LowerLaws.{may_have_data, spot_named, names, None, cond-false, ◌⊎◌, ◌&&◌, counted_code, is_of_service, has_isoch, code_told, code_posted, in_profile_is, no_service, [], ◌≡◌, ◌≢◌, ◌+◌, ◌<◌, ◌||◌, ◌∷◌, ◌++◌, ◌∙◌, ℕ, true, false, not, List, drop, Option, Some, position, arith, refl, sym, ap, subst, inl, inr, lt-ltb, rules, false≢true, and_parts, and_right, or_from, or_left, cond-true, not-true, not_from_true, none-some, same_Some, Block, BlockKind, IsBlock, code, endpoint, kind, slot, is_transfer_event, is_command_completion, is_other_event, is_success, is_transfer_code, Spot, Data, after, number, floor_number, ceiling, is_data_below, Off, is_off, Header, Read, IsHeader, shape_of, command_id, World, takes_of, unreported, can_post, posted, with_reported, report_success, report_code, reported_on, reported, counted, Known, event_read, learned, RingSpot, event_at, on_ring, spot_on, passed, transferred, transferred_at, transfer_read, lenient, is_in_profile, is_impossible_by_kind, is_impossible_transfer, can_report, can_report_at, DriverKeeps, state_of, BoundRing, Agrees, Runs, all_read, TransferEvent, transfer_driver, transfer_not_command, ring_shape, agrees_counted, with_reads, OnlyRing, stands_only, events_only, late_only, cond_is, put_at, put_off, LearnsRing, stands_learns, matches_learns}
 use Rattle.std.proofs.Common.{option_map}
 use Rattle.safety.proofs.Posted.{PostKeeps, post_keeps}
 use Rattle.safety.proofs.EventRead.{learned_read, event_clean, blocks_more, possible_more, read_more}
@@ -15,16 +15,16 @@ mapped f o y at = grind (arith, none-some, same_Some)
 pub record IsReport (h : Header) (k : Known) (w v : World) (b : Block) : Type 0 where
   pub can : can_post h w b ≡ true
   pub transfer : is_transfer_event (kind b) ≡ true
-  pub no_data : is_set (word b 3) 2 ≡ false
+  pub may_data : may_have_data h.version b ≡ true
   pub ring : ℕ
   pub had : w.ring_of (slot b) (endpoint b) ≡ Some ring
-  pub by_code : report_code h (posted h w b) (code_told h k b) (slot b) (endpoint b) ring (pointer b) ≡ Some v
+  pub by_code : report_code h (posted h w b) (code_told h k b) (slot b) (endpoint b) ring b ≡ Some v
 
 -- it tells of the service of its endpoint, and of no block
 pub record IsOfService (h : Header) (w v : World) (b : Block) : Type 0 where
   pub can : can_post h w b ≡ true
   pub transfer : is_transfer_event (kind b) ≡ true
-  pub no_data : is_set (word b 3) 2 ≡ false
+  pub may_data : may_have_data h.version b ≡ true
   pub has : has_isoch h.version ≡ true
   pub service : is_of_service (code b) ≡ true
   pub ring : ℕ
@@ -35,7 +35,7 @@ pub record IsOfService (h : Header) (w v : World) (b : Block) : Type 0 where
 record SaysOn (h : Header) (k : Known) (w v : World) (b : Block) (o : Option ℕ) : Type 0 where
   ring : ℕ
   had : o ≡ Some ring
-  says : (report_code h (posted h w b) (code_told h k b) (slot b) (endpoint b) ring (pointer b) ≡ Some v)
+  says : (report_code h (posted h w b) (code_told h k b) (slot b) (endpoint b) ring b ≡ Some v)
       ⊎ ((has_isoch h.version ≡ true) × (is_of_service (code b) ≡ true) × (posted h w b ≡ v))
 
 says_on : (h : Header) (k : Known) (w v : World) (b : Block) (o : Option ℕ) → code_posted h w b ≡ code_told h k b → reported_on h w b o ≡ Some v → SaysOn h k w v b o
@@ -55,7 +55,7 @@ reported_can h w v b at = search (rules, cond_is, and_parts, none-some)
 pub report_is : (h : Header) (k : Known) (w v : World) (b : Block) → code_posted h w b ≡ code_told h k b → reported h w b ≡ Some v → (IsReport h k w v b) ⊎ (IsOfService h w v b)
 unfolding reported
 report_is h k w v b told at =
-    elim (cond_is (can_post h w b && is_transfer_event (kind b) && not (is_set (word b 3) 2)) (reported_on h w b (w.ring_of (slot b) (endpoint b))) None (Some v) at) [
+    elim (cond_is (can_post h w b && is_transfer_event (kind b) && may_have_data h.version b) (reported_on h w b (w.ring_of (slot b) (endpoint b))) None (Some v) at) [
       | inl may ↦
           let on = says_on h k w v b (w.ring_of (slot b) (endpoint b)) told may.1 in
           elim on.says [ inl by ↦ inl (search (rules, and_parts, not-true, on.had)) | inr of ↦ inr (search (rules, and_parts, not-true, on.had)) ]
@@ -64,10 +64,10 @@ report_is h k w v b told at =
 
 -- ---- a success
 
-success_is : (h : Header) (u v : World) (c s i r a : ℕ) → is_success c ≡ true → report_code h u c s i r a ≡ Some v →
-    (n : ℕ) × (position (λ b. b == a) (open_takes (state_of u r)) ≡ Some n) × (with_reported h u r (u.reported r + n + 1) ≡ v)
+success_is : (h : Header) (u v : World) (c s i r : ℕ) (b : Block) → is_success c ≡ true → report_code h u c s i r b ≡ Some v →
+    (n : ℕ) × (position (names b) (open_takes (state_of u r)) ≡ Some n) × (with_reported h u r (u.reported r + n + 1) ≡ v)
 unfolding report_code report_success unreported
-success_is h u v c s i r a success at = search (rules, mapped, with_reported, reported, position, drop, takes_of, cond-true, is_success, option_map)
+success_is h u v c s i r b success at = search (rules, mapped, with_reported, reported, position, drop, takes_of, cond-true, is_success, option_map)
 
 only_reported : (h : Header) (u : World) (r n : ℕ) → OnlyRing u (with_reported h u r n) r (record (state_of u r) { reported = n })
 unfolding with_reported
@@ -90,10 +90,10 @@ learns_passed : (h : Header) (k : Known) (r n : ℕ) (t : Spot) → LearnsRing k
 unfolding passed on_ring
 learns_passed h k r n t = search (rules, put_at, put_off)
 
-pub spot_named : (h : Header) (k : Known) (b : Block) (r : ℕ) (t : Spot) → is_transfer_code (code_told h k b) ≡ true → k.ring_of (slot b) (endpoint b) ≡ Some r → named (shape_of h r) (k.ring r) (pointer b) ≡ Some t →
+pub event_named : (h : Header) (k : Known) (b : Block) (r : ℕ) (t : Spot) → is_transfer_code (code_told h k b) ≡ true → k.ring_of (slot b) (endpoint b) ≡ Some r → spot_named h k b r ≡ Some t →
     event_at h k b ≡ Some (record { ring = r; spot = t })
 unfolding event_at spot_on code_told
-spot_named h k b r t told had is = search (rules, no_service, cond-false, spot_on, pointer, option_map)
+event_named h k b r t told had is = grind (arith, no_service, cond-false, option_map)
 
 success_read : (h : Header) (k : Known) (b : Block) (r : ℕ) (t : Spot) → is_transfer_event (kind b) ≡ true → is_success (code_told h k b) ≡ true → event_at h k b ≡ Some (record { ring = r; spot = t }) →
     event_read h k (kind b) b ≡ passed h k r t
@@ -151,16 +151,17 @@ module _ (h : Header) (is : IsHeader h) (k : Known) (unread : List Block) (w v :
       ]
 
   on_bound : is_success (code_told h k b) ≡ true → BoundRing (shape_of h x.ring) k.ring_of (k.ring x.ring) (state_of (posted h w b) x.ring) x.ring → ReportKeeps h k unread w v b
+  unfolding spot_named
   on_bound success bound =
       let r : ℕ = x.ring in
       let u : World = posted h w b in
       let driver = transfer_driver h r (d.states.transfer (slot b) (endpoint b) r had) in
       let allowed = (ring_shape h is r driver).is in
       let keeps = d.rings r driver in
-      let f = success_is h u v (code_told h k b) (slot b) (endpoint b) r (pointer b) success x.by_code in
-      let named_take = reported_is (shape_of h r) allowed k.memory (k.ring r) keeps (state_of u r) bound.spot bound.matches bound.takes (pointer b) f.0 f.1 in
+      let f = success_is h u v (code_told h k b) (slot b) (endpoint b) r b success x.by_code in
+      let named_take = reported_is (shape_of h r) allowed k.memory (k.ring r) keeps (state_of u r) bound.spot bound.matches bound.takes b f.0 f.1 in
       let q : ℕ = floor_number (k.ring r) + f.0 in
-      let at = spot_named h k b r (Data q) (success_code (code_told h k b) success) had named_take.named_is in
+      let at = event_named h k b r (Data q) (success_code (code_told h k b) success) had named_take.named_is in
       let l = learns_passed h k r (k.reads + 1) (Data q) in
       let c : ℕ = u.reported r + f.0 + 1 in
       let o = only_reported h u r c in
@@ -170,8 +171,8 @@ module _ (h : Header) (is : IsHeader h) (k : Known) (unread : List Block) (w v :
         index = bound.index;
         bound = bound.bound;
         spot = bound.spot;
-        matches = reported_matches (shape_of h r) allowed k.memory (k.ring r) keeps (state_of u r) bound.spot bound.matches bound.takes (pointer b) f.0 c named_take;
-        takes = reported_unreported (shape_of h r) allowed k.memory (k.ring r) keeps (state_of u r) bound.spot bound.matches bound.takes (pointer b) f.0 named_take;
+        matches = reported_matches (shape_of h r) allowed k.memory (k.ring r) keeps (state_of u r) bound.spot bound.matches bound.takes b f.0 c named_take;
+        takes = reported_unreported (shape_of h r) allowed k.memory (k.ring r) keeps (state_of u r) bound.spot bound.matches bound.takes b f.0 named_take;
       } in
       let z : World = with_reported h u r c in
       let m : Known = with_reads (passed h k r (Data q)) (k.reads + 1) in
@@ -186,7 +187,7 @@ module _ (h : Header) (is : IsHeader h) (k : Known) (unread : List Block) (w v :
         clean = event_clean h k w b g.stands g.read running p.can p.room
             (or_left (is_transfer_event (kind b) || is_command_completion (kind b)) (is_other_event (kind b)) (or_left (is_transfer_event (kind b)) (is_command_completion (kind b)) x.transfer))
             (possible h k b (record { ring = r; spot = Data q }) x.transfer at (may_report h k b r q success (omega (arith, named_take.within, bound.matches.below))) (d.states.on (slot b) (endpoint b) r had))
-            (and_right (is_transfer_event (kind b)) (not (is_in_profile h k b)) (not_from_true (is_in_profile h k b) (in_profile_is h k b x.no_data (success_code (code_told h k b) success))));
+            (and_right (is_transfer_event (kind b)) (not (is_in_profile h k b)) (not_from_true (is_in_profile h k b) (in_profile_is h k b x.may_data (success_code (code_told h k b) success))));
         agrees = subst (λ n. Agrees h n (unread ++ b ∷ []) (counted h v)) (sym learned_is) (subst (λ y. Agrees h m (unread ++ b ∷ []) (counted h y)) f.2 after_z);
       }
 

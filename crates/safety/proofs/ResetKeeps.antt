@@ -1,14 +1,7 @@
 -- Behind a reset the driver keeps what it kept
-use Rattle.safety.proofs.MiddleLaws.{[], ◌≡◌, ◌≢◌, ◌≤◌, ◌&&◌, ◌∙◌, ℕ, not, true, false, nat_le, Some, None, arith, refl, sym, ap, subst, inl, inr, eq-eqb, eqb-true, le-leb, cases_Bool, cases_option, cond_both, cond-true, cond-false, and_from, and_parts, false≢true, false_from_ne_true, none-some, Shape, place_count, RingView, floor_number, given_count, due_positions, due_is, RingKeeps, IsRestored, given_up, held_at_given, Command, Header, Ring, Register, Reg, Usbcmd, IsHeader, ring_with, shape_of, command_ring, command_id, id_of, is_ring, reset_bit, is_asked, is_done, HaltState, Known, reset, resets, is_used, is_value, is_bad_register, is_bad_command_register, is_early_reset, has_gap, lenient, IsDriverRing, IsUnfinished, Unstarted, RunKeeps, StatesKeep, DriverKeeps, any_of, in_range, command_named, register_facts, ring_shape, floor_given, number, ceiling_held, All, All-nil, length}
-use Rattle.segments.proofs.GivenCount.{given_count_most}
-use Rattle.safety.proofs.GivenUp.{floor_behind, gives_up_keeps, held_keeps, last, last_to}
+use Rattle.safety.proofs.MiddleLaws.{[], ◌≡◌, ◌≢◌, ◌≤◌, ◌&&◌, ◌∙◌, ℕ, not, true, false, nat_le, Some, None, arith, refl, sym, ap, subst, inl, inr, eq-eqb, eqb-true, le-leb, cases_Bool, cases_option, cond_both, cond-true, cond-false, and_from, and_parts, false≢true, false_from_ne_true, none-some, Shape, place_count, RingView, floor_number, given_count, due_positions, due_is, RingKeeps, IsRestored, given_up, held_at_given, Command, Header, Ring, Register, Reg, Usbcmd, IsHeader, ring_with, shape_of, command_ring, command_id, id_of, is_ring, reset_bit, is_asked, is_done, HaltState, Known, reset, resets, is_used, is_value, is_bad_register, is_bad_command_register, is_early_reset, has_gap, lenient, IsDriverRing, IsUnfinished, Unstarted, RunKeeps, StatesKeep, DriverKeeps, any_of, in_range, command_named, register_facts, ring_shape, floor_given, number, ceiling_held, All, All-nil, length, given_count_most, gives_up_keeps, held_keeps, last, last_to, command_driver, none_has_256, no_places, IsNobodys, no_id, slice_get_past}
+use Rattle.safety.proofs.GivenUp.{floor_behind}
 use Rattle.safety.proofs.KeptCommands.{ViewOfCommands, from_view}
-use Rattle.safety.proofs.NamesRing.{command_driver}
-use Rattle.safety.proofs.RingIds.{none_has_256}
-use Rattle.safety.proofs.CommandRing.{no_places}
-use Rattle.safety.specs.Keeps.{IsNobodys}
-use Rattle.traces.specs.Header.{no_id}
-use Rattle.std.proofs.lemmas.Option.{slice_get_past}
 
 -- how a row resets the controller
 pub record IsReset (k : Known) (r : Register) (x : ℕ) : Type 0 where

@@ -1,11 +1,8 @@
 -- A reset of a controller that has halted: the run goes on, and the events that weren't read are lost
-use Rattle.safety.proofs.MiddleLaws.{[], ◌≡◌, ◌≢◌, ◌≤◌, ◌∙◌, ℕ, not, true, false, List, Some, arith, refl, sym, ap, subst, inl, inr, cases_Bool, cases_option, cond-true, cond_both, false≢true, none-some, same_Some, slice_get_past, Block, Shape, RingView, floor_number, ceiling, given_up, held_at_given, rank_least, rank_most, Header, Ring, Register, Reg, IsHeader, shape_of, command_ring, command_id, id_of, is_ring, is_done, Known, reset, resets, is_used, is_value, is_named, World, next_take, is_out_of_order, has_other_words, NotNamed, Stands, EventsStand, Matches, Agrees, DriverKeeps, lenient, Runs, all_read, counted, IsUnfinished, agrees_once_counted, Command, All-nil, IsBlock}
-use Rattle.safety.specs.Matches.{EndpointRing}
+use Rattle.safety.proofs.UpperLaws.{[], ◌≡◌, ◌≢◌, ◌≤◌, ◌∙◌, ℕ, not, true, false, List, Some, arith, refl, sym, ap, subst, inl, inr, cases_Bool, cases_option, cond-true, cond_both, false≢true, none-some, same_Some, slice_get_past, Block, Shape, RingView, floor_number, ceiling, given_up, held_at_given, rank_least, rank_most, Header, Ring, Register, Reg, IsHeader, shape_of, command_ring, command_id, id_of, is_ring, is_done, Known, reset, resets, is_used, is_value, is_named, World, next_take, is_out_of_order, has_other_words, NotNamed, Stands, EventsStand, Matches, Agrees, DriverKeeps, lenient, Runs, all_read, counted, IsUnfinished, agrees_once_counted, Command, All-nil, IsBlock, EndpointRing, ceiling_last, IsReset, done_asked, not_command, reset_is, nobodys_unused, none_left, view_command, view_other, no_id}
 use Rattle.safety.proofs.DriverHistories.{run_keeps}
-use Rattle.safety.proofs.GivenUp.{ceiling_last}
 use Rattle.safety.proofs.LostEvents.{Lost, come_within, events_lost, floor_on}
-use Rattle.safety.proofs.ResetKeeps.{IsReset, done_asked, here, not_command, reset_is, nobodys_unused, none_left, view_command, view_other}
-use Rattle.traces.specs.Header.{no_id}
+use Rattle.safety.proofs.ResetKeeps.{here}
 use Rattle.world_state.specs.DriverRows as driver
 pub use Rattle.safety.proofs.ResetKeeps.{reset_keeps}
 

@@ -1,6 +1,5 @@
 -- No two rings of a header have one ID, so each is found by its own
-use Rattle.traces.specs.Header.{event_id}
-use Rattle.safety.proofs.Words.{[], ◌≡◌, ◌==◌, ◌&&◌, ◌∷◌, ◌∙◌, ℕ, not, Bool, true, false, List, nat_lt, Option, Some, None, find, refl, sym, ap, subst, inl, inr, eq-eqb, eqb-true, ltb-true, rules, list_any, list_all, cases_Bool, cond-true, cond-false, false≢true, and_parts, or_parts, not-true, none-some, same_Some, RingKind, is_inside, is_shape, Header, Ring, IsHeader, clash, may_stand_together, is_command_kind, is_transfer_kind, ring_with, id_of, id_or_none, command_ring, command_id, ring_having, is_driver_ring, is_transfer_ring, arith, is_event_kind, event_ring}
+use Rattle.safety.proofs.Words.{event_id, [], ◌≡◌, ◌==◌, ◌&&◌, ◌∷◌, ◌∙◌, ℕ, not, Bool, true, false, List, nat_lt, Option, Some, None, find, refl, sym, ap, subst, inl, inr, eq-eqb, eqb-true, ltb-true, rules, list_any, list_all, cases_Bool, cond-true, cond-false, false≢true, and_parts, or_parts, not-true, none-some, same_Some, RingKind, is_inside, is_shape, Header, Ring, IsHeader, clash, may_stand_together, is_command_kind, is_transfer_kind, ring_with, id_of, id_or_none, command_ring, command_id, ring_having, is_driver_ring, is_transfer_ring, arith, is_event_kind, event_ring}
 use Rattle.safety.specs.DriverRings.{IsDriverRing}
 use Rattle.safety.specs.EndpointsKeep.{IsTransferRing}
 use Rattle.safety.proofs.RingsOfHeader.{found_passes, found_allowed}

@@ -1,7 +1,7 @@
 -- A driver's row beneath the events that aren't read yet: they stay possible, and what is known when they are read differs from what
 -- the row adds to it at the end in the numbers at which rings are held, if at all
+use Rattle.safety.proofs.MiddleLaws.{driver_ring, may_declare, [], ◌≡◌, ◌+◌, ◌≤◌, ◌∷◌, ◌∙◌, ℕ, false, List, length, Some, arith, refl, sym, ap, subst, inl, inr, same_Some, Block, kind, erdp_address, is_reached_within, Header, Row, Sub, Write, Reg, Bell, Read, Register, Erdp, IsHeader, event_shape, IsRow, World, stored, counted, Known, learned, may_pass, is_bad_erdp, lenient, DriverKeeps, KeptByRestoring, MayCome, IsDriverRow, Agrees, ArePossible, Runs, all_read, HeldMore, is_idle, Square, SquareLaw, MoreLaw, ◌≢◌, ◌<◌, ◌++◌, true, Option, option_and_then, slice_get, cases_Bool, none-some, put, address_of, RingView, Declares, changed, declared, is_due, slice_get-append, ceiling_within, given_count_declared, Command, command_of, named_context, shape_of, command_id, UnderWay, on_ring, command_at, next_command, IsDriverRing, IsUnfinished, EventsStand, UnderWayMatches, IsUnchanged, Matches, rules, clean_tests, register_facts, event_same, view_after, held_more_same, held_more_twice, weaker, erdp_says, ring_shape, due_has_ring, put_at, put_off, command_is_ring, Late, agrees_counted, RingGoesOn, goes_same, declares_goes_on, KnownGoesOn, SameController, matches_go_on, register_agrees, is_named, not, is_value, RegRead, resets_by, resets, Usbcmd, is_done, reset_bit, learned_read, ◌&&◌}
 use Rattle.safety.proofs.PlainRows.{plain_done, status_agrees}
-use Rattle.safety.proofs.MiddleLaws.{[], ◌≡◌, ◌+◌, ◌≤◌, ◌∷◌, ◌∙◌, ℕ, false, List, length, Some, arith, refl, sym, ap, subst, inl, inr, same_Some, Block, kind, erdp_address, is_reached_within, Header, Row, Sub, Write, Reg, Bell, Read, Register, Erdp, IsHeader, event_shape, IsRow, World, stored, counted, Known, learned, may_pass, is_bad_erdp, lenient, DriverKeeps, KeptByRestoring, MayCome, IsDriverRow, Agrees, ArePossible, Runs, all_read, HeldMore, is_idle, Square, SquareLaw, MoreLaw, ◌≢◌, ◌<◌, ◌++◌, true, Option, option_and_then, slice_get, cases_Bool, none-some, put, address_of, RingView, Declares, changed, declared, is_due, slice_get-append, ceiling_within, given_count_declared, Command, command_of, named_context, shape_of, command_id, UnderWay, on_ring, command_at, next_command, IsDriverRing, IsUnfinished, EventsStand, UnderWayMatches, IsUnchanged, Matches, rules, clean_tests, register_facts, event_same, view_after, held_more_same, held_more_twice, weaker, erdp_says, ring_shape, due_has_ring, put_at, put_off, command_is_ring, Late, agrees_counted, RingGoesOn, goes_same, declares_goes_on, KnownGoesOn, SameController, matches_go_on, register_agrees, is_named, not, is_value, RegRead, resets_by, resets, Usbcmd, is_done, reset_bit, learned_read, ◌&&◌}
 use Rattle.safety.proofs.KeptCounts.{passable, read_counts}
 use Rattle.safety.proofs.RowRings.{rings_agree}
 use Rattle.safety.proofs.RowRegisters.{MayMove}
@@ -41,6 +41,9 @@ module _ (h : Header) (is : IsHeader h) (k : Known) (unread : List Block) (w : W
   unfolding m
   after P q here there = view_after h (λ x. P q x) k r (Declares blocks) q (λ same. subst (λ n. P n (changed (shape_of h r) (k.ring r) (Declares blocks))) (sym same) here) there
 
+  declared_on : IsDriverRing h r
+  declared_on = driver_ring h r (may_declare h k r blocks clean).0
+
   goes_on : KnownGoesOn h k m
   unfolding m on_ring
   goes_on = record {
@@ -53,7 +56,7 @@ module _ (h : Header) (is : IsHeader h) (k : Known) (unread : List Block) (w : W
     was_bound = refl;
     stop_seen = refl;
     device = λ s some. some;
-    rings = λ q. after (λ n x. RingGoesOn (shape_of h n) (k.ring n) x) q (declares_goes_on (shape_of h r) (k.ring r) blocks) (λ other. goes_same (shape_of h q) (k.ring q));
+    rings = λ q. after (λ n x. RingGoesOn (shape_of h n) (k.ring n) x) q (declares_goes_on (shape_of h r) (ring_shape h is r declared_on).is k.memory (k.ring r) (d.rings r declared_on) blocks) (λ other. goes_same (shape_of h q) (k.ring q));
   }
 
   controller : SameController w v

@@ -1,7 +1,5 @@
 -- What each row of the driver leaves as it is
-use Rattle.safety.proofs.RunOrStop.{runs_leave}
-use Rattle.traces.specs.Halts.{seen}
-use Rattle.safety.proofs.Words.{HaltState, false≢true, is_asked, is_done, ◌≡◌, ℕ, true, and_left, List, RegRead, register_read, status_read, refl, rules, Block, RingView, Writes, changed, Header, Register, Sub, Write, Reg, Bell, shape_of, command_id, Known, on_ring, with_device, with_word, written, valued, register_written, endpoint_rung, rung, learned, arith, Usbcmd, Erdp}
+use Rattle.safety.proofs.LowerLaws.{runs_leave, seen, HaltState, false≢true, is_asked, is_done, ◌≡◌, ℕ, true, and_left, List, RegRead, register_read, status_read, refl, rules, Block, RingView, Writes, changed, Header, Register, Sub, Write, Reg, Bell, shape_of, command_id, Known, on_ring, with_device, with_word, written, valued, register_written, endpoint_rung, rung, learned, arith, Usbcmd, Erdp}
 use Rattle.safety.proofs.SameDriver.{view_after}
 
 -- how far a controller may be on a ring

@@ -1,11 +1,6 @@
 -- A write of any register, but one that stops or resets the controller, where all events are read: what is known agrees with the world
-use Rattle.traces.specs.Versions.{has_runs}
-use Rattle.safety.proofs.LowerLaws.{[], ◌≡◌, ◌≢◌, ◌<◌, ◌&&◌, ◌||◌, ◌⊎◌, if◌then◌else◌, ◌∙◌, ℕ, not, true, false, List, Option, None, Some, refl, sym, ap, subst, inl, inr, false≢true, Block, erdp_address, is_event_place, event_shape, Header, Register, Usbcmd, Crcr, Erdp, Reg, IsHeader, run_bit, reset_bit, World, counted, Known, learned, is_bad_register, lenient, DriverKeeps, Agrees, ◌∷◌, Bool, rules, Shape, Data, address_of, cycle_of, number, is_border, RingView, is_way_given, place_count_pos, cycle_of-first, shape_of, command_id, base_address, ring_cycle_state, RingEvent, Newest, state_of, RingMatches, UnderWay, UnderWayMatches, CommandMatches, Matches, EndpointRing, Spot, register_written, run_or_stop, runs_once, runs_again, valued, next_take, has_other_words, is_out_of_order, command_at, next_command, arith, register_facts, ring_shape, put_at, put_off, is_named, is_value, is_asked, is_done, HaltState, NotHalting, is_in_run, or_parts, cases_Bool, ceiling, none-some, ◌≤◌, unwrap_or, given_count, and_left, and_right, and_from, and_parts, ltb-true, nat_lt, is_stopping_now, may_be_taken, BoundRing, FreeRing, eqb-true, Took, Placed}
+use Rattle.safety.proofs.LowerLaws.{has_runs, [], ◌≡◌, ◌≢◌, ◌<◌, ◌&&◌, ◌||◌, ◌⊎◌, if◌then◌else◌, ◌∙◌, ℕ, not, true, false, List, Option, None, Some, refl, sym, ap, subst, inl, inr, false≢true, Block, erdp_address, is_event_place, event_shape, Header, Register, Usbcmd, Crcr, Erdp, Reg, IsHeader, run_bit, reset_bit, World, counted, Known, learned, is_bad_register, lenient, DriverKeeps, Agrees, ◌∷◌, Bool, rules, Shape, Data, address_of, cycle_of, number, is_border, RingView, is_way_given, place_count_pos, cycle_of-first, shape_of, command_id, base_address, ring_cycle_state, RingEvent, Newest, state_of, RingMatches, UnderWay, UnderWayMatches, CommandMatches, Matches, EndpointRing, Spot, register_written, run_or_stop, runs_once, runs_again, valued, next_take, has_other_words, is_out_of_order, command_at, next_command, arith, register_facts, ring_shape, put_at, put_off, is_named, is_value, is_asked, is_done, HaltState, NotHalting, is_in_run, or_parts, cases_Bool, ceiling, none-some, ◌≤◌, unwrap_or, given_count, and_left, and_right, and_from, and_parts, ltb-true, nat_lt, is_stopping_now, may_be_taken, BoundRing, FreeRing, eqb-true, Took, Placed, NamesRing, names_ring, no_command_ring, told, is_bad_crcr}
 use Rattle.safety.proofs.RowRegister.{ErdpReached, agrees_once_counted, same_matches, valued_agrees, with_same, erdp_agrees, erdp_stays}
-use Rattle.safety.proofs.NamesRing.{NamesRing, names_ring}
-use Rattle.safety.proofs.OneCommandRing.{no_command_ring}
-use Rattle.traces.specs.Halts.{told}
-use Rattle.ownership_rules.specs.Registers.{is_bad_crcr}
 use Rattle.world_state.specs.DriverRows as driver
 use Rattle.world_state.specs.World as of_world
 

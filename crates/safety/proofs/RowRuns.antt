@@ -1,6 +1,5 @@
 -- Behind a row of the driver the run goes on, whatever is unread
-use Rattle.safety.proofs.PlainRows.{plain_done}
-use Rattle.safety.proofs.UpperLaws.{[], ◌≡◌, ◌==◌, ◌&&◌, if◌then◌else◌, ◌∷◌, ◌∙◌, ℕ, not, true, false, List, Some, sym, subst, inl, inr, rules, cases_Bool, cond-true, and_from, not-false, same_Some, Block, is_open, Header, Row, Bell, Read, IsHeader, MayCome, command_id, IsRow, World, counted, Known, learned, is_bad_bell, lenient, DriverKeeps, KeptByRestoring, IsDriverRow, Agrees, ArePossible, Runs, all_read, is_idle, is_open_if, MayRing, SquareLaw, MoreLaw, None, event_read, EndpointsKeep, activated, bell_row, endpoint_bell, row_done, arith, BellFacts, bell_facts, endpoints_of, transfer_command, open_held, held_open, read_counts, awake_runs, read_on, idle, rings, rung_agrees, command_rung, completed_view, is_named, is_used, is_value, ap, resets_by}
+use Rattle.safety.proofs.UpperLaws.{plain_done, [], ◌≡◌, ◌==◌, ◌&&◌, if◌then◌else◌, ◌∷◌, ◌∙◌, ℕ, not, true, false, List, Some, sym, subst, inl, inr, rules, cases_Bool, cond-true, and_from, not-false, same_Some, Block, is_open, Header, Row, Bell, Read, IsHeader, MayCome, command_id, IsRow, World, counted, Known, learned, is_bad_bell, lenient, DriverKeeps, KeptByRestoring, IsDriverRow, Agrees, ArePossible, Runs, all_read, is_idle, is_open_if, MayRing, SquareLaw, MoreLaw, None, event_read, EndpointsKeep, activated, bell_row, endpoint_bell, row_done, arith, BellFacts, bell_facts, endpoints_of, transfer_command, open_held, held_open, read_counts, awake_runs, read_on, idle, rings, rung_agrees, command_rung, completed_view, is_named, is_used, is_value, ap, resets_by}
 
 -- No event holds the command ring
 module _ (h : Header) (is : IsHeader h) (k : Known) (keeps : EndpointsKeep h k) (b : Block) where

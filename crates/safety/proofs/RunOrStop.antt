@@ -1,7 +1,5 @@
 -- A value of USBCMD that starts, halts or stops the controller changes nothing else
-use Rattle.safety.proofs.Words.{◌≡◌, ◌&&◌, ◌||◌, if◌then◌else◌, ℕ, Bool, not, true, refl, cond_both, Header, Known, run_or_stop, runs_once, runs_again, run_bit, reset_bit, HaltState, NotHalting}
-use Rattle.traces.specs.Halts.{told}
-use Rattle.traces.specs.Versions.{has_runs}
+use Rattle.safety.proofs.Words.{◌≡◌, ◌&&◌, ◌||◌, if◌then◌else◌, ℕ, Bool, not, true, refl, cond_both, Header, Known, run_or_stop, runs_once, runs_again, run_bit, reset_bit, HaltState, NotHalting, told, has_runs}
 
 pub record SameButPhase (k l : Known) : Type 0 where
   pub register : l.register ≡ k.register

@@ -1,5 +1,6 @@
 -- The doorbell of an endpoint whose ring is held beneath an event that isn't read yet: the two may change places
-use Rattle.safety.proofs.UpperLaws.{[], ◌≡◌, ◌==◌, ◌||◌, ◌∙◌, ℕ, true, false, not, Option, None, Some, refl, sym, ap, subst, MayCome, cond-false, false≢true, Block, Opens, is_open, is_running, is_stopped, Header, Bell, Read, IsHeader, command_id, Known, on_ring, endpoint_rung, rung, learned, is_touched, is_bad_bell, lenient, DriverKeeps, HeldMore, is_open_if, is_idle, Square, ◌≢◌, ◌&&◌, nat_lt, slice_get, option_and_then, rules, or_parts, or_from, not-false, BlockKind, TransferEvent, CommandCompletion, kind, code, slot, is_transfer_event, Command, changes, Config, register_or_zero, command_at, next_command, completed, event_read, touches_endpoint, is_in_profile, may_be_taken, can_finish, is_impossible_completion, is_impossible_by_kind, CommandKeeps, if◌then◌else◌, List, is_some, and_parts, and_from, cond-true, after, RingView, Reaches, floor_number, command_of, can_succeed, Change, shape_of, changed_by_all, succeeded, stop_ended, finished, was_stop_seen, arith, clean_tests, EventFacts, event_facts, bell_facts, SameDriver, both_drivers, endpoints_of, rings_of, endpoints_part, unfinished_fails, Woken, woken_reach, woken_seen, read_same, read_both, flip_driver, woken_more, EndpointHolds, bell_untouched, bell_state, free_same, CompletionFacts, by_completion, next_unfinished, command_holds, can_be, success_fits, one_of, Owns, flipped, changes_woken, rung_woken, rung_driver, not_command, transfer_rung, FitAll, both_sides_if, is_asked}
+use Rattle.safety.proofs.UpperLaws.{[], ◌≡◌, ◌==◌, ◌||◌, ◌∙◌, ℕ, true, false, not, Option, None, Some, refl, sym, ap, subst, MayCome, cond-false, false≢true, Block, Opens, is_open, is_running, is_stopped, Header, Bell, Read, IsHeader, command_id, Known, on_ring, endpoint_rung, rung, learned, is_touched, is_bad_bell, lenient, DriverKeeps, HeldMore, is_open_if, is_idle, Square, ◌≢◌, ◌&&◌, nat_lt, slice_get, option_and_then, rules, or_parts, or_from, not-false, BlockKind, TransferEvent, CommandCompletion, kind, code, slot, is_transfer_event, Command, changes, Config, register_or_zero, command_at, next_command, completed, event_read, touches_endpoint, is_in_profile, may_be_taken, can_finish, is_impossible_completion, is_impossible_by_kind, CommandKeeps, if◌then◌else◌, List, is_some, and_parts, and_from, cond-true, after, RingView, Reaches, floor_number, command_of, can_succeed, Change, shape_of, changed_by_all, succeeded, stop_ended, finished, was_stop_seen, arith, clean_tests, EventFacts, event_facts, bell_facts, SameDriver, both_drivers, endpoints_of, rings_of, endpoints_part, unfinished_fails, Woken, woken_reach, woken_seen, read_same, read_both, flip_driver, woken_more, EndpointHolds, bell_untouched, bell_state, free_same, CompletionFacts, by_completion, next_unfinished, command_holds, can_be, success_fits, one_of, Owns, flipped, changes_woken, rung_woken, rung_driver, transfer_rung, FitAll, both_sides_if, is_asked}
+use Rattle.safety.proofs.EndpointBeneath.{not_command}
 use Rattle.safety.proofs.HeldFurther.{counted}
 use Rattle.safety.proofs.HeldBehind.{read_holds, still_held, good_behind}
 use Rattle.safety.proofs.BellBeneath.{ReadWoken, bell_clean, read_woken}

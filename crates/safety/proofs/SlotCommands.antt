@@ -1,9 +1,7 @@
 -- The success of an unfinished command changes its own slot alone, or its own endpoint, and binds only rings that it names
-use Rattle.safety.proofs.LowerLaws.{[], ◌≡◌, ◌∷◌, ℕ, not, Bool, true, false, List, map, Some, refl, inl, inr, eq-eqb, Option, None, list_any, or_parts, or_left, not-false, Command, NoOp, EnableSlot, DisableSlot, AddressDevice, ConfigureEndpoint, EvaluateContext, ResetEndpoint, StopEndpoint, SetTrDequeue, ResetDevice, is_at_rest, changes, placed_by_context, added_endpoints, context_pointer, Header, command_id, is_ring, ring_having, Known, changed_by, succeeded, binding_in, binds, ring_bound, binds_ring, is_bad_dequeue, is_bad_move, IsIn, any_of, MovesIf, arith, any_of_map, ◌∙◌, ap, and_parts, or_right, leb-true, ne_eqb, is_dropped, is_disabled, is_above_control, slot_success, unwrap_or, SlotState, input_add_flag, range_with_len, from_filter, rules}
+use Rattle.safety.proofs.LowerLaws.{[], ◌≡◌, ◌∷◌, ℕ, not, Bool, true, false, List, map, Some, refl, inl, inr, eq-eqb, Option, None, list_any, or_parts, or_left, not-false, Command, NoOp, EnableSlot, DisableSlot, AddressDevice, ConfigureEndpoint, EvaluateContext, ResetEndpoint, StopEndpoint, SetTrDequeue, ResetDevice, is_at_rest, changes, placed_by_context, added_endpoints, context_pointer, Header, command_id, is_ring, ring_having, Known, changed_by, succeeded, binding_in, binds, ring_bound, binds_ring, is_bad_dequeue, is_bad_move, IsIn, any_of, MovesIf, arith, any_of_map, ◌∙◌, ap, and_parts, or_right, leb-true, ne_eqb, is_dropped, is_disabled, is_above_control, slot_success, unwrap_or, SlotState, rules, added_concerned, concerns}
 use Rattle.safety.proofs.OtherSlots.{IsPart, OtherSlots, Within, AllOnly, changes_others}
 use Rattle.safety.proofs.Placings.{at_rest_on}
-use Rattle.safety.proofs.Concerned.{added_concerned}
-use Rattle.safety.proofs.Words.{concerns}
 
 -- the slot that the success of a command changes; n is that of its completion
 abbrev pub changed_slot : Command → ℕ → ℕ

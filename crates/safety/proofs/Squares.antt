@@ -1,12 +1,5 @@
 -- A driver's row and an event that isn't read yet may change places, whatever kind of row it is
-use Rattle.traces.specs.Header.{command_ring}
-use Rattle.safety.proofs.IdleCommands.{taken_still}
-use Rattle.traces.specs.Halts.{seen, told}
-use Rattle.ownership_rules.specs.Registers.{is_early_restore, is_early_save, saves_badly}
-use Rattle.traces.specs.Register.{command_abort, command_stop, halted_bit, ring_cycle_state}
-use Rattle.traces.specs.declared.register.Register.TheVariants.{Crcr, Erstba, Erstsz}
-use Rattle.traces.specs.Versions.{has_runs}
-use Rattle.safety.proofs.UpperLaws.{[], Header, Sub, Write, Reg, Bell, Read, SquareLaw, ◌≡◌, ℕ, false, inl, inr, MayCome, Block, cases_option, IsHeader, IsRow, Known, command_given, learned, lenient, DriverKeeps, IsDriverRow, is_idle, Square, ◌==◌, is_none, rules, cases_Bool, cond-true, false≢true, is_open, ◌∙◌, Some, refl, sym, subst, MovesRestored, same_Some, Command, ◌∷◌, Bool, ap, cond-false, or_from, broken_of, AfterStop, some_command, holds_of, write_tests, lenient_tests, ◌+◌, ◌≤◌, ◌<◌, ◌++◌, true, List, length, option_and_then, slice_get, arith, length-append, ltb-true, ltb-false, le-ltb, none-some, slice_get_within, RingView, Declares, changed, declared, floor_number, place_count, ceiling, has_no_room, slice_get-append, command_of, shape_of, command_id, on_ring, command_at, next_command, declaration_tests, may_be_taken, IsHeldMore, HeldMore, ◌||◌, zero, suc, not, nat_lt, unwrap_or, list_any, range_with_len, and_parts, and_from, or_parts, or_cases, or_left, or_right, position_from, erdp_address, Register, Usbcmd, Config, Erdp, event_shape, with_register, run_bit, reset_bit, run_or_stop, valued, register_written, changes, may_pass, is_bad_register, is_bad_erdp, register_tests, is_bad_command, read_alike, passed_behind, read_on, next_unfinished, command_holds, EventAlike, ReadAlike, EverySlot, states_from, held_more, read_same, flip_driver, targets_are, clean_tests, tests_fail, transfer_driver, event_facts, register_facts, SameGiven, SameDriver, both_drivers, view_after, Alike, RingAlike, held_same, named_still, erdp_says, erdp_within, reached_is_good, floors_grow, placed_targets, runs_again, runs_once, RegRead, Usbsts, is_value, is_restored, is_used, is_asked, is_done, is_in_run, HaltState, NotHalting, resets, is_early_reset, is_early_resume, is_bad_command_register, is_bad_crcr, is_no_first_block, is_unwritten, eqb-true, and_right, read_held, read_tests, is_impossible_read, is_impossible_status, register_read, status_read, Dcbaap, Option, ◌⊎◌, ◌&&◌, if◌then◌else◌}
+use Rattle.safety.proofs.UpperLaws.{command_ring, taken_still, seen, told, is_early_restore, is_early_save, saves_badly, command_abort, command_stop, halted_bit, ring_cycle_state, Crcr, Erstba, Erstsz, has_runs, spot_same, KeepsValues, IsShape, RingKeeps, declares_values, names_still, ring_shape, pointer, slot, endpoint, [], Header, Sub, Write, Reg, Bell, Read, SquareLaw, ◌≡◌, ℕ, false, inl, inr, MayCome, Block, cases_option, IsHeader, IsRow, Known, command_given, learned, lenient, DriverKeeps, IsDriverRow, is_idle, Square, ◌==◌, is_none, rules, cases_Bool, cond-true, false≢true, is_open, ◌∙◌, Some, refl, sym, subst, MovesRestored, same_Some, Command, ◌∷◌, Bool, ap, cond-false, or_from, broken_of, AfterStop, some_command, holds_of, write_tests, lenient_tests, ◌+◌, ◌≤◌, ◌<◌, ◌++◌, true, List, length, option_and_then, slice_get, arith, length-append, ltb-true, ltb-false, le-ltb, none-some, slice_get_within, RingView, Declares, changed, declared, floor_number, place_count, ceiling, has_no_room, slice_get-append, command_of, shape_of, command_id, on_ring, command_at, next_command, declaration_tests, may_be_taken, IsHeldMore, HeldMore, ◌||◌, zero, suc, not, nat_lt, unwrap_or, list_any, range_with_len, and_parts, and_from, or_parts, or_cases, or_left, or_right, position_from, erdp_address, Register, Usbcmd, Config, Erdp, event_shape, with_register, run_bit, reset_bit, run_or_stop, valued, register_written, changes, may_pass, is_bad_register, is_bad_erdp, register_tests, is_bad_command, read_alike, passed_behind, read_on, next_unfinished, command_holds, EventAlike, ReadAlike, EverySlot, states_from, held_more, read_same, flip_driver, targets_are, clean_tests, tests_fail, transfer_driver, event_facts, register_facts, SameGiven, SameDriver, both_drivers, view_after, Alike, RingAlike, held_same, named_still, erdp_says, erdp_within, reached_is_good, floors_grow, placed_targets, runs_again, runs_once, RegRead, Usbsts, is_value, is_restored, is_used, is_asked, is_done, is_in_run, HaltState, NotHalting, resets, is_early_reset, is_early_resume, is_bad_command_register, is_bad_crcr, is_no_first_block, is_unwritten, eqb-true, and_right, read_held, read_tests, is_impossible_read, is_impossible_status, register_read, status_read, Dcbaap, Option, ◌⊎◌, ◌&&◌, if◌then◌else◌}
 use Rattle.safety.proofs.WriteBeneath.{write_square}
 use Rattle.safety.proofs.BellBeneath.{command_square}
 use Rattle.safety.proofs.RungBeneath.{rung_ring, bell_square}
@@ -215,7 +208,7 @@ module _ (h : Header) where
         reads = refl;
         room = grows;
         config = ap (λ o. unwrap_or o 0) config;
-        names = λ s i q p t has at. at;
+        names = λ e q t has below at. spot_same h k (with_value k r v) e q refl refl ∙ at;
         command = record {
           command = λ c may at. at;
           does = λ n c may at. refl;
@@ -278,7 +271,7 @@ module _ (h : Header) where
         reads = refl;
         room = omega arith;
         config = refl;
-        names = λ s i q p t has at. at;
+        names = λ e q t has below at. spot_same h k (with_halt k a) e q refl refl ∙ at;
         command = record {
           command = λ c may at. at;
           does = λ n c may at. refl;
@@ -341,6 +334,11 @@ module _ (h : Header) (r : ℕ) (blocks : List Block) where
       view_after h (DeclaresMore (k.ring q)) k r (Declares blocks) q
       (λ same. subst (λ n. DeclaresMore (k.ring n) (changed (shape_of h r) (k.ring r) (Declares blocks))) (sym same) (changed_more (k.ring r))) (λ other. search (rules, held_same))
 
+  values_more : (k : Known) (q : ℕ) → IsShape (shape_of h q) → RingKeeps (shape_of h q) k.memory (k.ring q) → KeepsValues (shape_of h q) (k.ring q) ((declaring k).ring q)
+  values_more k q is keeps =
+      view_after h (λ v. KeepsValues (shape_of h q) (k.ring q) v) k r (Declares blocks) q
+      (λ same. subst (λ n. KeepsValues (shape_of h q) (k.ring q) (changed (shape_of h n) (k.ring n) (Declares blocks))) same (declares_values (shape_of h q) is k.memory (k.ring q) keeps blocks)) (λ other p from below. refl)
+
   declared_alike : (k : Known) → Alike EverySlot k (declaring k)
   unfolding on_ring
   declared_alike k = search (rules, declaring, rings_more)
@@ -370,9 +368,11 @@ module _ (h : Header) (r : ℕ) (blocks : List Block) where
         reads = refl;
         room = omega arith;
         config = refl;
-        names = λ s i q p t has at.
-            named_still (shape_of h q) (k.ring q) (l.ring q) (rings_more k q).alike.floor (rings_more k q).more p t
-            (d.rings q (transfer_driver h q (d.states.transfer s i q has))).is_spot at;
+        names = λ e q t has below.
+            let driver = transfer_driver h q (d.states.transfer (slot e) (endpoint e) q has) in
+            names_still h k e q t l (rings_more k q).alike.floor (rings_more k q).more
+            (λ tells p from up. values_more k q (ring_shape h is q driver).is (d.rings q driver) p from (omega (arith, below tells)))
+            (named_still (shape_of h q) (k.ring q) (l.ring q) (rings_more k q).alike.floor (rings_more k q).more (pointer e) t (d.rings q driver).is_spot);
         command = record {
           command = λ c may at. command_still k (next_command h k) c at;
           does = λ n c may at. refl;

@@ -1,6 +1,5 @@
 -- Only one endpoint and its ring change: what is kept of states is kept
-use Rattle.std.proofs.Common.{arith}
-use Rattle.safety.proofs.LowerLaws.{◌≡◌, ◌≢◌, ◌⊎◌, ◌∙◌, ℕ, true, None, Some, sym, ap, subst, inl, inr, rules, same_Some, none-some, Off, Running, Header, Known, EndpointsStand, StopsNext, SeenStand}
+use Rattle.safety.proofs.LowerLaws.{arith, ◌≡◌, ◌≢◌, ◌⊎◌, ◌∙◌, ℕ, true, None, Some, sym, ap, subst, inl, inr, rules, same_Some, none-some, Off, Running, Header, Known, EndpointsStand, StopsNext, SeenStand}
 
 -- that of slot s with index i, which has ring r
 pub record OneEndpoint (k l : Known) (s i r : ℕ) : Type 0 where

@@ -1,20 +1,14 @@
 -- A step of the controller keeps the invariant, and so does a row of the driver, or the run has ended behind it
-use Rattle.traces.specs.Versions.{has_runs}
-use Rattle.safety.proofs.RowRegister.{agrees_once_counted}
-use Rattle.safety.proofs.RowRegisters.{phase_agrees}
-use Rattle.trb.specs.declared.ring_kind.RingKind.TheVariants.{Evt}
-use Rattle.traces.specs.Header.{event_ring, shape_or}
-use Rattle.world_state.specs.Finishes as finishes
-use Rattle.world_state.specs.Posts as posts
-use Rattle.safety.proofs.PlainRows.{plain_done}
+use Rattle.safety.proofs.UpperLaws.{has_runs, agrees_once_counted, phase_agrees, Evt, event_ring, shape_or, plain_done, [], ◌≡◌, ◌∷◌, ◌∙◌, false, List, Option, Some, refl, sym, ap, subst, inl, inr, rules, cases_Bool, cond-false, cond-true, false≢true, none-some, Block, Header, Row, Sub, Write, Reg, Bell, Read, Step, NextRow, Look, Report, Finish, Other, Scribble, IsHeader, IsRow, IsStep, World, IsSafe, Known, learned, MayCome, DriverKeeps, IsDriverRow, Runs, all_read, ◌||◌, if◌then◌else◌, ℕ, Bool, true, not, kind, Usbcmd, run_bit, reset_bit, counted, Ended, harm_of, harms, has_changed_context, is_changed_since, is_context_changed, waits, register_written, run_or_stop, valued, arith, finish_runs, look_runs, other_runs, report_runs, declaration_leaves, write_leaves, bell_leaves, safe, scribble_runs, learned_read, event_same, read_runs, more_law, is_ring_row, runs_again, runs_once, Halt, RegRead, same_Some, Ring, nat_lt, is_none, event_size, event_shape, place_count, can_post, and_parts, status_leaves, is_asked, None, Agrees, ◌&&◌, Register, resets_by, ◌<◌}
 use Rattle.std.proofs.Common.{option_map}
-use Rattle.safety.proofs.UpperLaws.{[], ◌≡◌, ◌∷◌, ◌∙◌, false, List, Option, Some, refl, sym, ap, subst, inl, inr, rules, cases_Bool, cond-false, cond-true, false≢true, none-some, Block, Header, Row, Sub, Write, Reg, Bell, Read, Step, NextRow, Look, Report, Finish, Other, Scribble, IsHeader, IsRow, IsStep, World, IsSafe, Known, learned, MayCome, DriverKeeps, IsDriverRow, Runs, all_read, ◌||◌, if◌then◌else◌, ℕ, Bool, true, not, kind, Usbcmd, run_bit, reset_bit, counted, Ended, harm_of, harms, has_changed_context, is_changed_since, is_context_changed, waits, register_written, run_or_stop, valued, arith, finish_runs, look_runs, other_runs, report_runs, declaration_leaves, write_leaves, bell_leaves, safe, scribble_runs, learned_read, event_same, read_runs, more_law, is_ring_row, runs_again, runs_once, Halt, RegRead, same_Some, Ring, nat_lt, is_none, event_size, event_shape, place_count, can_post, and_parts, status_leaves, is_asked, None, Agrees, ◌&&◌, Register, resets_by, ◌<◌}
 use Rattle.safety.specs.Invariant.{Holds}
 use Rattle.safety.proofs.DriverHistories.{kept_driver, run_keeps}
 use Rattle.safety.proofs.ReadRow.{read_on}
 use Rattle.safety.proofs.RowRuns.{row_runs}
 use Rattle.safety.proofs.Squares.{square_law}
 use Rattle.safety.proofs.StillRings.{still_rings}
+use Rattle.world_state.specs.Finishes as finishes
+use Rattle.world_state.specs.Posts as posts
 use Rattle.world_state.specs.DriverRows as driver
 use Rattle.world_state.specs.Steps as steps
 

@@ -1,6 +1,5 @@
 -- When a Stopped event is possible where it will be read, and what reading it adds
-use Rattle.std.proofs.Common.{arith}
-use Rattle.safety.proofs.MiddleLaws.{code_told, ◌≡◌, ◌≢◌, ℕ, true, false, Some, and_from, or_from, or_right, cond-true, cond-false, put_pair, Block, endpoint, kind, slot, is_transfer_event, is_success, is_halting, is_trb_error, is_stopping, is_transfer_code, Spot, Reaches, Holds, is_stop_spot, stopped_number, Off, is_stop_of, Header, shape_of, Known, event_read, event_at, command_at, next_command, on_ring, stopped_at, transferred, transferred_at, transfer_read, is_working, is_stopping_now, may_be_taken, is_impossible_by_kind, can_report, can_report_at, rules, possible, transfer_kind}
+use Rattle.safety.proofs.MiddleLaws.{arith, code_told, ◌≡◌, ◌≢◌, ℕ, true, false, Some, and_from, or_from, or_right, cond-true, cond-false, put_pair, Block, endpoint, kind, slot, is_transfer_event, is_success, is_halting, is_trb_error, is_stopping, is_transfer_code, Spot, Reaches, Holds, is_stop_spot, stopped_number, Off, is_stop_of, Header, shape_of, Known, event_read, event_at, command_at, next_command, on_ring, stopped_at, transferred, transferred_at, transfer_read, is_working, is_stopping_now, may_be_taken, is_impossible_by_kind, can_report, can_report_at, rules, possible, transfer_kind}
 
 -- the code is that of a Stopped event alone
 pub record StopCode (c : ℕ) : Type 0 where

@@ -1,15 +1,15 @@
 -- What a Transfer Event leaves as it is: all rings but that of its endpoint, and all slots
-use Rattle.safety.proofs.LowerLaws.{spot_told, ◌≡◌, ◌≢◌, ◌+◌, if◌then◌else◌, ◌∙◌, ℕ, true, Option, Some, refl, sym, ap, option_map, cond_both, none-some, same_Some, put_pair, Block, pointer, code, slot, endpoint, is_success, is_halting, is_trb_error, is_stopping, Spot, number, after, Reaches, Holds, named, stopped_number, Halted, Error, Header, IsHeader, shape_of, command_id, Known, RingSpot, on_ring, spot_on, event_at, passed, broken_off, stopped_at, transferred, transferred_at, transfer_read, EndpointsKeep, rules, arith, command_not_transfer}
+use Rattle.safety.proofs.LowerLaws.{spot_named, spot_told, ◌≡◌, ◌≢◌, ◌+◌, if◌then◌else◌, ◌∙◌, ℕ, true, Option, Some, refl, sym, ap, option_map, cond_both, none-some, same_Some, put_pair, Block, code, slot, endpoint, is_success, is_halting, is_trb_error, is_stopping, Spot, number, after, Reaches, Holds, stopped_number, Halted, Error, Header, IsHeader, shape_of, command_id, Known, RingSpot, on_ring, spot_on, event_at, passed, broken_off, stopped_at, transferred, transferred_at, transfer_read, EndpointsKeep, rules, arith, command_not_transfer}
 use Rattle.safety.proofs.DriverRows.{ring_elsewhere}
 
 module _ (h : Header) where
   -- the ring of a named spot is the endpoint's
-  pub spot_ring : (k : Known) (a : ℕ) (o : Option ℕ) (at : RingSpot) → spot_on h k a o ≡ Some at → o ≡ Some at.ring
+  pub spot_ring : (k : Known) (b : Block) (o : Option ℕ) (at : RingSpot) → spot_on h k b o ≡ Some at → o ≡ Some at.ring
   unfolding spot_on
-  spot_ring k a o at e = grind (arith, none-some, named, shape_of, option_map, same_Some)
+  spot_ring k b o at e = grind (arith, none-some, spot_named, option_map, same_Some)
 
   pub event_ring_of : (k : Known) (b : Block) (at : RingSpot) → event_at h k b ≡ Some at → k.ring_of (slot b) (endpoint b) ≡ Some at.ring
-  event_ring_of k b at e = spot_ring k (pointer b) (k.ring_of (slot b) (endpoint b)) at (spot_told h k b at e)
+  event_ring_of k b at e = spot_ring k b (k.ring_of (slot b) (endpoint b)) at (spot_told h k b at e)
 
   -- ---- another ring
 

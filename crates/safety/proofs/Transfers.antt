@@ -1,5 +1,5 @@
 -- A Transfer Event that may be read keeps what the rules keep of each ring
-use Rattle.safety.proofs.LowerLaws.{◌≡◌, ◌+◌, ◌<◌, ◌≤◌, ◌||◌, if◌then◌else◌, ◌∙◌, ℕ, not, Bool, true, false, Option, None, Some, arith, refl, sym, inl, inr, rules, RingsKept, changed, and_parts, and_cases, or_parts, not-false, false≢true, none-some, same_Some, put_pair, Block, pointer, slot, endpoint, is_success, is_halting, is_trb_error, is_stopping, Spot, number, after, Reaches, Holds, floor_number, ceiling, named, is_data_below, is_stop_spot, stopped_number, RingKeeps, reaches_keeps, reaches_and_holds_keeps, holds_and_reaches_keeps, after_reached, number-after, stop_spot_reached, stopped_within, ceiling_held, ceiling_within, below_is, IsAhead, named_ahead, EndpointState, Halted, Error, Header, IsHeader, shape_of, Known, RingSpot, on_ring, spot_on, event_at, passed, broken_off, stopped_at, transferred, transferred_at, transfer_read, is_in_profile, is_working, can_report, can_report_at, is_impossible_transfer, is_off, RingsKeep, is_open, is_running, IsRestored, shown_where_restored, shape_allowed, open_held, passes_at, passes_held, passes_restored, code_told, spot_told}
+use Rattle.safety.proofs.LowerLaws.{spot_named, spot_ahead, ◌≡◌, ◌+◌, ◌<◌, ◌≤◌, ◌||◌, if◌then◌else◌, ◌∙◌, ℕ, not, Bool, true, false, Option, None, Some, arith, refl, sym, inl, inr, rules, RingsKept, changed, and_parts, and_cases, or_parts, not-false, false≢true, none-some, same_Some, put_pair, Block, slot, endpoint, is_success, is_halting, is_trb_error, is_stopping, Spot, number, after, Reaches, Holds, floor_number, ceiling, is_data_below, is_stop_spot, stopped_number, RingKeeps, reaches_keeps, reaches_and_holds_keeps, holds_and_reaches_keeps, after_reached, number-after, stop_spot_reached, stopped_within, ceiling_held, ceiling_within, below_is, IsAhead, EndpointState, Halted, Error, Header, IsHeader, shape_of, Known, RingSpot, on_ring, spot_on, event_at, passed, broken_off, stopped_at, transferred, transferred_at, transfer_read, is_in_profile, is_working, can_report, can_report_at, is_impossible_transfer, is_off, RingsKeep, is_open, is_running, IsRestored, shown_where_restored, shape_allowed, open_held, passes_at, passes_held, passes_restored, code_told, spot_told}
 use Rattle.safety.specs.DriverRings.{IsDriverRing}
 use Rattle.safety.proofs.DriverRows.{stands, same_keeps, on_ring_keeps, on_ring_twice_keeps}
 
@@ -20,10 +20,10 @@ by_code P false false false true x y z p q r s t can success halting error stops
 by_code P false false false false x y z p q r s t can success halting error stops none = none
 
 -- the spot that an event names is named on its ring
-pub spot_is : (h : Header) (k : Known) (a : ℕ) (o : Option ℕ) (at : RingSpot) → spot_on h k a o ≡ Some at → named (shape_of h at.ring) (k.ring at.ring) a ≡ Some at.spot
+pub spot_is : (h : Header) (k : Known) (b : Block) (o : Option ℕ) (at : RingSpot) → spot_on h k b o ≡ Some at → spot_named h k b at.ring ≡ Some at.spot
 unfolding spot_on
-spot_is h k a None at e = search (rules, none-some, same_Some)
-spot_is h k a (Some r) at e = search (rules, none-some, same_Some)
+spot_is h k b None at e = search (rules, none-some, same_Some)
+spot_is h k b (Some r) at e = search (rules, none-some, same_Some)
 
 module _ (h : Header) (is : IsHeader h) (k : Known) (keeps : RingsKeep h k) where
   -- the block at the spot is finished
@@ -94,8 +94,8 @@ module _ (h : Header) (is : IsHeader h) (k : Known) (keeps : RingsKeep h k) wher
   reported_keeps b None found can = stands h k keeps
   reported_keeps b (Some at) found can =
       transferred_keeps (code_told h k b) (slot b) (endpoint b) at.ring at.spot
-      (λ driver. named_ahead (shape_of h at.ring) k.memory (k.ring at.ring) (keeps at.ring driver) (pointer b) at.spot
-      (spot_is h k (pointer b) (k.ring_of (slot b) (endpoint b)) at (spot_told h k b at found))) can
+      (λ driver. spot_ahead h k b at.ring at.spot (keeps at.ring driver)
+      (spot_is h k b (k.ring_of (slot b) (endpoint b)) at (spot_told h k b at found))) can
 
   pub transfer_keeps : (b : Block) → is_impossible_transfer h k b ≡ false → is_in_profile h k b ≡ true → RingsKept h k (transfer_read h k b)
   unfolding transfer_read is_impossible_transfer

@@ -1,12 +1,5 @@
 -- A Link that loses its Chain bit leads on as before, with the Cycle bit that it has: what the rules keep of each ring stays
-use Rattle.safety.proofs.Words.{◌≡◌, ◌≢◌, ◌+◌, ◌/◌, ◌%◌, ◌<◌, ◌||◌, ◌∙◌, ℕ, Bool, true, false, [], ◌∷◌, refl, sym, ap, subst, inl, inr, arith, rules, cases_eq, false≢true, put, put_here, put_elsewhere, block_at, Shape, IsShape, address_of, is_crossing, link_address, is_inside, RingView, Writes, changed, gives, gives_crossing, gives_is, gives_crossing_is, crossing_due_is, crossed_link, crosses, link_address_is, address_inside, link_address_inside, RingKeeps, fun_ext}
-use Rattle.std.specs.Prelude.{slice_index, length}
-use Rattle.segments.specs.Places.{links, place_count}
-use Rattle.segments.specs.Givings.{is_wrong_link}
-use Rattle.segments.proofs.Words.{add-zero}
-use Rattle.segments.proofs.DataPlaces.{place_not_link, links_apart}
-use Rattle.segments.proofs.Positions.{place_below, address_of-mod}
-use Rattle.segments.proofs.MemoryWords.{SameBlock, block_same}
+use Rattle.safety.proofs.Words.{◌≡◌, ◌≢◌, ◌+◌, ◌/◌, ◌%◌, ◌<◌, ◌||◌, ◌∙◌, ℕ, Bool, true, false, [], ◌∷◌, refl, sym, ap, subst, inl, inr, arith, rules, cases_eq, false≢true, put, put_here, put_elsewhere, block_at, Shape, IsShape, address_of, is_crossing, link_address, is_inside, RingView, Writes, changed, gives, gives_crossing, gives_is, gives_crossing_is, crossing_due_is, crossed_link, crosses, link_address_is, address_inside, link_address_inside, RingKeeps, fun_ext, slice_index, length, links, place_count, is_wrong_link, add-zero, place_not_link, links_apart, place_below, address_of-mod, SameBlock, block_same}
 use Rattle.safety.proofs.KeptWords.{KeepsCycles}
 
 -- the word is of none of the ring's data places, and of its Links only a control word

@@ -1,8 +1,7 @@
 -- A Transfer Event that is possible where a ring is held: it is so where the ring was woken, and leaves it woken
-use Rattle.safety.proofs.MiddleLaws.{is_stopping, told_alike, code_told, ◌≡◌, ◌≢◌, ◌≤◌, ◌&&◌, ◌||◌, if◌then◌else◌, ◌∙◌, ℕ, Bool, true, false, not, Option, None, Some, arith, refl, sym, ap, subst, ltb-true, lt-ltb, rules, false≢true, and_parts, and_from, or_parts, or_from, not-false, not_from_true, same_Some, option_map, Block, slot, endpoint, is_success, is_halting, is_trb_error, Spot, number, after, changed, given_count, ceiling, is_data_below, is_open, is_stop_spot, is_step_given, is_way_given, given_count_same, EndpointState, Halted, Error, is_off, is_running, Header, shape_of, Known, RingSpot, on_ring, spot_on, event_at, passed, broken_off, stopped_at, transferred, transferred_at, transfer_read, is_in_profile, is_working, is_stopping_now, can_report, can_report_at, is_impossible_transfer, both_sides, chain_from, SameDriver, event_ring_of, Woken, woken_floor, woken_reach, woken_elsewhere, woken_state, woken_move, woken_seen}
+use Rattle.safety.proofs.MiddleLaws.{spot_same, is_stopping, told_alike, code_told, ◌≡◌, ◌≢◌, ◌≤◌, ◌&&◌, ◌||◌, if◌then◌else◌, ◌∙◌, ℕ, Bool, true, false, not, Option, None, Some, arith, refl, sym, ap, subst, ltb-true, lt-ltb, rules, false≢true, and_parts, and_from, or_parts, or_from, not-false, not_from_true, same_Some, option_map, Block, slot, endpoint, is_success, is_halting, is_trb_error, Spot, number, after, changed, given_count, ceiling, is_data_below, is_open, is_stop_spot, is_step_given, is_way_given, given_count_same, EndpointState, Halted, Error, is_off, is_running, Header, shape_of, Known, RingSpot, on_ring, spot_on, event_at, passed, broken_off, stopped_at, transferred, transferred_at, transfer_read, is_in_profile, is_working, is_stopping_now, can_report, can_report_at, is_impossible_transfer, both_sides, chain_from, SameDriver, event_ring_of, Woken, woken_floor, woken_reach, woken_elsewhere, woken_state, woken_move, woken_seen}
 use Rattle.segments.proofs.Named.{ceiling_open}
 use Rattle.safety.proofs.AlikeChanges.{both_sides_if}
-use Rattle.safety.proofs.HeldFurther.{named_same}
 
 -- an event that is no success comes from an endpoint that works
 pub works_there : (b c low told works stops spot : Bool) → b ≡ false → (if b then low else if c then low && works else told && (works && stops && spot)) ≡ true → works ≡ true
@@ -67,7 +66,7 @@ module _ (h : Header) (r : ℕ) (S : ℕ → ℕ → Bool) (k l : Known) (w : Wo
     module _ (d : SameDriver k l) where
       event_same : (b : Block) → event_at h l b ≡ event_at h k b
       unfolding event_at spot_on
-      event_same b = grind (arith, option_map, named_same, woken_floor, w.ring_of)
+      event_same b = grind (arith, option_map, spot_same, woken_floor, w.ring_of)
 
       pub transfer_woken : (b : Block) → is_impossible_transfer h k b ≡ false → is_in_profile h k b ≡ true →
           (is_impossible_transfer h l b ≡ false) × Woken h r S (transfer_read h k b) (transfer_read h l b)

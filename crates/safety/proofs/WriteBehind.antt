@@ -1,9 +1,6 @@
 -- Behind an event that may be read a write gives the same command as before it, and breaks no rule that speaks of no command
-use Rattle.safety.proofs.UpperLaws.{[], ◌≡◌, ◌+◌, ◌&&◌, ◌∷◌, ◌++◌, ◌∙◌, ℕ, not, Bool, true, false, List, length, map, slice_get, nat_le, None, option_and_then, arith, refl, sym, ap, subst, inl, inr, ◌||◌, ◌==◌, eq-eqb, rules, MayCome, list_any, range_with_len, fun_ext, not-true, cases_Bool, cond-false, false≢true, false_from_ne_true, and_parts, and_from, or_parts, or_from, put, Block, block_at, Shape, place_count, address_of, cycle_of, RingView, floor_number, gives, gives_crossing, due_positions, due_crossings, positions_given, crossings_given, length_from, is_declared_as, is_other_than_declared, is_not_declared, descriptor_length, is_not_whole, leads_wrong, interrupts, gives_is, gives_crossing_is, positions_given-one, whole_more, Command, Header, Write, Read, IsHeader, shape_of, command_id, driver_rings, Known, Given, Position, Crossing, given_of, given_by, command_at, command_given, learned, Test, broken_of, lenient_tests, lenient, on_position, on_crossing, holds_of, some_given, some_crossed, some_command, write_tests, is_leased, awaits_binding, is_being_moved, or_cases, or_left, or_right, IsIn, some_of, any_of, in_filter, from_filter, DriverKeeps, and_left, and_right, is_the_controllers, changes_owned, AllFail, clean_tests, tests_fail, free_or_same, keeps_cycles, not_the_controllers, in_range, KeepsCycles, command_same, RingBehind, gives_behind, gives_before, crosses_before, Behind, both_fewer, flat_fewer, map_fewer, not_the_controllers_behind, still_free, event_behind, moved_before}
-use Rattle.safety.proofs.UpperLaws.{none_fewer, ranges_fewer}
+use Rattle.safety.proofs.UpperLaws.{[], ◌≡◌, ◌+◌, ◌&&◌, ◌∷◌, ◌++◌, ◌∙◌, ℕ, not, Bool, true, false, List, length, map, slice_get, nat_le, None, option_and_then, arith, refl, sym, ap, subst, inl, inr, ◌||◌, ◌==◌, eq-eqb, rules, MayCome, list_any, range_with_len, fun_ext, not-true, cases_Bool, cond-false, false≢true, false_from_ne_true, and_parts, and_from, or_parts, or_from, put, Block, block_at, Shape, place_count, address_of, cycle_of, RingView, floor_number, gives, gives_crossing, due_positions, due_crossings, positions_given, crossings_given, length_from, is_declared_as, is_other_than_declared, is_not_declared, descriptor_length, is_not_whole, leads_wrong, interrupts, gives_is, gives_crossing_is, positions_given-one, whole_more, Command, Header, Write, Read, IsHeader, shape_of, command_id, driver_rings, Known, Given, Position, Crossing, given_of, given_by, command_at, command_given, learned, Test, broken_of, lenient_tests, lenient, on_position, on_crossing, holds_of, some_given, some_crossed, some_command, write_tests, is_leased, awaits_binding, is_being_moved, or_cases, or_left, or_right, IsIn, some_of, any_of, in_filter, from_filter, DriverKeeps, and_left, and_right, is_the_controllers, changes_owned, AllFail, clean_tests, tests_fail, free_or_same, keeps_cycles, not_the_controllers, in_range, KeepsCycles, command_same, RingBehind, gives_behind, gives_before, crosses_before, Behind, both_fewer, flat_fewer, map_fewer, not_the_controllers_behind, still_free, event_behind, moved_before, none_fewer, ranges_fewer, covers, open_ranges, clears_chain, is_link_control, unchains}
 use Rattle.safety.proofs.BoundBehind.{awaits_before}
-use Rattle.ownership_rules.specs.OpenLeases.{covers, open_ranges}
-use Rattle.ownership_rules.specs.Writes.{clears_chain, is_link_control, unchains}
 
 -- ---- one ring
 

@@ -1,8 +1,6 @@
 -- A write leaves what unfinished commands read of contexts and device contexts
-use Rattle.safety.proofs.MiddleLaws.{[], ◌≡◌, ◌≢◌, ◌+◌, ◌*◌, ◌/◌, ◌<◌, ◌≤◌, ◌==◌, ◌&&◌, ◌∙◌, ℕ, not, Bool, true, false, nat_le, nat_lt, Option, None, Some, option_and_then, arith, refl, sym, ap, inl, inr, lt-ltb, le-leb, rules, or_parts, or_from, and_left, and_from, false≢true, none-some, same_Some, is_in, is_inside, overlap, cases_option, address_inside, gives_is, put_elsewhere, Command, AddressDevice, named_context, is_disabled, is_off, device_context_bytes, input_context_bytes, Header, Write, IsHeader, shape_of, command_id, Known, learned, no_device, taken_device, device_named, command_given, is_bad_area, is_soiled, lenient, IsUnfinished, CommandKeeps, DriverKeeps, has_bad_context, is_bad_command, put_same, ring_shape, clean_word, AreaParts, area_parts, area_from, not_in_other, overlap_turned, word_elsewhere, is_soiled_from, device_apart, devices_apart, context_free, lease_free, apart_or_same, at_number, write_leaves, taken, written_memory, written_device, written_device_none, written_soiled, written_soiled_none, GivesCommand, AgreeIn, Beside, context_good}
+use Rattle.safety.proofs.MiddleLaws.{[], ◌≡◌, ◌≢◌, ◌+◌, ◌*◌, ◌/◌, ◌<◌, ◌≤◌, ◌==◌, ◌&&◌, ◌∙◌, ℕ, not, Bool, true, false, nat_le, nat_lt, Option, None, Some, option_and_then, arith, refl, sym, ap, inl, inr, lt-ltb, le-leb, rules, or_parts, or_from, and_left, and_from, false≢true, none-some, same_Some, is_in, is_inside, overlap, cases_option, address_inside, gives_is, put_elsewhere, Command, AddressDevice, named_context, is_disabled, is_off, device_context_bytes, input_context_bytes, Header, Write, IsHeader, shape_of, command_id, Known, learned, no_device, taken_device, device_named, command_given, is_bad_area, is_soiled, lenient, IsUnfinished, CommandKeeps, DriverKeeps, has_bad_context, is_bad_command, put_same, ring_shape, clean_word, AreaParts, area_parts, area_from, not_in_other, overlap_turned, word_elsewhere, is_soiled_from, device_apart, devices_apart, context_free, lease_free, apart_or_same, at_number, write_leaves, taken, written_memory, written_device, written_device_none, written_soiled, written_soiled_none, GivesCommand, AgreeIn, Beside, context_good, covers, open_ranges, list_any}
 use Rattle.safety.proofs.KeptClean.{taking, not_in_area}
-use Rattle.ownership_rules.specs.OpenLeases.{covers, open_ranges}
-use Rattle.std.specs.List.{list_any}
 use Rattle.safety.proofs.TakenDevices.{DeviceRules, taken_rules}
 
 module _ (h : Header) (k : Known) where

@@ -1,9 +1,9 @@
 -- A write that gives no command leaves what an event reads, so that the event stays possible and does the same
-use Rattle.safety.proofs.MiddleLaws.{add_flag_same, type_same, typed_by_context, [], ◌≡◌, ◌<◌, ◌&&◌, ◌∷◌, ◌∙◌, ℕ, true, false, map, nat_le, None, Some, option_and_then, arith, refl, ap, subst, ltb-true, fun_ext, put, Block, ceiling, writes_more, Command, AddressDevice, ConfigureEndpoint, Running, named_context, SlotGoesOn, Disables, Places, changes, placed_by_context, ContextSize, added_endpoints, is_dropped, context_pointer, context_cycle, Header, Write, Read, IsHeader, shape_of, command_id, Known, command_at, next_command, with_device, with_word, written, taken_device, command_given, learned, may_be_taken, lenient, DriverKeeps, IsUnfinished, rules, AgreeIn, map_same, added_indices, added_same, drop_flag_same, pointer_same, cycle_same, written_memory, Alike, held_same}
+use Rattle.safety.proofs.MiddleLaws.{spot_same, add_flag_same, type_same, typed_by_context, [], ◌≡◌, ◌<◌, ◌&&◌, ◌∷◌, ◌∙◌, ℕ, true, false, map, nat_le, None, Some, option_and_then, arith, refl, ap, subst, ltb-true, fun_ext, put, Block, ceiling, writes_more, Command, AddressDevice, ConfigureEndpoint, Running, named_context, SlotGoesOn, Disables, Places, changes, placed_by_context, ContextSize, added_endpoints, is_dropped, context_pointer, context_cycle, Header, Write, Read, IsHeader, shape_of, command_id, Known, command_at, next_command, with_device, with_word, written, taken_device, command_given, learned, may_be_taken, lenient, DriverKeeps, IsUnfinished, rules, AgreeIn, map_same, added_indices, added_same, drop_flag_same, pointer_same, cycle_same, written_memory, Alike, held_same}
 use Rattle.safety.proofs.KeptRings.{next_unfinished}
 use Rattle.safety.proofs.WriteBeside.{beside_old}
 use Rattle.safety.proofs.AlikeEvents.{EventAlike, ReadAlike, read_alike}
-use Rattle.safety.proofs.HeldFurther.{EverySlot, named_same, command_same, targets_are}
+use Rattle.safety.proofs.HeldFurther.{EverySlot, command_same, targets_are}
 
 -- ---- what a success does is read of the input context
 
@@ -61,7 +61,7 @@ module _ (h : Header) (k : Known) (a w : ℕ) where
       reads = refl;
       room = omega arith;
       config = refl;
-      names = λ s i r p t has at. named_same h r p (k.ring r) ((with_word h k a w).ring r) refl refl ∙ at;
+      names = λ e r t has below at. spot_same h k (with_word h k a w) e r refl refl ∙ at;
       command = record {
         command = λ c may at. command_same h k (with_word h k a w) (next_command h k) refl ∙ at;
         does = λ n c may at. changes_agree h.context_size k.memory (put k.memory a w) n c (context_agrees c may at);

@@ -1,16 +1,11 @@
 -- A write that breaks no rule is one that each ring allows
-use Rattle.safety.proofs.Words.{[], ◌∷◌, ◌+◌, ◌<◌, ◌==◌, ◌&&◌, true, not, filter, arith, subst, and_parts, not-true, false_from_ne_true, some_of, from_filter, false≢true, or_cases, is_inside, is_driver_kind, Ring, ◌≡◌, ◌++◌, ◌∙◌, ℕ, Bool, false, List, map, All, sym, ap, ◌⊎◌, inl, inr, eqb-true, rules, MayCome, list_any, flat_map, or_parts, list_any-append, address_of, link_address, overlap, positions_given, crossings_given, leased_positions, leased_crossings, is_other_than_declared, is_not_declared, is_not_whole, leads_wrong, MayWrite, Header, Write, shape_of, driver_rings, Known, Given, Position, Crossing, given_of, given_by, covers, lease_start, lease_bytes, open_on, open_ranges, open_leases, is_leased, on_position, on_crossing, some_given, some_crossed, write_tests, lenient_tests, lenient, and_cases, not-false, is_the_controllers, changes_owned, IsHeader, RingKeeps}
+use Rattle.safety.proofs.Words.{[], ◌∷◌, ◌+◌, ◌<◌, ◌==◌, ◌&&◌, true, not, filter, arith, subst, and_parts, not-true, false_from_ne_true, some_of, from_filter, false≢true, or_cases, is_inside, is_driver_kind, Ring, ◌≡◌, ◌++◌, ◌∙◌, ℕ, Bool, false, List, map, All, sym, ap, ◌⊎◌, inl, inr, eqb-true, rules, MayCome, list_any, flat_map, or_parts, list_any-append, address_of, link_address, overlap, positions_given, crossings_given, leased_positions, leased_crossings, is_other_than_declared, is_not_declared, is_not_whole, leads_wrong, MayWrite, Header, Write, shape_of, driver_rings, Known, Given, Position, Crossing, given_of, given_by, covers, lease_start, lease_bytes, open_on, open_ranges, open_leases, is_leased, on_position, on_crossing, some_given, some_crossed, write_tests, lenient_tests, lenient, and_cases, not-false, is_the_controllers, changes_owned, IsHeader, RingKeeps, length, slice_index, suc, is_set, links, link_inside, clears_chain, is_link_control, unchains}
 use Rattle.safety.specs.DriverRings.{IsDriverRing}
 use Rattle.safety.proofs.TestsPassed.{AllFail, tests_fail, each_fails, any_of_map}
 use Rattle.safety.proofs.RingsOfHeader.{HasRing, has_ring, none_of_ring, shape_allowed}
 use Rattle.safety.proofs.KeptWords.{KeepsCycles, free_keeps_cycles, same_keeps_cycles}
 use Rattle.safety.proofs.Unchained.{Cleared, IsNoOther, cleared_keeps_cycles, control_is_none, outside_is_none}
 use Rattle.safety.proofs.Headers.{clash_apart, found_in, header_parts, ring_allowed, together}
-use Rattle.std.specs.Prelude.{length, slice_index, suc}
-use Rattle.trb.specs.Bits.{is_set}
-use Rattle.segments.specs.Places.{links}
-use Rattle.segments.proofs.DataPlaces.{link_inside}
-use Rattle.ownership_rules.specs.Writes.{clears_chain, is_link_control, unchains}
 
 -- what it is to unchain a Link
 pub record IsUnchained (h : Header) (k : Known) (a w : ℕ) : Type 0 where

@@ -10,12 +10,13 @@ use Rattle.segments.specs.Places.{address_of, cycle_of}
 use Rattle.segments.specs.Spots.{IsSpot, rank, number, spot_address, spot_cycle}
 use Rattle.segments.specs.Descriptors.{is_border}
 use Rattle.segments.specs.RingView.{RingView, floor_number}
-use Rattle.segments.specs.Ceiling.{ceiling, is_way_given, is_step_given}
+use Rattle.segments.specs.Ceiling.{ceiling, data_at, is_way_given, is_step_given}
 use Rattle.commands.specs.declared.command.Command.{Command}
 use Rattle.commands.specs.Command.{named_context}
 use Rattle.contexts.specs.Contexts.{input_context_bytes}
 use Rattle.traces.specs.declared.header.Header.{Header}
 use Rattle.traces.specs.Header.{shape_of, command_id}
+use Rattle.world_state.specs.declared.take.Take.{Take}
 use Rattle.world_state.specs.World.{World, RingEvent, Took, Placed, UnderWay}
 use Rattle.world_state.specs.Takes.{takes_of, next_take}
 use Rattle.world_state.specs.Harms.{is_end, is_out_of_order, has_other_words}
@@ -66,9 +67,13 @@ pub record Rests (shape : Shape) (s : RingState) : Type 0 where
   pub in_order : is_out_of_order shape s.events ≡ false
   pub as_declared : has_other_words shape s.events ≡ false
 
+-- the take of the block that is declared at a position
+abbrev pub take_at : Shape → List Block → ℕ → Take
+take_at shape queue p = record { address = address_of shape p; value = data_at queue p }
+
 -- the takes from the floor on, and no others, are unreported
 pub record Unreported (shape : Shape) (v : RingView) (s : RingState) (t : Spot) : Type 0 where
-  pub takes : drop s.reported (takes_of s.events) ≡ map (address_of shape) (range_with_len (floor_number v) (number t - floor_number v))
+  pub takes : drop s.reported (takes_of s.events) ≡ map (take_at shape v.queue) (range_with_len (floor_number v) (number t - floor_number v))
   -- no more takes are reported than there are: else a later take would count as reported
   pub most : s.reported ≤ length (takes_of s.events)
 

@@ -1,5 +1,5 @@
 -- Crossings: which Link is crossed on the way to a position, where it lies, where it leads, and how often: xHCI 4.11.5.1
-use Rattle.segments.proofs.LowerLaws.{◌≡◌, ◌≢◌, ◌+◌, ◌-◌, ◌%◌, ◌<◌, ◌≤◌, ◌==◌, if◌then◌else◌, ◌∷◌, ◌∙◌, ℕ, suc, zero, true, false, List, [], length, slice_index, Some, position, is_some, unwrap_or, arith, sym, ap, refl, inl, inr, get_or, add-one, add-zero, eqb-true, eq-eqb, ne_eqb, rules, cases_lt, cases_eq, cases_order, false≢true, cond-true, cond-false, length-map, get_or-map, position-Some, none-some, add-mod_right, mod-lt, mod-eq_of_lt, mod_self, RingKind, Cmd, Evt, Xfer, Segment, Shape, data_count, data_places, place_count, address_of, cycle_of, links_of, links, ends_from, ends_of, ends, link_crossed, is_crossing, link_address, link_target, toggles, IsShape, segment_at, before, before-next, before-all, before-zero, shape_facts, position_only}
+use Rattle.segments.proofs.LowerLaws.{◌≡◌, ◌+◌, ◌-◌, ◌%◌, ◌<◌, ◌≤◌, ◌==◌, if◌then◌else◌, ◌∷◌, ◌∙◌, ℕ, suc, zero, true, false, List, [], length, slice_index, Some, position, is_some, unwrap_or, arith, sym, ap, refl, inl, inr, get_or, add-one, add-zero, eqb-true, eq-eqb, ne_eqb, rules, cases_lt, cases_eq, cases_order, false≢true, cond-true, cond-false, length-map, get_or-map, position-Some, none-some, add-mod_right, mod-lt, mod-eq_of_lt, mod_self, RingKind, Cmd, Evt, Xfer, Segment, Shape, data_count, data_places, place_count, address_of, cycle_of, links_of, links, ends_from, ends_of, ends, link_crossed, is_crossing, link_address, link_target, toggles, IsShape, segment_at, before, before-next, before-all, before-zero, shape_facts, position_only}
 use Rattle.segments.proofs.DataPlaces.{block_is, IsPlace, link_is, same_link, length-links, place_is, segment_start}
 use Rattle.segments.proofs.Positions.{place_count_pos, place_below, next_within, next_at_end, same_in_lap, cycle_of-next, cycle_of-next_lap}
 

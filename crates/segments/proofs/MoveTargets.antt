@@ -1,5 +1,5 @@
 -- The spot that a pointer and a cycle state name is the one to which the ring may be moved
-use Rattle.segments.proofs.UpperLaws.{◌≡◌, ◌+◌, ◌-◌, ◌≤◌, ◌&&◌, ◌∷◌, ◌∙◌, ℕ, suc, zero, Bool, true, [], All, Some, arith, sym, ap, eqb-true, range_with_len, flat_map, cases_lt, and_parts, All-nil, All-cons, All-get_or, Any-from_list_any, Spot, Data, Link, Shape, IsSpot, is_spot, number, spot_address, IsShape, RingView, declared, floor_number, is_border, is_target, spots_between, target, is_reached, may_move_to, is_move, RingKeeps, rules, rank_least, rank_most, same_spot}
+use Rattle.segments.proofs.UpperLaws.{◌≡◌, ◌+◌, ◌-◌, ◌≤◌, ◌&&◌, ◌∷◌, ◌∙◌, ℕ, suc, zero, Bool, true, [], All, Some, arith, sym, ap, eqb-true, range_with_len, flat_map, cases_lt, and_parts, All-nil, All-cons, All-get_or, Any-from_list_any, Spot, Data, Link, Shape, IsSpot, number, spot_address, IsShape, RingView, declared, floor_number, is_border, is_target, spots_between, target, is_reached, may_move_to, is_move, RingKeeps, rules, rank_least, rank_most, same_spot}
 use Rattle.segments.proofs.Named.{found_is}
 
 -- a spot at an address, with a number from least to most

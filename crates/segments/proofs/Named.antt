@@ -1,5 +1,5 @@
 -- The spots that events and pointers name, and how far a ring's controller may have gone
-use Rattle.segments.proofs.UpperLaws.{rules, ◌≡◌, ◌+◌, ◌-◌, ◌<◌, ◌≤◌, ◌∷◌, ℕ, suc, zero, Bool, true, List, [], All, find, Some, arith, ltb-true, range_with_len, flat_map, cases_Bool, cond-true, cond-false, false≢true, and_parts, none-some, same_Some, All-head, All-tail, Spot, Data, Link, Shape, IsSpot, is_spot, number, IsShape, RingView, declared, floor_number, given_count, ceiling, named, is_data_below, is_target, spots_between, target, RingKeeps, rank_least, rank_most, IsNamed, named_spot-Some, floor_given, inl, inr, cases_option}
+use Rattle.segments.proofs.UpperLaws.{rules, ◌≡◌, ◌+◌, ◌-◌, ◌<◌, ◌≤◌, ◌∷◌, ℕ, suc, zero, Bool, true, List, [], All, find, Some, arith, ltb-true, range_with_len, flat_map, cases_Bool, cond-true, cond-false, false≢true, and_parts, none-some, same_Some, All-head, All-tail, Spot, Data, Link, Shape, IsSpot, number, IsShape, RingView, declared, floor_number, given_count, ceiling, named, is_data_below, is_target, spots_between, target, RingKeeps, rank_least, rank_most, IsNamed, named_spot-Some, floor_given, inl, inr, cases_option}
 pub use Rattle.segments.proofs.GivenCount.{ceiling_held, ceiling_open}
 
 -- ---- how far

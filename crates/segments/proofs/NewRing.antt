@@ -1,5 +1,5 @@
 -- Before anything happens on a ring the rules are kept
-use Rattle.segments.proofs.MiddleLaws.{rules, ◌≡◌, ◌≢◌, ℕ, false≢true, none-some, same_Some, Shape, place_count, address_of, cycle_of, link_address, IsShape, new_ring, RingKeeps, place_count_pos, cycle_of-first, crossing_positive, due_is, crossing_due_is}
+use Rattle.segments.proofs.MiddleLaws.{rules, ◌≡◌, ℕ, false≢true, none-some, same_Some, Shape, place_count, address_of, cycle_of, link_address, IsShape, new_ring, RingKeeps, place_count_pos, cycle_of-first, crossing_positive, due_is, crossing_due_is}
 
 pub new_ring_keeps : (shape : Shape) → IsShape shape → (memory : ℕ → ℕ) → ((a : ℕ) → memory a ≡ 0) → RingKeeps shape memory new_ring
 new_ring_keeps shape is memory zeros =

@@ -1,5 +1,8 @@
 -- How much of a ring is given, and how far its controller may have gone: xHCI 4.9.2, 4.6.9
-use Rattle.std.specs.Prelude.{ℕ, suc, zero, ◌+◌, ◌==◌, ◌&&◌, ◌||◌, if◌then◌else◌, Bool, false, not, nat_le, nat_lt, is_none, min, unwrap_or, Option}
+use Rattle.std.specs.Prelude.{ℕ, suc, zero, ◌+◌, ◌==◌, ◌&&◌, ◌||◌, if◌then◌else◌, Bool, false, not, nat_le, nat_lt, is_none, min, unwrap_or, List, Option, option_and_then, option_map, find, slice_get, ◌-◌}
+use Rattle.std.specs.List.{range_with_len}
+use Rattle.trb.specs.declared.block.Block.{Block}
+use Rattle.trb.specs.Block.{data_value, has_value}
 use Rattle.segments.specs.declared.spot.Spot.{Spot}
 use Rattle.segments.specs.declared.spot.Spot.TheVariants.{Data, Link}
 use Rattle.segments.specs.ShapeValue.{Shape}
@@ -32,6 +35,14 @@ is_open v = is_none v.held
 -- the spot that an event names by an address: the least one from the floor on, up to what is declared
 unfoldable pub named : Shape → RingView → ℕ → Option Spot
 named shape v address = named_spot shape v.floor (declared v) address
+
+-- the value of the Event Data block that is declared at a position, if it is one: xHCI 6.4.4.2
+unfoldable pub data_at : List Block → ℕ → Option ℕ
+data_at queue p = option_and_then data_value (slice_get queue p)
+
+-- the spot that an event names by a value: the least position from the floor on, up to what is declared, with an Event Data block of this value
+unfoldable pub named_data : RingView → ℕ → Option Spot
+named_data v value = option_map Data (find (λ p. has_value value (data_at v.queue p)) (range_with_len (floor_number v) (declared v - floor_number v)))
 
 -- the spot is a block with a number below n
 unfoldable pub is_data_below : ℕ → Spot → Bool

@@ -1,14 +1,15 @@
 ghost use Rattle.std.specs.Prelude.{◌≡◌};
 ghost use Rattle.traces.specs.Limits.{most_declared_of};
-ghost use Rattle.traces.specs.Versions.{has_isoch, has_ring_rows, has_runs, is_lenient, profile_of};
+ghost use Rattle.traces.specs.Versions.{has_data, has_isoch, may_have_data, has_ring_rows, has_runs, is_lenient, profile_of};
 
-use trb::{MAX_BLOCKS, Profile};
+use trb::{Block, MAX_BLOCKS, Profile, may_name_data};
 
 /// Blocks of one declaration before version 4, and in a plan.
 pub const MOST_DECLARED: usize = 256;
 
 /// The version of a trace, which its first line names. Versions 1 and 2 judge by the rules that came first; version 3 by
-/// those that a harm needs; version 4 has isochronous transfers and second runs of the controller too.
+/// those that a harm needs; version 4 has isochronous transfers, Event Data and second runs of the
+/// controller too.
 #[derive(Clone, Copy, Debug, PartialEq, Eq)]
 pub enum Version {
     /// `xtrace 1`.
@@ -50,14 +51,28 @@ impl Version {
         self == Version::Four
     }
 
+    /// Event Data blocks are used, and events that tell their values (xHCI 4.11.5.2).
+    pub fn has_data(self) -> bool
+        ensures { result ≡ has_data self }
+    {
+        matches!(self, Version::Four)
+    }
+
+    /// A Transfer Event tells an address; or, by ED, a value, with a code that says that a block was passed.
+    pub fn may_have_data(self, event: Block) -> bool
+        ensures { result ≡ may_have_data self event }
+    {
+        !event.has_event_data() || self.has_data() && may_name_data(event.code())
+    }
+
     /// Which transfers there are.
     pub fn profile(self) -> Profile
         ensures { result ≡ profile_of self }
     {
-        if self.has_isoch() {
-            Profile::WithIsoch
+        if self.has_isoch() && self.has_data() {
+            Profile::Full
         } else {
-            Profile::WithoutIsoch
+            Profile::Basic
         }
     }
 

@@ -1,5 +1,5 @@
 -- A block with another Cycle bit has all else as it was
-use Rattle.trb.proofs.Words.{◌≡◌, ◌+◌, ◌-◌, ◌/◌, ◌%◌, ◌^◌, ◌<◌, ◌∙◌, ◌==◌, ℕ, arith, sym, ap, shr-shr, Block, bits, is_set, kind_numbered, word, cycle, type_number, kind, slot, endpoint, with_cycle}
+use Rattle.trb.proofs.Words.{◌≡◌, ◌+◌, ◌/◌, ◌%◌, ◌^◌, ◌<◌, ◌∙◌, ◌==◌, ℕ, arith, sym, ap, shr-shr, Block, bits, is_set, kind_numbered, word, cycle, type_number, kind, slot, endpoint, with_cycle}
 
 -- two words that differ in their lowest bit at most have the same fields above it
 pub bits-above_lowest : (m n low count : ℕ) → m / 2 ≡ n / 2 → bits m (1 + low) count ≡ bits n (1 + low) count

@@ -1,9 +1,9 @@
 -- The fields of a block (TRB): xHCI 4.11.1, 6.4
-use Rattle.std.specs.Prelude.{◌≡◌, ◌<◌, length, ℕ, ◌+◌, ◌*◌, ◌-◌, ◌/◌, ◌^◌, ◌==◌, ◌&&◌, Bool, [], ◌∷◌, slice_index}
+use Rattle.std.specs.Prelude.{◌≡◌, ◌<◌, length, if◌then◌else◌, ℕ, ◌+◌, ◌*◌, ◌-◌, ◌/◌, ◌^◌, ◌==◌, ◌&&◌, Bool, [], ◌∷◌, slice_index, Option, Some, None, false}
 use Rattle.trb.specs.declared.block.Block.{Block}
 use Rattle.trb.specs.declared.kind.BlockKind.{BlockKind}
 use Rattle.trb.specs.Bits.{bits, is_set}
-use Rattle.trb.specs.Kind.{kind_numbered}
+use Rattle.trb.specs.Kind.{is_event_data, kind_numbered}
 
 -- one of the four words
 abbrev pub word : Block → ℕ → ℕ
@@ -27,6 +27,19 @@ is_chained b = is_set (word b 3) 4
 -- words 1 and 0
 abbrev pub pointer : Block → ℕ
 pointer b = word b 0 + 2 ^ 32 * word b 1
+
+-- Event Data (ED), word 3 bit 2 of a Transfer Event: its words 0 and 1 are the value of an Event Data block, and no address
+abbrev pub has_event_data : Block → Bool
+has_event_data b = is_set (word b 3) 2
+
+-- the value of an Event Data block, words 0 and 1: xHCI 6.4.4.2
+abbrev pub data_value : Block → Option ℕ
+data_value b = if is_event_data (kind b) then Some (pointer b) else None
+
+-- the value is this one
+abbrev pub has_value : ℕ → Option ℕ → Bool
+has_value v None = false
+has_value v (Some o) = o == v
 
 -- bits 63:4 of a pointer
 abbrev pub aligned : ℕ → ℕ

@@ -1,5 +1,5 @@
 -- Completion codes of Transfer Events that the profile has: xHCI 6.4.5, table 6-90
-use Rattle.std.specs.Prelude.{ℕ, ◌==◌, ◌||◌, if◌then◌else◌, Bool, true, false}
+use Rattle.std.specs.Prelude.{ℕ, ◌==◌, ◌||◌, if◌then◌else◌, Bool, true, false, not}
 
 -- Success, Short Packet
 abbrev pub is_success : ℕ → Bool
@@ -29,6 +29,10 @@ is_isoch_error c = c == 2 || c == 3 || c == 4 || c == 18 || c == 20 || c == 31 |
 -- Ring Underrun, Ring Overrun, Missed Service Error: they tell of the service, and of no block
 abbrev pub is_of_service : ℕ → Bool
 is_of_service c = c == 14 || c == 15 || c == 23
+
+-- codes with which an event may tell the value of an Event Data block: those that tell that the block was passed
+abbrev pub may_name_data : ℕ → Bool
+may_name_data c = not (is_of_service c || is_stopping c)
 
 -- how a code counts: at an isochronous endpoint, which no error halts, the errors tell that a block was passed, as Success does; without a
 -- handshake nothing stalls (6), and that is no code there

@@ -7,12 +7,12 @@ use Rattle.trb.specs.declared.kind.BlockKind.TheVariants.{Normal, SetupStage, Da
 use Rattle.trb.specs.declared.fault.Fault.{Fault}
 use Rattle.trb.specs.declared.fault.Fault.TheVariants.{BadDescriptor, NotInProfile}
 use Rattle.trb.specs.declared.profile.Profile.{Profile}
-use Rattle.trb.specs.declared.profile.Profile.TheVariants.{WithoutIsoch}
+use Rattle.trb.specs.declared.profile.Profile.TheVariants.{Basic}
 use Rattle.trb.specs.declared.ring_kind.RingKind.{RingKind}
 use Rattle.trb.specs.declared.ring_kind.RingKind.TheVariants.{Cmd, Evt, Xfer}
 use Rattle.trb.specs.Bits.{bits, is_set}
 use Rattle.trb.specs.Block.{word, cycle, kind, is_chained}
-use Rattle.trb.specs.Kind.{is_normal, is_transfer, is_left_out_transfer, is_command, is_left_out_command}
+use Rattle.trb.specs.Kind.{is_event_data, carries_on, is_transfer, is_left_out_transfer, is_command, is_left_out_command}
 
 abbrev pub fault_number : Fault → ℕ
 fault_number BadDescriptor = 16
@@ -41,20 +41,27 @@ is_badly_formed blocks = nat_lt most_blocks (length blocks) || list_any (λ b. c
 abbrev pub has_setup_data : Block → Bool
 has_setup_data b = bits (word b 2) 0 17 == 8 && is_set (word b 3) 6 && not (bits (word b 3) 16 2 == 1)
 
-abbrev pub are_normal : List Block → Bool
-are_normal blocks = list_all (λ b. is_normal (kind b)) blocks
+-- each goes on with the descriptor: Normal and Event Data blocks, in any order (xHCI 4.11.5.2)
+abbrev pub carry_on : List Block → Bool
+carry_on blocks = list_all (λ b. carries_on (kind b)) blocks
+
+-- behind a Status Stage: nothing, or one Event Data block (xHCI 4.11.2.2)
+abbrev pub ends_status : List Block → Bool
+ends_status [] = true
+ends_status (b ∷ []) = is_event_data (kind b)
+ends_status _ = false
 
 -- which blocks may follow a first one of this type
 abbrev pub may_begin : BlockKind → Block → List Block → Bool
-may_begin Normal b rest = are_normal rest
+may_begin Normal b rest = carry_on rest
 may_begin SetupStage b rest = has_setup_data b && length rest == 0
-may_begin DataStage b rest = are_normal rest
-may_begin StatusStage b rest = length rest == 0
-may_begin Isoch b rest = are_normal rest
+may_begin DataStage b rest = carry_on rest
+may_begin StatusStage b rest = ends_status rest
+may_begin Isoch b rest = carry_on rest
 may_begin NoOp b rest = length rest == 0
 may_begin _ b rest = false
 
--- Normal blocks; a Setup Stage; a Data Stage and Normal blocks; a Status Stage; an Isoch and Normal blocks; a No Op
+-- a Setup Stage or a No Op alone; a Status Stage; a Normal block, a Data Stage or an Isoch, and those with which it goes on
 abbrev pub is_transfer_arrangement : List Block → Bool
 is_transfer_arrangement [] = false
 is_transfer_arrangement (b ∷ rest) = may_begin (kind b) b rest
@@ -112,6 +119,6 @@ fault_in profile r blocks =
     if is_bad_descriptor profile r blocks then Some BadDescriptor else
     if is_left_out profile r blocks then Some NotInProfile else None
 
--- the same of the versions without isochronous transfers
+-- the same by the basic profile
 abbrev pub fault_of : RingKind → List Block → Option Fault
-fault_of r blocks = fault_in WithoutIsoch r blocks
+fault_of r blocks = fault_in Basic r blocks

@@ -2,7 +2,7 @@
 use Rattle.std.specs.Prelude.{ℕ, Bool, true, false, List, [], ◌∷◌, codes, ◌||◌, ◌&&◌, ◌==◌, nat_le, slice_index_or}
 use Rattle.trb.specs.declared.kind.BlockKind.{BlockKind}
 use Rattle.trb.specs.declared.profile.Profile.{Profile}
-use Rattle.trb.specs.declared.profile.Profile.TheVariants.{WithoutIsoch}
+use Rattle.trb.specs.declared.profile.Profile.TheVariants.{Basic}
 use Rattle.trb.specs.declared.kind.BlockKind.TheVariants.{Normal, SetupStage, DataStage, StatusStage, Isoch, Link, EventData, NoOp, EnableSlot, DisableSlot, AddressDevice, ConfigureEndpoint, EvaluateContext, ResetEndpoint, StopEndpoint, SetTrDequeue, ResetDevice, NoOpCommand, TransferEvent, CommandCompletion, PortStatusChange, BandwidthRequest, Doorbell, HostController, DeviceNotification, MfindexWrap, Unknown}
 
 -- the types by their numbers, from 0 on
@@ -86,6 +86,17 @@ abbrev pub is_link : BlockKind → Bool
 is_link Link = true
 is_link _ = false
 
+-- Event Data: the value that an event tells instead of the address of a block (xHCI 4.11.5.2, 6.4.4.2)
+abbrev pub is_event_data : BlockKind → Bool
+is_event_data EventData = true
+is_event_data _ = false
+
+-- the types with which a descriptor goes on behind its first block
+abbrev pub carries_on : BlockKind → Bool
+carries_on Normal = true
+carries_on EventData = true
+carries_on _ = false
+
 -- the types that a transfer descriptor may have, in the profile or not; a Link belongs to no descriptor
 abbrev pub is_transfer : BlockKind → Bool
 is_transfer Normal = true
@@ -97,10 +108,10 @@ is_transfer EventData = true
 is_transfer NoOp = true
 is_transfer _ = false
 
--- blocks of transfers that a profile leaves out: isochronous ones by that without them, and Event Data blocks
+-- blocks of transfers that a profile leaves out: isochronous ones, and Event Data
 abbrev pub is_left_out_transfer : Profile → BlockKind → Bool
-is_left_out_transfer WithoutIsoch Isoch = true
-is_left_out_transfer _ EventData = true
+is_left_out_transfer Basic Isoch = true
+is_left_out_transfer Basic EventData = true
 is_left_out_transfer _ _ = false
 
 abbrev pub is_command : BlockKind → Bool

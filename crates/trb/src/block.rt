@@ -14,7 +14,7 @@ pub struct Block {
 impl Block {
     ghost use Rattle.trb.specs.Bits.{is_set};
     ghost use Rattle.trb.specs.Flags.{flag_bits, all_flags, has_flag, flag_places};
-    ghost use Rattle.trb.specs.Block.{word, kind, cycle, with_cycle, is_chained, pointer, code, slot, endpoint};
+    ghost use Rattle.trb.specs.Block.{word, kind, cycle, with_cycle, is_chained, pointer, code, slot, endpoint, has_event_data, data_value};
 
     /// The type (TRB Type, word 3 bits 15:10).
     #[inline(always)]
@@ -68,6 +68,21 @@ impl Block {
         ensures { result ≡ pointer self }
     {
         u64::from(self.w[1]) << 32 | u64::from(self.w[0])
+    }
+
+    /// Event Data (ED, word 3 bit 2) of a Transfer Event: it tells the value of an Event Data block, and no address.
+    #[inline(always)]
+    pub fn has_event_data(self) -> bool
+        ensures { result ≡ has_event_data self }
+    {
+        is_set(self.w[3], 2)
+    }
+
+    /// The value of an Event Data block, words 1 and 0 (xHCI 6.4.4.2).
+    pub fn data_value(self) -> Option<u64>
+        ensures { result ≡ data_value self }
+    {
+        self.kind().is_event_data().then(|| self.pointer())
     }
 
     /// The Completion Code of an event (word 2 bits 31:24).

@@ -1,6 +1,6 @@
 //! Completion codes of Transfer Events: xHCI 6.4.5, table 6-90.
 ghost use Rattle.std.specs.Prelude.{◌≡◌};
-ghost use Rattle.trb.specs.CompletionCode.{counted_code, is_halting, is_isoch_error, is_of_service, is_stopping, is_success, is_trb_error};
+ghost use Rattle.trb.specs.CompletionCode.{counted_code, is_halting, is_isoch_error, is_of_service, may_name_data, is_stopping, is_success, is_trb_error};
 
 /// Success or Short Packet: the block is finished.
 #[inline(always)]
@@ -65,4 +65,12 @@ pub fn is_of_service(code: u8) -> bool
     ensures { result ≡ is_of_service code }
 {
     matches!(code, 14 | 15 | 23)
+}
+
+/// An event with this code may tell the value of an Event Data block (xHCI 4.11.5.2): the code tells that the block was passed.
+#[inline(always)]
+pub fn may_name_data(code: u8) -> bool
+    ensures { result ≡ may_name_data code }
+{
+    !is_of_service(code) && !is_stopping(code)
 }

@@ -1,7 +1,7 @@
 ghost use Rattle.std.specs.Prelude.{◌≡◌, ◌==◌};
 ghost use Rattle.std.specs.List.{list_any, list_all};
 ghost use Rattle.trb.specs.Block.{kind, cycle, is_chained};
-ghost use Rattle.trb.specs.Descriptor.{fault_in, fault_of, is_bad_descriptor, is_left_out, is_bad_command, is_bad_transfer, is_transfer_left_out, is_command_left_out, is_no_command, has_left_out_field, has_other_target, has_other_type, has_left_out_type, is_transfer_arrangement, may_begin, are_normal, has_setup_data, is_badly_formed, is_chain};
+ghost use Rattle.trb.specs.Descriptor.{fault_in, fault_of, is_bad_descriptor, is_left_out, is_bad_command, is_bad_transfer, is_transfer_left_out, is_command_left_out, is_no_command, has_left_out_field, has_other_target, has_other_type, has_left_out_type, is_transfer_arrangement, may_begin, carry_on, ends_status, has_setup_data, is_badly_formed, is_chain};
 
 use crate::bits::{bits, is_set};
 use crate::block::Block;
@@ -13,12 +13,12 @@ use crate::ring_kind::RingKind;
 /// The most blocks of a descriptor: a limit of this project.
 pub const MAX_BLOCKS: usize = 4096;
 
-/// What is wrong with these blocks as a descriptor (TD) of such a ring, in a trace without isochronous transfers.
+/// What is wrong with these blocks as a descriptor (TD) of such a ring, by the basic profile.
 #[inline(always)]
 pub fn descriptor_fault(kind: RingKind, blocks: &[Block]) -> Option<Fault>
     ensures { result ≡ fault_of kind blocks.now }
 {
-    descriptor_fault_in(Profile::WithoutIsoch, kind, blocks)
+    descriptor_fault_in(Profile::Basic, kind, blocks)
 }
 
 /// What is wrong with these blocks as a descriptor (TD) of such a ring: xHCI 3.2.8 to 3.2.11, 4.11.2, 6.4.1, 6.4.3.
@@ -161,7 +161,7 @@ fn has_other_target(block: Block) -> bool
     bits(block.w[2], 22, 10) != 0
 }
 
-/// Normal blocks; a Setup Stage; a Data Stage and Normal blocks; a Status Stage; an Isoch and Normal blocks; a No Op.
+/// A Setup Stage or a No Op alone; a Status Stage; a Normal block, a Data Stage or an Isoch, and those with which it goes on.
 fn is_transfer_arrangement(blocks: &[Block]) -> bool
     ensures { result ≡ is_transfer_arrangement blocks.now }
 {
@@ -175,17 +175,30 @@ fn may_begin(first: Block, rest: &[Block]) -> bool
     ensures { result ≡ may_begin (kind first) first rest.now }
 {
     match first.kind() {
-        BlockKind::Normal | BlockKind::DataStage | BlockKind::Isoch => are_normal(rest),
+        BlockKind::Normal | BlockKind::DataStage | BlockKind::Isoch => carry_on(rest),
         BlockKind::SetupStage => has_setup_data(first) && rest.is_empty(),
-        BlockKind::StatusStage | BlockKind::NoOp => rest.is_empty(),
+        BlockKind::StatusStage => ends_status(rest),
+        BlockKind::NoOp => rest.is_empty(),
         _ => false,
     }
 }
 
-fn are_normal(blocks: &[Block]) -> bool
-    ensures { result ≡ are_normal blocks.now }
+/// Each goes on with the descriptor (xHCI 4.11.5.2).
+fn carry_on(blocks: &[Block]) -> bool
+    ensures { result ≡ carry_on blocks.now }
 {
-    blocks.iter().all(|b| b.kind() == BlockKind::Normal)
+    blocks.iter().all(|b| b.kind().carries_on())
+}
+
+/// Behind a Status Stage: nothing, or one Event Data block (xHCI 4.11.2.2).
+fn ends_status(blocks: &[Block]) -> bool
+    ensures { result ≡ ends_status blocks.now }
+{
+    match blocks {
+        [] => true,
+        [block] => block.kind().is_event_data(),
+        _ => false,
+    }
 }
 
 /// Eight bytes of setup data in the block itself (IDT), and no reserved transfer type (TRT): xHCI 6.4.1.2.1.

@@ -1,6 +1,6 @@
 ghost use Rattle.std.specs.Prelude.{◌≡◌, Some};
 ghost use Rattle.std.specs.Fmt.{padded};
-ghost use Rattle.trb.specs.Kind.{kind_numbered, number_of, kind_name, is_transfer, is_left_out_transfer, is_command, is_left_out_command};
+ghost use Rattle.trb.specs.Kind.{kind_numbered, number_of, kind_name, is_event_data, carries_on, is_transfer, is_left_out_transfer, is_command, is_left_out_command};
 
 use crate::profile::Profile;
 use std::fmt;
@@ -127,13 +127,27 @@ impl BlockKind {
         )
     }
 
-    /// The blocks of transfers that a profile leaves out: Event Data, and isochronous ones where it is without them.
+    /// Event Data: the value that an event tells instead of the address of a block (xHCI 4.11.5.2, 6.4.4.2).
+    #[inline(always)]
+    pub fn is_event_data(self) -> bool
+        ensures { result ≡ is_event_data self }
+    {
+        self == BlockKind::EventData
+    }
+
+    /// The types with which a descriptor goes on behind its first block.
+    pub fn carries_on(self) -> bool
+        ensures { result ≡ carries_on self }
+    {
+        matches!(self, BlockKind::Normal | BlockKind::EventData)
+    }
+
+    /// The blocks of transfers that a profile leaves out: isochronous ones and Event Data, or none.
     pub fn is_left_out_transfer(self, profile: Profile) -> bool
         ensures { result ≡ is_left_out_transfer profile self }
     {
         match self {
-            BlockKind::Isoch => profile == Profile::WithoutIsoch,
-            BlockKind::EventData => true,
+            BlockKind::Isoch | BlockKind::EventData => profile == Profile::Basic,
             _ => false,
         }
     }

@@ -17,7 +17,7 @@ pub use bitflags::Flags;
 pub use block::Block;
 pub use blocks::Blocks;
 pub use completion_code::{
-    counted_code, is_halting, is_of_service, is_stopping, is_success, is_trb_error,
+    counted_code, is_halting, is_of_service, is_stopping, is_success, is_trb_error, may_name_data,
 };
 pub use descriptor::{
     MAX_BLOCKS, descriptor_fault, descriptor_fault_in, is_command_left_out, is_no_command,

@@ -1,5 +1,5 @@
 -- Which addresses are event positions
-use Rattle.world_state.proofs.Words.{position_from-place, or_from, Data, place_at-Data, place_at-address_of, address_aligned, position_from, is_event_place, address_of-first, list_any, list_any_at, Shape, IsShape, data_places, place_count, address_of, place_at, ◌≡◌, ◌≢◌, ◌+◌, ◌-◌, ◌*◌, ◌%◌, ◌<◌, ◌==◌, ◌∙◌, ◌∷◌, ℕ, suc, true, false, Bool, List, [], Some, None, get_or, length, ap, sym, refl, arith, eq-eqb, ne_eqb}
+use Rattle.world_state.proofs.Words.{position_from-place, or_from, Data, place_at-Data, place_at-address_of, address_aligned, position_from, is_event_place, address_of-first, list_any, list_any_at, Shape, IsShape, data_places, place_count, address_of, place_at, ◌≡◌, ◌≢◌, ◌+◌, ◌-◌, ◌*◌, ◌%◌, ◌<◌, ◌==◌, ◌∙◌, ◌∷◌, ℕ, suc, true, false, Bool, List, [], Some, get_or, length, ap, sym, refl, arith, eq-eqb, ne_eqb}
 
 none_passes : (test : ℕ → Bool) (xs : List ℕ) → ((k : ℕ) → k < length xs → test (get_or xs k 0) ≡ false) → list_any test xs ≡ false
 none_passes test [] fails = refl

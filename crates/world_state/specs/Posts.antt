@@ -1,9 +1,8 @@
 -- Posts: the controller writes an event to the Event Ring: xHCI 4.8.3, 4.9.4, 4.10.2, 6.4.2
-use Rattle.std.specs.Prelude.{ℕ, ◌+◌, ◌-◌, ◌==◌, ◌&&◌, if◌then◌else◌, Bool, true, false, not, List, [], ◌∷◌, length, nat_lt, Option, Some, None, position, option_map}
+use Rattle.std.specs.Prelude.{ℕ, ◌+◌, ◌-◌, ◌==◌, ◌&&◌, if◌then◌else◌, Bool, true, false, not, length, nat_lt, Option, Some, None, position, option_map}
 use Rattle.guest_memory.specs.Memory.{put, put_pair}
 use Rattle.trb.specs.declared.block.Block.{Block}
-use Rattle.trb.specs.Bits.{is_set}
-use Rattle.trb.specs.Block.{word, cycle, kind, pointer, code, slot, endpoint}
+use Rattle.trb.specs.Block.{cycle, kind, pointer, code, slot, endpoint}
 use Rattle.trb.specs.Kind.{is_transfer_event, is_other_event}
 use Rattle.trb.specs.CompletionCode.{counted_code, is_success, is_halting, is_of_service, is_trb_error, is_stopping}
 use Rattle.segments.specs.Places.{address_of, cycle_of}
@@ -14,9 +13,9 @@ use Rattle.commands.specs.States.{is_running}
 use Rattle.event_ring.specs.EventRing.{has_room}
 use Rattle.traces.specs.declared.header.Header.{Header}
 use Rattle.traces.specs.Header.{event_shape, event_size}
-use Rattle.traces.specs.Versions.{has_isoch}
+use Rattle.traces.specs.Versions.{has_isoch, may_have_data}
 use Rattle.world_state.specs.World.{World, UnderWay, stored_block}
-use Rattle.world_state.specs.Takes.{unreported}
+use Rattle.world_state.specs.Takes.{names, names_last, unreported}
 
 module _ (h : Header) where
   -- an event ring is declared, the controller runs, there is room, and the words have the right Cycle bit
@@ -30,19 +29,14 @@ module _ (h : Header) where
   unfoldable pub with_reported : World → ℕ → ℕ → World
   with_reported w r n = record w { reported = put w.reported r n }
 
-  -- success: names an unreported take, the oldest with that address; it and those before it are reported
-  unfoldable pub report_success : World → ℕ → ℕ → Option World
-  report_success w r a = option_map (λ n. with_reported w r (w.reported r + n + 1)) (position (λ b. b == a) (unreported w r))
-
-  unfoldable pub is_last : ℕ → List ℕ → Bool
-  is_last a [] = false
-  is_last a (b ∷ []) = b == a
-  is_last a (b ∷ c ∷ rest) = is_last a (c ∷ rest)
+  -- success: names an unreported take, the oldest with that address, or that value; it and those before it are reported
+  unfoldable pub report_success : World → ℕ → Block → Option World
+  report_success w r b = option_map (λ n. with_reported w r (w.reported r + n + 1)) (position (names b) (unreported w r))
 
   -- an error: names the last take, unreported yet; the endpoint's state is set and its ring inactive
-  unfoldable pub report_error : World → ℕ → ℕ → ℕ → ℕ → EndpointState → Option World
-  report_error w s i r a state =
-      if is_running (w.endpoint_state s i) && w.is_active r && is_last a (unreported w r)
+  unfoldable pub report_error : World → ℕ → ℕ → ℕ → Block → EndpointState → Option World
+  report_error w s i r b state =
+      if is_running (w.endpoint_state s i) && w.is_active r && names_last b (unreported w r)
       then Some (record (with_reported w r (w.reported r + length (unreported w r))) {
         is_active = put w.is_active r false;
         endpoint_state = put_pair w.endpoint_state s i state;
@@ -62,19 +56,19 @@ module _ (h : Header) where
   stopped_with w r n = record (with_reported w r n) { is_active = put w.is_active r false; under_way = with_stopped w.under_way }
 
   -- stopped: names the last take if it is unreported, and those before it are reported; else the pointer, and all are
-  unfoldable pub report_stop : World → ℕ → ℕ → ℕ → ℕ → Option World
-  report_stop w s i r a =
+  unfoldable pub report_stop : World → ℕ → ℕ → ℕ → Block → Option World
+  report_stop w s i r b =
       if not (is_stop_under_way s i w.under_way && is_running (w.endpoint_state s i) && w.is_active r) then None
-      else if is_last a (unreported w r) then Some (stopped_with w r (w.reported r + length (unreported w r) - 1))
-      else if a == w.pointer_of r then Some (stopped_with w r (w.reported r + length (unreported w r)))
+      else if names_last b (unreported w r) then Some (stopped_with w r (w.reported r + length (unreported w r) - 1))
+      else if pointer b == w.pointer_of r then Some (stopped_with w r (w.reported r + length (unreported w r)))
       else None
 
-  unfoldable pub report_code : World → ℕ → ℕ → ℕ → ℕ → ℕ → Option World
-  report_code w c s i r a =
-      if is_success c then report_success w r a
-      else if is_halting c then report_error w s i r a Halted
-      else if is_trb_error c then report_error w s i r a Error
-      else if is_stopping c then report_stop w s i r a
+  unfoldable pub report_code : World → ℕ → ℕ → ℕ → ℕ → Block → Option World
+  report_code w c s i r b =
+      if is_success c then report_success w r b
+      else if is_halting c then report_error w s i r b Halted
+      else if is_trb_error c then report_error w s i r b Error
+      else if is_stopping c then report_stop w s i r b
       else None
 
   -- how the code of an event counts
@@ -86,12 +80,12 @@ module _ (h : Header) where
   reported_on w b None = None
   reported_on w b (Some r) =
       if has_isoch h.version && is_of_service (code b) then Some (posted w b)
-      else report_code (posted w b) (code_posted w b) (slot b) (endpoint b) r (pointer b)
+      else report_code (posted w b) (code_posted w b) (slot b) (endpoint b) r b
 
-  -- a Transfer Event without Event Data, for an endpoint that has a ring
+  -- a Transfer Event for an endpoint that has a ring
   unfoldable pub reported : World → Block → Option World
   reported w b =
-      if can_post w b && is_transfer_event (kind b) && not (is_set (word b 3) 2) then reported_on w b (w.ring_of (slot b) (endpoint b)) else None
+      if can_post w b && is_transfer_event (kind b) && may_have_data h.version b then reported_on w b (w.ring_of (slot b) (endpoint b)) else None
 
   unfoldable pub other_posted : World → Block → Option World
   other_posted w b = if can_post w b && is_other_event (kind b) then Some (posted w b) else None

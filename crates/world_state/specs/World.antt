@@ -11,7 +11,6 @@ use Rattle.commands.specs.declared.state.EndpointState.TheVariants.{Disabled as 
 use Rattle.segments.specs.Places.{address_of}
 use Rattle.traces.specs.declared.header.Header.{Header}
 use Rattle.traces.specs.declared.register.Register.{Register}
-use Rattle.traces.specs.declared.row.Row.{Row}
 use Rattle.traces.specs.Header.{event_shape}
 
 -- what happened on a ring: a block was taken, with what was declared at its position then; or the dequeue pointer was set to an

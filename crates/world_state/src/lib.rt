@@ -2,5 +2,7 @@
 #![tactic(auto)]
 
 mod harm;
+mod take;
 
 pub use harm::Harm;
+pub use take::Take;

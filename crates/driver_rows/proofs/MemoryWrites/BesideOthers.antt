@@ -1,14 +1,13 @@
 -- A command beside the unfinished ones of its slot: which of them exclude it, by what each is about
-use Rattle.driver_rows.proofs.Words.{rules, ◌≡◌, ◌==◌, ◌&&◌, ◌||◌, ◌∙◌, ◌<◌, ℕ, Bool, not, true, false, List, [], ◌∷◌, All, Option, Some, None, refl, ap, sym, subst, inl, inr, arith, list_any, and_parts, or_parts, Command, named_slot, named_endpoint, is_about, FitsMemory, IsOnlyAbout}
+use Rattle.driver_rows.proofs.Words.{◌≡◌, ◌==◌, ◌&&◌, ◌||◌, ◌∙◌, ◌<◌, ℕ, Bool, not, true, false, List, [], ◌∷◌, All, Option, Some, None, refl, ap, sym, subst, inl, inr, arith, list_any, and_parts, or_parts, Command, named_slot, named_endpoint, is_about}
 use Rattle.std.proofs.lemmas.Bool.{and_from, cases_Bool, false_from_ne_true, false≢true}
 use Rattle.std.proofs.lemmas.List.Elements.{All-head, All-tail}
 use Rattle.std.proofs.Common.{eq-eqb, eqb-true}
-use Rattle.contexts.specs.declared.size.ContextSize.{ContextSize}
 use Rattle.commands.specs.Command.{exclude_by_slot, name_one_slot, name_two_endpoints, same_slot}
 use Rattle.commands.specs.SideBySide.{exclude}
 use Rattle.trace_record.specs.DeviceSlots.Indices.{IsEndpoint, NamesEndpoint, endpoint_index, index_of, is_slot, names}
 use Rattle.driver_rows.specs.ContextRules.Contents.{NamesLow}
-use Rattle.driver_rows.proofs.DoorbellRows.Touching.{IsThat, named_fits}
+use Rattle.driver_rows.proofs.DoorbellRows.Touching.{IsThat}
 
 any_fewer : {X : Type 0} (p q : X → Bool) → ((x : X) → p x ≡ true → q x ≡ true) → (xs : List X) → list_any q xs ≡ false → list_any p xs ≡ false
 any_fewer p q more [] none = refl

@@ -1,6 +1,7 @@
 -- Something happens on a transfer ring that leaves all else as it is: the record follows
 use Rattle.driver_rows.proofs.MiddleLaws.{rules, ◌≤◌, ◌≡◌, ◌∙◌, ℕ, Bool, true, false, Some, refl, ap, sym, subst, slice_get, with_item, RingKind, is_not_restored, ceiling, IsShape, RingChange, RingView, Restores, Withdraws, changed, floor_number, ceiling_within, DriverKeeps, IsDriverRing, Shape, Header, Ring, IsHeader, is_command_kind, is_transfer_kind, ring_with, shape_of, RingRecord, FollowsRing, Known, on_ring, unfinished, ring_elsewhere, same_blocks, unfinished_same, IsAmong, among_at, no_command_here, ring_found, shape_allowed, shape_there, TraceRecord, FollowsTrace, restored_on, IsTransferAt, is_passed, follows_beside, followed, here_on, only_on, rings_with, driver}
 use Rattle.ownership_rules.specs.Withdrawals.{is_left}
+use Rattle.driver_rows.specs.RingRows.Withdrawing.{is_unfit}
 
 no_command : (kind : RingKind) → is_transfer_kind kind ≡ true → is_command_kind kind ≡ false
 no_command kind e = search rules
@@ -70,6 +71,9 @@ module _ (h : Header) (headed : IsHeader h) (id n : ℕ) (there : IsTransferAt h
     module _ (p : ℕ) where
       pub passed_so : {b : Bool} → is_passed h shape (k.ring id) p ≡ b → is_passed h (shape_of h id) (k.ring id) p ≡ b
       passed_so told = ap (λ s. is_passed h s (k.ring id) p) (sym shape_read) ∙ told
+
+      pub unfit_so : {b : Bool} → is_unfit shape (k.ring id) p ≡ b → is_unfit (shape_of h id) (k.ring id) p ≡ b
+      unfit_so told = ap (λ s. is_unfit s (k.ring id) p) (sym shape_read) ∙ told
 
       pub withdrawn_so : (new : RingRecord) → FollowsRing shape (changed shape (k.ring id) (Withdraws p)) new → FollowsTrace h (on_ring h k id (Withdraws p)) (with_record kept n new) m
       withdrawn_so new noted =

@@ -1,5 +1,10 @@
 -- The rule of a descriptor that is withdrawn, from its parts
-use Rattle.driver_rows.proofs.LowerLaws.{rules, ◌≡◌, ◌∙◌, ◌⊎◌, ◌||◌, ◌≤◌, ℕ, true, false, refl, ap, Result, IfErr, OnOk, ceiling, RingView, floor_number, Shape, Header, shape_of, Known, has_stopped, is_bad_withdraw, StepFault, IfRefused, Refusal, is_no_descriptor, is_passed, withdraws_badly, or_true, ◌+◌, ◌<◌, Bool, arith, max, nat_le, nat_lt, nat_tests, if◌then◌else◌, has_runs, is_lenient, descriptor_length, IsNotPassed}
+use Rattle.driver_rows.proofs.LowerLaws.{rules, ◌≡◌, ◌∙◌, ◌⊎◌, ◌||◌, ◌≤◌, ℕ, true, false, ap, Result, IfErr, OnOk, ceiling, RingView, floor_number, Shape, Header, shape_of, Known, has_stopped, is_bad_withdraw, StepFault, IfRefused, Refusal, is_no_descriptor, is_passed, list_any, range_with_len, is_some, sym, inl, inr, ◌==◌, and_from, lt-ltb, cases_lt, withdraws_badly, or_true, ◌+◌, ◌<◌, Bool, arith, max, nat_le, nat_lt, nat_tests, if◌then◌else◌, has_runs, is_lenient, descriptor_length, IsNotPassed}
+use Rattle.std.proofs.Common.{le-leb, min}
+use Rattle.segments.specs.Ceiling.{data_at}
+use Rattle.ring_knowledge.proofs.Ranges.{any_at, any_none}
+use Rattle.ownership_rules.specs.Withdrawals.{may_be_told, may_tell_value}
+use Rattle.driver_rows.specs.RingRows.Withdrawing.{is_unfit}
 
 ahead_of : (runs lenient : Bool) (p n floor ceiling : ℕ) → floor ≤ ceiling → (if runs then nat_le (p + n) floor else nat_lt p (if lenient then floor else ceiling)) ≡ false → floor < p + max n 1
 ahead_of true lenient p n floor ceiling low ahead = grind (arith, nat_tests)
@@ -11,20 +16,44 @@ pub not_passed : (h : Header) (shape : Shape) (v : RingView) (p : ℕ) → floor
 unfolding is_passed
 not_passed h shape v p low ahead = ahead_of (has_runs h.version) (is_lenient h.version) p (descriptor_length v p) (floor_number v) (ceiling shape v) low ahead
 
+or_or : (a b c : Bool) → ((a || b) || c) ≡ (a || (b || c))
+or_or a b c = grind arith
+
+-- ---- the value of a block that is withdrawn
+
+module _ (shape : Shape) (v : RingView) (p n from end : ℕ) (begins : from ≡ max p (floor_number v)) (ends : end ≡ min (p + n) (ceiling shape v)) where
+  -- an event may tell it
+  pub told_at : (q : ℕ) → from ≤ q → q < end → is_some (data_at v.queue q) ≡ true → list_any (may_be_told shape v) (range_with_len p n) ≡ true
+  unfolding may_be_told
+  told_at q low high holds = any_at (may_be_told shape v) p n q (omega arith) (omega arith)
+      (and_from _ (is_some (data_at v.queue q)) (and_from (nat_le (floor_number v) q) (nat_lt q (ceiling shape v)) (le-leb (floor_number v) q (omega arith)) (lt-ltb q (ceiling shape v) (omega arith))) holds)
+
+  -- none may
+  pub told_none : ((q : ℕ) → from ≤ q → q < end → is_some (data_at v.queue q) ≡ false) → list_any (may_be_told shape v) (range_with_len p n) ≡ false
+  unfolding may_be_told
+  told_none none = any_none (may_be_told shape v) p n (λ q low high. elim (cases_lt q (floor_number v)) [
+    | inl below ↦ grind (arith, nat_tests)
+    | inr from_ ↦ elim (cases_lt q (ceiling shape v)) [
+      | inl under ↦ grind (arith, none q (omega arith) (omega arith))
+      | inr over ↦ grind (arith, nat_tests)
+    ]
+  ])
+
 module _ (h : Header) (k : Known) (r p : ℕ) where
   module _ (stopped : has_stopped h k r ≡ true) where
-    is_bad : is_bad_withdraw h k r p ≡ is_no_descriptor (k.ring r) p
-    unfolding is_bad_withdraw is_no_descriptor
-    is_bad = rw stopped refl
+    is_bad : is_bad_withdraw h k r p ≡ is_unfit (shape_of h r) (k.ring r) p
+    unfolding is_bad_withdraw is_unfit is_no_descriptor
+    is_bad =
+        rw stopped (sym (or_or (descriptor_length (k.ring r) p == 0) (list_any (k.ring r).withdrawn (range_with_len p (descriptor_length (k.ring r) p))) (may_tell_value (shape_of h r) (k.ring r) p)))
 
-    pub may : is_no_descriptor (k.ring r) p ≡ false → is_bad_withdraw h k r p ≡ false
+    pub may : is_unfit (shape_of h r) (k.ring r) p ≡ false → is_bad_withdraw h k r p ≡ false
     may begins = is_bad ∙ begins
 
-    pub may_now : is_no_descriptor (k.ring r) p ≡ false → is_passed h (shape_of h r) (k.ring r) p ≡ false → withdraws_badly h k r p ≡ false
+    pub may_now : is_unfit (shape_of h r) (k.ring r) p ≡ false → is_passed h (shape_of h r) (k.ring r) p ≡ false → withdraws_badly h k r p ≡ false
     unfolding withdraws_badly
     may_now begins ahead = ap (λ b. b || is_bad_withdraw h k r p) ahead ∙ may begins
 
-    pub may_not : (is_passed h (shape_of h r) (k.ring r) p ≡ true) ⊎ (is_no_descriptor (k.ring r) p ≡ true) → withdraws_badly h k r p ≡ true
+    pub may_not : (is_passed h (shape_of h r) (k.ring r) p ≡ true) ⊎ (is_unfit (shape_of h r) (k.ring r) p ≡ true) → withdraws_badly h k r p ≡ true
     unfolding withdraws_badly
     may_not e = search (rules, or_true, is_bad)
 

@@ -13,8 +13,9 @@ ghost use Rattle.trace_record.specs.Premises.{ContextsFit};
 ghost use Rattle.trace_record.specs.Steps.{IfRefused};
 ghost use Rattle.ownership_rules.specs.declared.refusal.Refusal.TheVariants.{BadWithdraw};
 ghost use Rattle.driver_rows.specs.RingRows.RingSteps.{IsRingStep};
-ghost use Rattle.ownership_rules.specs.Withdrawals.{is_passed};
-ghost use Rattle.ownership_rules.specs.BadWithdrawals.{is_no_descriptor, withdraws_badly};
+ghost use Rattle.ownership_rules.specs.Withdrawals.{is_passed, may_tell_value};
+ghost use Rattle.ownership_rules.specs.BadWithdrawals.{withdraws_badly};
+ghost use Rattle.driver_rows.specs.RingRows.Withdrawing.{is_unfit};
 
 use crate::rings::stopped::stopped_ring;
 use guest_memory::WordMemory;
@@ -67,10 +68,10 @@ fn withdraw_on(
     position: u64,
 ) -> Result<(), StepFault>
     ensures from { OnOk result ((v : RingView) → FollowsRing shape.now v known.old → floor_number v ≤ ceiling shape.now v → IsNotPassed v position) }
-    ensures rule { OnOk result ((v : RingView) → FollowsRing shape.now v known.old → floor_number v ≤ ceiling shape.now v → (is_passed header.now shape.now v position ≡ false) × (is_no_descriptor v position ≡ false)) }
+    ensures rule { OnOk result ((v : RingView) → FollowsRing shape.now v known.old → floor_number v ≤ ceiling shape.now v → (is_passed header.now shape.now v position ≡ false) × (is_unfit shape.now v position ≡ false)) }
     ensures ok { OnOk result ((v : RingView) → FollowsRing shape.now v known.old → floor_number v ≤ ceiling shape.now v → FollowsRing shape.now (changed shape.now v (WithdrawsAt position)) known.new) }
     ensures refused { IfErr result (λ e. IfRefused e (λ c. (c ≡ BadWithdraw) × ((v : RingView) → FollowsRing shape.now v known.old → floor_number v ≤ ceiling shape.now v →
-        (is_passed header.now shape.now v position ≡ true) ⊎ (is_no_descriptor v position ≡ true)))) }
+        (is_passed header.now shape.now v position ≡ true) ⊎ (is_unfit shape.now v position ≡ true)))) }
 {
     if is_passed(header, known, position) {
         return Err(StepFault::Refused(Refusal::BadWithdraw));
@@ -78,8 +79,27 @@ fn withdraw_on(
     if !known.may_withdraw(position) {
         return Err(StepFault::Refused(Refusal::BadWithdraw));
     }
+    if may_tell_value(known, position) {
+        return Err(StepFault::Refused(Refusal::BadWithdraw));
+    }
     known.withdraw(shape, position)?;
     Ok(())
+}
+
+/// Whether an event may still tell the value of a block of the descriptor that begins at a position, which the floor hasn't passed whole: the
+/// block is Event Data, and lies from the floor on and below the ceiling (xHCI 4.11.5.2).
+fn may_tell_value(known: &RingRecord, position: u64) -> bool
+    ensures { (shape : Shape) (v : RingView) → FollowsRing shape v known.now → IsNotPassed v position → result ≡ may_tell_value shape v position }
+{
+    let from = position.max(known.floor_number());
+    let length = u64::from(known.descriptor_length(position));
+    let end = position.saturating_add(length).min(known.ceiling());
+    for at in from..end {
+        if known.data_at(at).is_some() {
+            return true;
+        }
+    }
+    false
 }
 
 /// Whether a position lies below the ceiling, in version 3 below the floor; in version 4 whether the floor has passed the descriptor there whole.

@@ -1,5 +1,5 @@
 -- Endpoints of one slot get their types, one after another
-use Rattle.event_rows.proofs.Words.{rules, arith, ◌≡◌, ◌≤◌, ◌<◌, ◌+◌, ◌==◌, ◌&&◌, ◌||◌, ◌∙◌, ℕ, Bool, true, false, sym, if◌then◌else◌, nat_lt, nat_le, Header, Known, typed, DeviceRecord, FollowsDevices, eq-eqb, ne_eqb, lt-ltb, le-ltb, one_more, none_below, ContextSize, has_isochronous, is_isochronous, endpoint_type, input_endpoint}
+use Rattle.event_rows.proofs.Words.{rules, ◌≡◌, ◌≤◌, ◌<◌, ◌+◌, ◌==◌, ◌&&◌, ℕ, Bool, true, false, nat_lt, nat_le, Header, Known, typed, DeviceRecord, FollowsDevices, eq-eqb, ne_eqb, lt-ltb, le-ltb, one_more, ContextSize, has_isochronous, is_isochronous, endpoint_type, input_endpoint}
 
 -- by the flags that are known
 pub types_as : (k : Known) (d : DeviceRecord) (f g : ℕ → ℕ → Bool) → FollowsDevices (record k { isochronous = f }) d → ((t i : ℕ) → f t i ≡ g t i) →

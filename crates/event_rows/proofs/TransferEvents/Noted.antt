@@ -1,6 +1,8 @@
 -- What a Transfer Event that can have been posted adds to the record of a trace
-use Rattle.event_rows.proofs.LowerLaws.{rules, ◌≡◌, ℕ, List, true, false, Some, ap, sym, ◌∙◌, arith, subst, ◌||◌, none-some, same_Some, is_off, and_parts, Block, code, endpoint, pointer, slot, is_halting, is_success, is_stopping, is_transfer_code, is_trb_error, Spot, Shape, after, RingView, ceiling, is_data_below, is_stop_spot, named, RingKeeps, below_is, ceiling_within, named_ahead, given_count_declared, Header, IsHeader, command_id, shape_of, RingRecord, FollowsRing, Known, code_told, event_at, on_ring, spot_on, unfinished, passed, broken_off, stopped_at, transferred, transferred_at, transfer_read, FollowsDevices, DeviceRecord, Reaches, number, follows_beside, ring_here, ring_elsewhere, same_blocks, unfinished_same, transfer_stays, FollowsRings, IsAmong, among_at, shape_allowed, shape_there, can_report, can_report_at, is_impossible_transfer, is_in_profile, DriverKeeps, TraceRecord, FollowsTrace, NamedSpot, IsNamedAt, IsWithRecord, MayReport, reported, AreOffAs, IsBeside, IsOnly, followed, put_on, not_command, reported_at, transfer_driver}
+use Rattle.event_rows.proofs.LowerLaws.{rules, ◌≡◌, ℕ, List, true, false, Some, ap, sym, ◌∙◌, arith, subst, ◌||◌, none-some, same_Some, is_off, and_parts, Block, endpoint, slot, is_halting, is_success, is_transfer_code, is_trb_error, Spot, Shape, after, RingView, ceiling, is_data_below, is_stop_spot, RingKeeps, below_is, ceiling_within, given_count_declared, Header, IsHeader, command_id, shape_of, RingRecord, FollowsRing, Known, code_told, event_at, on_ring, spot_on, unfinished, passed, broken_off, stopped_at, transferred, transferred_at, transfer_read, FollowsDevices, DeviceRecord, Reaches, number, follows_beside, ring_here, ring_elsewhere, same_blocks, unfinished_same, transfer_stays, FollowsRings, IsAmong, among_at, shape_allowed, shape_there, can_report, is_impossible_transfer, is_in_profile, DriverKeeps, TraceRecord, FollowsTrace, NamedSpot, IsNamedAt, IsWithRecord, MayReport, reported, AreOffAs, IsBeside, IsOnly, followed, put_on, not_command, reported_at, transfer_driver}
 use Rattle.driver_rows.proofs.DoorbellRows.Followed.{rings_with}
+use Rattle.ring_knowledge.specs.Rings.{spot_named}
+use Rattle.safety.proofs.NamedData.{spot_ahead}
 
 -- ---- what changes
 
@@ -59,23 +61,25 @@ module _ (h : Header) (headed : IsHeader h) (k : Known) (keeps : DriverKeeps h k
     among : IsAmong is.ring h.rings
     among = among_at h.rings at.number is.ring is.here
 
+    keeps_there : RingKeeps (shape_of h is.ring.id) k.memory view
+    keeps_there = keeps.rings is.ring.id (transfer_driver h headed k keeps is.ring among is.transfer)
+
     ring_keeps : RingKeeps shape k.memory view
-    ring_keeps = subst (λ s. RingKeeps s k.memory view) (shape_there h headed is.ring among) (keeps.rings is.ring.id (transfer_driver h headed k keeps is.ring among is.transfer))
+    ring_keeps = subst (λ s. RingKeeps s k.memory view) (shape_there h headed is.ring among) keeps_there
 
     can : can_report h k told (slot b) (endpoint b) is.ring.id at.spot ≡ true
     unfolding is_impossible_transfer
     can = search (rules, reported_at h headed k keeps b is.ring.id at.spot (event_at h k b) is.names)
 
-    named_spot_is : named (shape_of h is.ring.id) view (pointer b) ≡ Some at.spot
+    spot_is : spot_named h k b is.ring.id ≡ Some at.spot
     unfolding event_at spot_on
-    named_spot_is = search (rules, none-some, same_Some)
+    spot_is = search (rules, none-some, same_Some)
 
     pub may_report : MayReport shape view told at.spot
     may_report = grind (
       arith,
       shape_there h headed is.ring among,
-      named_ahead shape k.memory view ring_keeps (pointer b) at.spot,
-      named_spot_is,
+      spot_ahead h k b is.ring.id at.spot keeps_there spot_is,
       ceiling_within shape (shape_allowed h headed is.ring among) k.memory view ring_keeps,
       given_count_declared shape (shape_allowed h headed is.ring among) k.memory view ring_keeps,
       below_is (ceiling shape view) at.spot,

@@ -1,5 +1,7 @@
 -- Where a controller can have posted a Transfer Event
-use Rattle.event_rows.proofs.Words.{arith, rules, ◌≡◌, ℕ, Bool, true, false, Option, Some, None, refl, ap, sym, ◌∙◌, subst, ◌==◌, ◌&&◌, ◌||◌, not, slice_get, position, nat_lt, option_and_then, if◌then◌else◌, option_map, eqb-true, false≢true, same_Some, none-some, Block, code, endpoint, pointer, slot, is_success, is_halting, is_trb_error, Spot, ceiling, is_data_below, is_stop_spot, named, RingView, floor_number, IsSpot, command_of, is_stop_of, is_off, RingKind, Ring, Header, IsHeader, command_id, is_command_kind, is_driver_kind, is_transfer_kind, shape_of, Known, RingRecord, FollowsRing, TraceRecord, FollowsTrace, RingSpot, command_at, event_at, next_command, spot_on, IsAmong, among_at, find_some, no_command_here, no_command_ring, untaken, ring_found, shape_there, can_report, can_report_at, is_impossible_transfer, is_in_profile, is_stopping_now, is_working, may_be_taken, DriverKeeps, IsDriverRing, IsTransferRing, number_of, found_at, none_found, command_found, command_id_is, is_stopping, is_of_service, code_told}
+use Rattle.event_rows.proofs.Words.{arith, rules, ◌≡◌, ℕ, Bool, true, false, Option, Some, None, refl, ap, sym, ◌∙◌, subst, ◌==◌, ◌&&◌, ◌||◌, not, slice_get, position, nat_lt, option_and_then, if◌then◌else◌, option_map, eqb-true, false≢true, same_Some, none-some, Block, code, endpoint, slot, is_success, is_halting, is_trb_error, Spot, ceiling, is_data_below, is_stop_spot, RingView, floor_number, IsSpot, command_of, is_stop_of, is_off, RingKind, Ring, Header, IsHeader, command_id, is_command_kind, is_driver_kind, is_transfer_kind, shape_of, Known, RingRecord, FollowsRing, TraceRecord, FollowsTrace, RingSpot, command_at, event_at, next_command, spot_on, IsAmong, among_at, find_some, no_command_here, no_command_ring, untaken, ring_found, shape_there, can_report, can_report_at, is_impossible_transfer, is_in_profile, is_stopping_now, is_working, may_be_taken, DriverKeeps, IsDriverRing, IsTransferRing, number_of, found_at, none_found, command_found, command_id_is, is_stopping, is_of_service, code_told}
+use Rattle.safety.proofs.NamedData.{named_by}
+use Rattle.ring_knowledge.specs.Rings.{spot_named}
 
 pub driven : (kind : RingKind) → is_transfer_kind kind ≡ true → is_driver_kind kind ≡ true
 driven kind e = search rules
@@ -58,9 +60,9 @@ module _ (h : Header) (headed : IsHeader h) (k : Known) (keeps : DriverKeeps h k
     unfolding event_at spot_on
     none_named none = search rules
 
-    pub named_on : is_of_service (code b) ≡ false → (ring : Ring) → IsAmong ring h.rings → k.ring_of (slot b) (endpoint b) ≡ Some ring.id → (o : Option Spot) → o ≡ named ring.shape (k.ring ring.id) (pointer b) →
+    pub named_on : is_of_service (code b) ≡ false → (ring : Ring) → IsAmong ring h.rings → k.ring_of (slot b) (endpoint b) ≡ Some ring.id → (o : Option Spot) → o ≡ named_by ring.shape (k.ring ring.id) b →
         event_at h k b ≡ option_map (λ t. let x : RingSpot = record { ring = ring.id; spot = t } in x) o
-    unfolding event_at spot_on
+    unfolding event_at spot_on spot_named
     named_on other ring among has o is = search (rules, shape_there)
 
   pub transfer_driver : (ring : Ring) → IsAmong ring h.rings → is_transfer_kind ring.shape.kind ≡ true → IsDriverRing h ring.id
@@ -77,14 +79,13 @@ module _ (h : Header) (headed : IsHeader h) (k : Known) (keeps : DriverKeeps h k
     its_floor : IsSpot its_ring.ring.shape (k.ring its_ring.ring.id).floor
     its_floor = grind (arith, among_at, shape_there, transfer_driver, among_at h.rings n its_ring.ring its_ring.at)
 
-    pub named_by : is_of_service (code b) ≡ false → (q : Ring) (known : RingRecord) (a : ℕ) (o : Option Spot) → slice_get h.rings n ≡ Some q → slice_get t.rings.items n ≡ Some known → a ≡ pointer b →
-        ((v : RingView) → FollowsRing q.shape v known → IsSpot q.shape v.floor → o ≡ named q.shape v a) →
+    pub event_names : is_of_service (code b) ≡ false → (q : Ring) (known : RingRecord) (o : Option Spot) → slice_get h.rings n ≡ Some q → slice_get t.rings.items n ≡ Some known →
+        ((v : RingView) → FollowsRing q.shape v known → IsSpot q.shape v.floor → o ≡ named_by q.shape v b) →
         event_at h k b ≡ option_map (λ t. let x : RingSpot = record { ring = its_ring.ring.id; spot = t } in x) o
-    named_by other q known a o here at pointed value =
+    event_names other q known o here at value =
         let same : its_ring.ring ≡ q = same_Some its_ring.ring q (sym its_ring.at ∙ here) in
         named_on b other its_ring.ring (among_at h.rings n its_ring.ring its_ring.at) its_ring.has o
-        (subst (λ (x : Ring). ((v : RingView) → FollowsRing x.shape v known → IsSpot x.shape v.floor → o ≡ named x.shape v a)) (sym same) value (k.ring its_ring.ring.id) (its_record known at) its_floor
-        ∙ ap (λ x. named its_ring.ring.shape (k.ring its_ring.ring.id) x) pointed)
+        (subst (λ (x : Ring). ((v : RingView) → FollowsRing x.shape v known → IsSpot x.shape v.floor → o ≡ named_by x.shape v b)) (sym same) value (k.ring its_ring.ring.id) (its_record known at) its_floor)
 
   -- the command ring is no endpoint's
   pub not_command : (s i : ℕ) → k.ring_of s i ≡ Some (command_id h) → ⊥

@@ -1,7 +1,6 @@
 //! Which Transfer Events the profile has: xHCI 6.4.2.1, 6.4.5.
 ghost use Rattle.std.specs.Prelude.{◌≡◌, ◌&&◌, ◌||◌, not};
-ghost use Rattle.trb.specs.Bits.{is_set};
-ghost use Rattle.trb.specs.Block.{code, endpoint, kind, slot, word};
+ghost use Rattle.trb.specs.Block.{code, endpoint, kind, slot};
 ghost use Rattle.trb.specs.CompletionCode.{is_halting, is_isoch_error, is_of_service, is_success, is_transfer_code, is_trb_error};
 ghost use Rattle.trb.specs.Kind.{is_transfer_event};
 ghost use Rattle.traces.specs.Versions.{has_isoch};
@@ -11,12 +10,10 @@ ghost use Rattle.ownership_rules.specs.Events.{is_code_of_profile, is_in_profile
 
 use trace_record::DeviceRecord;
 use traces::Header;
-use trb::{
-    Block, BlockFlags, BlockKind, Flags, counted_code, is_halting, is_of_service, is_success,
-    is_trb_error,
-};
+use trb::{Block, BlockKind, counted_code, is_halting, is_of_service, is_success, is_trb_error};
 
-/// Whether the profile leaves an event out: a Transfer Event with Event Data, or with a code that it doesn't have.
+/// Whether the profile leaves an event out: a Transfer Event with Event Data where the version or its code has none, or with a code that
+/// the profile doesn't have.
 #[inline(always)]
 pub fn is_left_out(header: &Header, devices: &DeviceRecord, event: Block) -> bool
     ensures { (k : Known) → FollowsDevices k devices.now → result ≡ (is_transfer_event (kind event) && not (is_in_profile header.now k event)) }
@@ -30,19 +27,12 @@ fn is_transfer_event(kind: BlockKind) -> bool
     matches!(kind, BlockKind::TransferEvent)
 }
 
-/// No Event Data (ED), and a code of the profile.
+/// Event Data (ED) only where the version and the code have it, and a code of the profile.
 #[inline(always)]
 fn is_in_profile(header: &Header, devices: &DeviceRecord, event: Block) -> bool
     ensures { (k : Known) → FollowsDevices k devices.now → result ≡ is_in_profile header.now k event }
 {
-    !has_event_data(event) && is_code_of_profile(header, devices, event)
-}
-
-/// Event Data (ED).
-fn has_event_data(event: Block) -> bool
-    ensures { result ≡ is_set (word event 3) 2 }
-{
-    event.flags().contains(BlockFlags::SHORT)
+    header.version.may_have_data(event) && is_code_of_profile(header, devices, event)
 }
 
 /// A code of any endpoint, or of an isochronous one, where the trace's version has those.

@@ -1,4 +1,4 @@
-//! The spot of a ring that a Transfer Event names: xHCI 4.9.2, 6.4.2.1.
+//! The spot of a ring that a Transfer Event names: xHCI 4.9.2, 4.11.5.2, 6.4.2.1.
 ghost use Rattle.std.specs.Prelude.{◌≡◌, ◌<◌, ◌^◌, ℕ, length, IfSome};
 ghost use Rattle.segments.specs.Spots.{number};
 ghost use Rattle.traces.specs.AllowedHeaders.{IsHeader};
@@ -21,7 +21,8 @@ pub struct NamedSpot {
     pub spot: Spot,
 }
 
-/// The spot that a Transfer Event names on the ring of its endpoint. One that tells of the service of its endpoint names none.
+/// The spot that a Transfer Event names on the ring of its endpoint, by its value or its address. One that tells of the service of its
+/// endpoint names none.
 #[inline(always)]
 pub fn named_spot(
     header: &Header,
@@ -45,7 +46,7 @@ pub fn named_spot(
     let Some(known) = t.rings.get(number) else {
         return None;
     };
-    let Some(spot) = known.named(&rings[number].shape, event.pointer()) else {
+    let Some(spot) = known.named_by(&rings[number].shape, event) else {
         return None;
     };
     Some(NamedSpot { number, spot })

@@ -1,6 +1,8 @@
 -- What is lent after an event but a completion: a Transfer Event ends the leases of what its ring passes
-use Rattle.leases.proofs.UpperLaws.{◌≡◌, ◌≢◌, ◌+◌, ◌≤◌, ◌∙◌, ◌==◌, ℕ, List, true, false, None, Some, Option, refl, ap, sym, arith, subst, map, position, option_map, and_parts, BlockKind, TransferEvent, CommandCompletion, code, endpoint, kind, pointer, slot, is_transfer_event, is_of_service, is_stopping, is_success, Spot, Shape, number, named, RingKeeps, floor_number, named_ahead, Ring, Header, Read, IsHeader, driver_rings, is_driver_kind, ring_with, shape_of, Known, event_read, learned, RingSpot, code_told, event_at, spot_on, transfer_read, transferred_at, is_among, open_leases, IsIn, DriverKeeps, IsDriverRing, IsTransferRing, transfer_driver, transfer_not_command, come_to, Lent, ended_where, is_passed, RangeIndexes, none_here, not_found, ring_found, shape_there, false_unless, IsAmong, TraceRecord, HoldsAll, IsNextRow, grown, rules, IsWithinLap, nothing_new, command_same, entries_kept, open_same, transfer_lent, from_drivers, if◌then◌else◌, Bool, inl, inr, ◌&&◌, [], ◌∷◌, nat_tests, cases_Bool, has_isoch, counted_code, Leased}
+use Rattle.leases.proofs.UpperLaws.{◌≡◌, ◌≢◌, ◌+◌, ◌≤◌, ◌∙◌, ◌==◌, ℕ, List, true, false, None, Some, Option, refl, ap, sym, arith, subst, map, position, option_map, and_parts, BlockKind, TransferEvent, CommandCompletion, code, endpoint, kind, slot, is_transfer_event, is_of_service, is_stopping, is_success, Spot, Shape, number, RingKeeps, floor_number, Ring, Header, Read, IsHeader, driver_rings, is_driver_kind, ring_with, shape_of, Known, event_read, learned, RingSpot, code_told, event_at, spot_on, transfer_read, transferred_at, is_among, open_leases, IsIn, DriverKeeps, IsDriverRing, IsTransferRing, transfer_driver, transfer_not_command, come_to, Lent, ended_where, is_passed, RangeIndexes, none_here, not_found, ring_found, shape_there, false_unless, IsAmong, TraceRecord, HoldsAll, IsNextRow, grown, rules, IsWithinLap, nothing_new, command_same, entries_kept, open_same, transfer_lent, from_drivers, if◌then◌else◌, Bool, inl, inr, ◌&&◌, [], ◌∷◌, nat_tests, cases_Bool, has_isoch, counted_code, Leased}
 use Rattle.trb.specs.declared.block.Block as blocks
+use Rattle.ring_knowledge.specs.Rings.{spot_named}
+use Rattle.safety.proofs.NamedData.{named_by, spot_ahead}
 
 -- one event more was read
 counted_same : (h : Header) (k : Known) → open_leases h (record k { reads = k.reads + 1 }) ≡ open_leases h k
@@ -24,17 +26,17 @@ comes_on c t floor ahead = search (rules, is_success, number, is_stopping)
 is_transfer : (n : BlockKind) → is_transfer_event n ≡ true → n ≡ TransferEvent
 is_transfer n e = grind arith
 
-spot_found : (h : Header) (k : Known) (p : ℕ) (o : Option ℕ) (r : ℕ) (t : Spot) → o ≡ Some r → named (shape_of h r) (k.ring r) p ≡ Some t → spot_on h k p o ≡ Some (record { ring = r; spot = t })
+spot_found : (h : Header) (k : Known) (b : blocks.Block) (o : Option ℕ) (r : ℕ) (t : Spot) → o ≡ Some r → spot_named h k b r ≡ Some t → spot_on h k b o ≡ Some (record { ring = r; spot = t })
 unfolding spot_on
-spot_found h k p o r t some is = ap (spot_on h k p) some ∙ ap (option_map (λ (u : Spot). let x : RingSpot = record { ring = r; spot = u } in x)) is
+spot_found h k b o r t some is = ap (spot_on h k b) some ∙ ap (option_map (λ (u : Spot). let x : RingSpot = record { ring = r; spot = u } in x)) is
 
-spot_none : (h : Header) (k : Known) (p : ℕ) (o : Option ℕ) (r : ℕ) → o ≡ Some r → named (shape_of h r) (k.ring r) p ≡ None → spot_on h k p o ≡ None
+spot_none : (h : Header) (k : Known) (b : blocks.Block) (o : Option ℕ) (r : ℕ) → o ≡ Some r → spot_named h k b r ≡ None → spot_on h k b o ≡ None
 unfolding spot_on
-spot_none h k p o r some is = ap (spot_on h k p) some ∙ ap (option_map (λ (u : Spot). let x : RingSpot = record { ring = r; spot = u } in x)) is
+spot_none h k b o r some is = ap (spot_on h k b) some ∙ ap (option_map (λ (u : Spot). let x : RingSpot = record { ring = r; spot = u } in x)) is
 
-no_ring_spot : (h : Header) (k : Known) (p : ℕ) (o : Option ℕ) → o ≡ None → spot_on h k p o ≡ None
+no_ring_spot : (h : Header) (k : Known) (b : blocks.Block) (o : Option ℕ) → o ≡ None → spot_on h k b o ≡ None
 unfolding spot_on
-no_ring_spot h k p o none = ap (spot_on h k p) none
+no_ring_spot h k b o none = ap (spot_on h k b) none
 
 -- by a code that tells of the service of an endpoint the controller stays where it stood
 served : (isochronous : Bool) (c : ℕ) → is_of_service c ≡ true → (t : Spot) (floor : ℕ) → come_to (counted_code isochronous c) t floor ≡ floor
@@ -87,7 +89,7 @@ module _ (h : Header) (headed : IsHeader h) (k : Known) (ts : List Lent) (b : bl
 
   pub unbound_lent : is_transfer_event (kind b) ≡ true → k.ring_of (slot b) (endpoint b) ≡ None → grown h k (Read b) number_ ts ≡ ts
   unfolding event_at
-  unbound_lent transfers none = quiet (unnamed transfers (either (is_of_service (code b)) _ (no_ring_spot h k (pointer b) (k.ring_of (slot b) (endpoint b)) none)))
+  unbound_lent transfers none = quiet (unnamed transfers (either (is_of_service (code b)) _ (no_ring_spot h k b (k.ring_of (slot b) (endpoint b)) none)))
 
   module _ (transfers : is_transfer_event (kind b) ≡ true) (r : ℕ) (of : k.ring_of (slot b) (endpoint b) ≡ Some r) (q : Ring) (among : IsAmong q h.rings) (id : q.id ≡ r) where
     here : k.ring_of (slot b) (endpoint b) ≡ Some q.id
@@ -96,26 +98,30 @@ module _ (h : Header) (headed : IsHeader h) (k : Known) (ts : List Lent) (b : bl
     transfer : IsTransferRing h q.id
     transfer = keeps.states.transfer (slot b) (endpoint b) q.id here
 
+    keeps_there : RingKeeps (shape_of h q.id) k.memory (k.ring q.id)
+    keeps_there = keeps.rings q.id (transfer_driver h q.id transfer)
+
     pub ring_keeps : RingKeeps q.shape k.memory (k.ring q.id)
-    ring_keeps = subst (λ (s : Shape). RingKeeps s k.memory (k.ring q.id)) (shape_there h headed q among) (keeps.rings q.id (transfer_driver h q.id transfer))
+    ring_keeps = subst (λ (s : Shape). RingKeeps s k.memory (k.ring q.id)) (shape_there h headed q among) keeps_there
 
     pub driver_kind : is_driver_kind q.shape.kind ≡ true
     driver_kind = search (rules, transfer_driver, transfer, ring_found, is_driver_kind, kind)
 
-    named_here : (o : Option Spot) → named q.shape (k.ring q.id) (pointer b) ≡ o → named (shape_of h q.id) (k.ring q.id) (pointer b) ≡ o
-    named_here o is = ap (λ s. named s (k.ring q.id) (pointer b)) (shape_there h headed q among) ∙ is
+    named_here : (o : Option Spot) → named_by q.shape (k.ring q.id) b ≡ o → spot_named h k b q.id ≡ o
+    unfolding spot_named
+    named_here o is = ap (λ s. named_by s (k.ring q.id) b) (shape_there h headed q among) ∙ is
 
-    pub unnamed_lent : named q.shape (k.ring q.id) (pointer b) ≡ None → grown h k (Read b) number_ ts ≡ ts
+    pub unnamed_lent : named_by q.shape (k.ring q.id) b ≡ None → grown h k (Read b) number_ ts ≡ ts
     unfolding event_at
-    unnamed_lent none = quiet (unnamed transfers (either (is_of_service (code b)) _ (spot_none h k (pointer b) (k.ring_of (slot b) (endpoint b)) q.id here (named_here None none))))
+    unnamed_lent none = quiet (unnamed transfers (either (is_of_service (code b)) _ (spot_none h k b (k.ring_of (slot b) (endpoint b)) q.id here (named_here None none))))
 
-    module _ (spot : Spot) (is : named q.shape (k.ring q.id) (pointer b) ≡ Some spot) where
+    module _ (spot : Spot) (is : named_by q.shape (k.ring q.id) b ≡ Some spot) where
       pub comes : floor_number (k.ring q.id) ≤ come_to (code_told h k b) spot (floor_number (k.ring q.id))
-      comes = comes_on (code_told h k b) spot (floor_number (k.ring q.id)) (named_ahead q.shape k.memory (k.ring q.id) ring_keeps (pointer b) spot is).from
+      comes = comes_on (code_told h k b) spot (floor_number (k.ring q.id)) (spot_ahead h k b q.id spot keeps_there (named_here (Some spot) is)).from
 
       found : is_of_service (code b) ≡ false → event_at h k b ≡ Some (record { ring = q.id; spot = spot })
       unfolding event_at
-      found other = rw other (spot_found h k (pointer b) (k.ring_of (slot b) (endpoint b)) q.id spot here (named_here (Some spot) is))
+      found other = rw other (spot_found h k b (k.ring_of (slot b) (endpoint b)) q.id spot here (named_here (Some spot) is))
 
       passed_lent : grown h k (Read b) number_ ts ≡ map (ended_where (is_passed q.id (floor_number (k.ring q.id)) (come_to (code_told h k b) spot (floor_number (k.ring q.id)))) number_) ts
       passed_lent = elim (cases_Bool (is_of_service (code b))) [

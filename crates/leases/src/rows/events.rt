@@ -1,4 +1,4 @@
-//! Events that are read: what a ring passes is let go (xHCI 4.9.2, 4.10.2, 6.4.2.1).
+//! Events that are read: what a ring passes is let go (xHCI 4.9.2, 4.10.2, 4.11.5.2, 6.4.2.1).
 ghost use Rattle.ring_knowledge.specs.declared.lease.Lease.{Lease};
 ghost use Rattle.std.specs.Prelude.{◌≡◌, ◌≢◌, ◌<◌, ◌^◌, ◌||◌, ℕ, List};
 ghost use Rattle.trb.specs.CompletionCode.{is_halting, is_stopping, is_success, is_trb_error};
@@ -56,7 +56,7 @@ pub(crate) fn note_transfer<B: LeaseLog>(
     let Some(known) = records.get(place) else {
         return;
     };
-    let Some(spot) = known.named(&ring.shape, event.pointer()) else {
+    let Some(spot) = known.named_by(&ring.shape, event) else {
         return;
     };
     // one that tells of the service of its endpoint names no block: by its code the controller stays at the floor

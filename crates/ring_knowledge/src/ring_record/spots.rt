@@ -1,20 +1,38 @@
 ghost use Rattle.std.specs.Prelude.{◌≡◌, if◌then◌else◌, ℕ, ◌==◌, ◌+◌, ◌≤◌, ◌<◌, ◌^◌, IfSome, Some, find, length};
+ghost use Rattle.trb.specs.Block.{has_event_data, has_value, pointer};
 ghost use Rattle.segments.specs.Spots.{IsSpot, number, rank, spot_cycle};
 ghost use Rattle.segments.specs.Places.{link_crossed, links, place_count};
 ghost use Rattle.segments.specs.declared.spot.Spot.TheVariants.{Link};
 ghost use Rattle.segments.specs.Shape.{IsShape};
-ghost use Rattle.segments.specs.RingView.{RingView};
-ghost use Rattle.segments.specs.Ceiling.{named};
+ghost use Rattle.segments.specs.ShapeValue.{Shape};
+ghost use Rattle.segments.specs.RingView.{RingView, floor_number};
+ghost use Rattle.segments.specs.Ceiling.{data_at, named, named_data};
 ghost use Rattle.segments.specs.Moves.{is_target, spots_between, target};
 ghost use Rattle.ring_knowledge.specs.SpotsAt.{IsFrom};
 
 use super::{RingRecord, next_with_rest, number, place_before};
 use segments::{Place, RingShape, Spot};
+use trb::Block;
 
 impl RingRecord {
     ghost use Rattle.ring_knowledge.specs.RingRecords.{FollowsRing};
 
-    /// The spot that the pointer of a Transfer Event names: the first one from the floor on at this address, up to what is
+    /// The spot that a Transfer Event names: with Event Data (ED) by the value that it tells, else by its address
+    /// (xHCI 4.9.2, 4.11.5.2, 6.4.2.1).
+    #[inline(always)]
+    pub fn named_by(&self, shape: &RingShape, event: Block) -> Option<Spot>
+        ensures value { (v : RingView) → FollowsRing shape.now v self.now → IsSpot shape.now v.floor →
+            result ≡ (if has_event_data event then named_data v (pointer event) else named shape.now v (pointer event)) }
+        ensures few { IfSome result (λ spot. number spot < 2 ^ 63) }
+    {
+        if event.has_event_data() {
+            self.named_data(event.pointer())
+        } else {
+            self.named(shape, event.pointer())
+        }
+    }
+
+    /// The spot that the pointer of a Transfer Event without Event Data names: the first one from the floor on at this address, up to what is
     /// declared (xHCI 4.9.2, 6.4.2.1).
     #[inline(always)]
     pub fn named(&self, shape: &RingShape, address: u64) -> Option<Spot>
@@ -31,6 +49,38 @@ impl RingRecord {
                 }
             }
         }
+    }
+
+    /// The spot that the value of a Transfer Event with Event Data names: the first Event Data block with this value from the
+    /// floor on, up to what is declared (xHCI 4.11.5.2, 6.4.4.2). It goes over the blocks behind the floor, of which few were taken.
+    #[inline(never)]
+    pub fn named_data(&self, value: u64) -> Option<Spot>
+        ensures value { (shape : Shape) (v : RingView) → FollowsRing shape v self.now → result ≡ named_data v value }
+        ensures few { IfSome result (λ spot. number spot < 2 ^ 63) }
+    {
+        (number(self.floor)..self.end() as u64)
+            .find(|position| self.has_data(*position, value))
+            .map(Spot::Data)
+    }
+
+    /// Whether an Event Data block with this value is declared at a position from the floor on.
+    fn has_data(&self, position: u64, value: u64) -> bool
+        ensures { (shape : Shape) (v : RingView) → FollowsRing shape v self.now → floor_number v ≤ position → result ≡ has_value value (data_at v.queue position) }
+    {
+        match self.data_at(position) {
+            Some(declared) => declared == value,
+            None => false,
+        }
+    }
+
+    /// The value of the Event Data block that is declared at a position from the floor on, words 1 and 0; of any other block none
+    /// (xHCI 6.4.4.2).
+    #[tactic(auto, unfolding(segments::specs::Ceiling::data_at))]
+    pub fn data_at(&self, position: u64) -> Option<u64>
+        ensures { (shape : Shape) (v : RingView) → FollowsRing shape v self.now → floor_number v ≤ position → result ≡ data_at v.queue position }
+    {
+        let block = self.declared(position)?;
+        block.data_value()
     }
 
     /// The spot, from the floor's number up to what is declared, at which a dequeue pointer and a cycle state stand

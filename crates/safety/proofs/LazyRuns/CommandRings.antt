@@ -1,16 +1,6 @@
 -- Which rings are there, and which of them is the command ring, where a ring comes or goes
-use Rattle.safety.proofs.UpperLaws.{◌≡◌, ◌≢◌, ◌==◌, ◌&&◌, ◌<◌, ◌⊎◌, ◌∙◌, ℕ, not, true, false, Option, Some, None, filter, is_some, arith, refl, sym, ap, inl, inr, eq-eqb, eqb-true, ltb-true, ne_eqb, nat_lt, cases_Bool, cases_eq, cases_option, false≢true, and_parts, and_from, none-some, not_from_false, same_Some, is_shape, Header, Ring, IsHeader, command_id, ring_with, Known, IsDriverRing, DriverKeeps, IsComing, is_bad_ring, is_bad_free, with_ring, without_ring, is_named, any_of, found_in, header_parts, each_passes, command_named, is_command_ring, IsIn, from_filter, not-true, is_ring, may_be_taken, driver_ring, is_driver_ring, false_from_ne_true}
-use Rattle.ownership_rules.specs.Rings.{goes_badly, is_in_use}
-use Rattle.traces.specs.Header.{command_ring, id_of, id_or_none, is_command_kind}
-use Rattle.trb.specs.declared.ring_kind.RingKind.{RingKind}
-use Rattle.trb.specs.declared.ring_kind.RingKind.TheVariants.{Cmd}
-use Rattle.safety.proofs.Headers.{command_found}
-use Rattle.safety.proofs.NamesRing.{command_with}
-use Rattle.safety.proofs.OneCommandRing.{no_command_ring}
+use Rattle.safety.proofs.UpperLaws.{◌≡◌, ◌≢◌, ◌==◌, ◌&&◌, ◌<◌, ◌⊎◌, ◌∙◌, ℕ, not, true, false, Option, Some, None, filter, is_some, arith, refl, sym, ap, inl, inr, eq-eqb, eqb-true, ltb-true, ne_eqb, nat_lt, cases_Bool, cases_eq, cases_option, false≢true, and_parts, and_from, none-some, not_from_false, same_Some, is_shape, Header, Ring, IsHeader, command_id, ring_with, Known, IsDriverRing, DriverKeeps, IsComing, is_bad_ring, is_bad_free, with_ring, without_ring, is_named, any_of, found_in, header_parts, each_passes, command_named, is_command_ring, IsIn, from_filter, not-true, is_ring, may_be_taken, driver_ring, is_driver_ring, false_from_ne_true, goes_badly, is_in_use, command_ring, id_of, id_or_none, is_command_kind, RingKind, Cmd, command_found, command_with, no_command_ring, is_command, find_kept, found_before, found_new}
 use Rattle.safety.proofs.RingChanges.ComingGoing.{absent, no_command}
-use Rattle.safety.proofs.RingChanges.LeftOut.{is_command}
-use Rattle.safety.proofs.RingChanges.ListedRings.{find_kept}
-use Rattle.safety.proofs.RingChanges.NewRings.{found_before, found_new}
 
 command_kind : (kind : RingKind) → is_command_kind kind ≡ true → kind ≡ Cmd
 command_kind o command = grind (arith, false≢true)

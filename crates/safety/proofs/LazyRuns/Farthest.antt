@@ -1,15 +1,6 @@
 -- How far the pointers of the lazy run may be: at the floor, or at what is needed later; that of the command ring also behind a Stop Endpoint
 -- that was taken and isn't finished. No row takes that back
-use Rattle.safety.proofs.UpperLaws.{◌≡◌, ◌≢◌, ◌+◌, ◌<◌, ◌≤◌, ◌==◌, ◌&&◌, ◌∙◌, ℕ, Bool, true, false, List, Option, Some, None, max, nat_lt, arith, refl, sym, ap, subst, inl, inr, eq-eqb, ne_eqb, lt-ltb, ltb-true, cases_Bool, cond_both, cond-true, cond-false, and_parts, and_from, Block, BlockKind, TransferEvent, CommandCompletion, kind, Shape, RingView, RingChange, Opens, Declares, changed, number, number-after, floor_number, ceiling, Header, Row, Sub, Write, Reg, Bell, Read, RegRead, IsHeader, shape_of, command_id, is_ring, IsDriverRing, DriverKeeps, IsDriverRow, ring_shape, Known, learned, next_command, may_be_taken, need, on_ring, rung, endpoint_rung, reset, given_up, view_after, written_view, register_leaves, status_leaves, event_read, event_same, endpoints_of, completed_view, restored_on, RingWithdraws, bit, bit_most, number_taken, row_starts, not, bit_clear, bit_set, ◌||◌, if◌then◌else◌, next_is, transfer_read}
-use Rattle.safety.proofs.DriverGoesOn.{declares_goes_on, goes_same, opens_goes_on, writes_goes_on}
-use Rattle.safety.proofs.RingGoesOn.{RingGoesOn}
-use Rattle.safety.proofs.TransferFrames.{transfer_command}
-use Rattle.safety.proofs.LowerLaws.{ceiling_within, given_count_same}
-use Rattle.segments.specs.Ceiling.{given_count, is_step_given, is_way_given}
-use Rattle.segments.specs.Places.{is_crossing}
-use Rattle.segments.specs.RingView.{Restores}
-use Rattle.std.specs.Prelude.{unwrap_or}
-use Rattle.traces.specs.Header.{command_ring, id_of}
+use Rattle.safety.proofs.UpperLaws.{◌≡◌, ◌≢◌, ◌+◌, ◌<◌, ◌≤◌, ◌==◌, ◌&&◌, ◌∙◌, ℕ, Bool, true, false, List, Option, Some, None, max, nat_lt, arith, refl, sym, ap, subst, inl, inr, eq-eqb, ne_eqb, lt-ltb, ltb-true, cases_Bool, cond_both, cond-true, cond-false, and_parts, and_from, Block, BlockKind, TransferEvent, CommandCompletion, kind, Shape, RingView, RingChange, Opens, Declares, changed, number, number-after, floor_number, ceiling, Header, Row, Sub, Write, Reg, Bell, Read, RegRead, IsHeader, shape_of, command_id, is_ring, IsDriverRing, DriverKeeps, IsDriverRow, ring_shape, Known, learned, next_command, may_be_taken, need, on_ring, rung, endpoint_rung, reset, given_up, view_after, written_view, register_leaves, status_leaves, event_read, event_same, endpoints_of, completed_view, restored_on, RingWithdraws, bit, bit_most, number_taken, row_starts, not, bit_clear, bit_set, ◌||◌, if◌then◌else◌, next_is, transfer_read, declares_goes_on, goes_same, opens_goes_on, writes_goes_on, RingGoesOn, transfer_command, ceiling_within, given_count_same, given_count, is_step_given, is_way_given, is_crossing, Restores, unwrap_or, command_ring, id_of}
 use Rattle.safety.proofs.LazyRuns.CommandRings.{is_its_own, is_there}
 
 -- one place more where the next command can have been taken
@@ -127,7 +118,7 @@ module _ (h : Header) where
 
     row_on : (row : Row) → IsDriverRow row → GoesOn ((learned h k row).ring c)
     unfolding learned
-    row_on (Sub r blocks) driver_row = by_change r (Declares blocks) (declares_goes_on (shape_of h c) (k.ring c) blocks)
+    row_on (Sub r blocks) driver_row = by_change r (Declares blocks) (declares_goes_on (shape_of h c) (ring_shape h is c ring).is k.memory (k.ring c) (d.rings c ring) blocks)
     row_on (Write a x) driver_row = subst GoesOn (sym (written_view h k a x c)) (writes_goes_on (shape_of h c) (k.ring c) a x)
     row_on (Reg r x) driver_row = subst GoesOn (ap (λ f. f c) (sym (register_leaves h k r x).ring)) stays_on
     row_on (Bell s t) driver_row = bell_on s t

@@ -1,5 +1,6 @@
 -- The lazy law by induction over the rows, from the step of a row that reads an event
-use Rattle.safety.proofs.UpperLaws.{[], ◌≡◌, ◌≢◌, ◌⊎◌, ◌∷◌, ◌∙◌, ℕ, true, false, List, None, Option, Some, sym, ap, subst, inl, inr, rules, cases_Bool, false≢true, Spot, Data, Header, Row, IsHeader, command_id, IsRow, World, counted, Known, learned, MayCome, DriverKeeps, IsDriverRow, Agrees, Runs, transfer_not_command, more_law, pointers_after, AreAtFloors, ◌++◌, All, reverse, option_and_then, refl, All-cons, All-head, All-nil, All-tail, Read, RingRow, FreeRow, NextRow, opening, with_ring, without_ring, LiveScene, live_reached, live_step, live_with, IsStep, reverse-append, AreKept, IsKept, header_after, header_now, known_now, restored, restored_on, ring_restored, IsTimely, lazy_run, pointers_at, pointers_for, steps_for, LazyLaw, AllAreRead, none-some, nothing, opens, agrees_now, pointers_same, driver_reached, StandsAt, IsActiveIfOpen, Follows, Carries, Leads, Past, RowLearns, row_learns, row_active, all_are_read, EventLaw, AreTimely, PointerStays, RowLeaves, row_leaves, done, row_is_done, steps_before, GoesSoFar, Scene, scene_reached, reverse-reverse, NopRow, kept_coming, kept_going, kept_withdrawing, is_ring_row, driver_no_ring, names_command, IsPlain, row_plain, done_asked, plain_is_done, resets_by, sees_halt, NamesCommand, first_stands, stands_first, row_names, row_named, row_unnamed, row_halted, unused_held, is_named, cond-true, cond-false, Reg, RegRead, Register, resets, reset, driver_reset, driver_resets, same_resets, is_first_halt, known_after, if◌then◌else◌, without_descriptor, row_done, forgotten, on_ring}
+use Rattle.safety.proofs.UpperLaws.{[], ◌≡◌, ◌≢◌, ◌⊎◌, ◌∷◌, ◌∙◌, ℕ, true, false, List, None, Option, Some, sym, ap, subst, inl, inr, rules, cases_Bool, false≢true, Spot, Data, Header, Row, IsHeader, command_id, IsRow, World, counted, Known, learned, MayCome, DriverKeeps, IsDriverRow, Agrees, Runs, transfer_not_command, more_law, pointers_after, AreAtFloors, ◌++◌, All, reverse, option_and_then, refl, All-cons, All-head, All-nil, All-tail, Read, RingRow, FreeRow, NextRow, opening, with_ring, without_ring, LiveScene, live_reached, live_step, live_with, IsStep, reverse-append, AreKept, IsKept, header_after, header_now, known_now, restored, restored_on, ring_restored, IsTimely, lazy_run, pointers_at, pointers_for, steps_for, LazyLaw, AllAreRead, none-some, nothing, opens, agrees_now, pointers_same, driver_reached, StandsAt, IsActiveIfOpen, Follows, Carries, Leads, Past, RowLearns, row_learns, row_active, all_are_read, EventLaw, AreTimely, PointerStays, RowLeaves, row_leaves, done, row_is_done, steps_before, GoesSoFar, Scene, scene_reached, reverse-reverse, NopRow, kept_coming, kept_going, kept_withdrawing, is_ring_row, driver_no_ring, names_command, IsPlain, row_plain, plain_is_done, resets_by, sees_halt, NamesCommand, first_stands, stands_first, row_names, row_named, row_unnamed, row_halted, unused_held, is_named, cond-true, cond-false, Reg, RegRead, Register, resets, reset, driver_reset, driver_resets, same_resets, is_first_halt, known_after, if◌then◌else◌, without_descriptor, row_done, forgotten, on_ring, live_row, resting, known_gone}
+use Rattle.safety.proofs.LazyRuns.RowsLearn.{done_asked}
 use Rattle.safety.proofs.DriverHistories.{kept_driver}
 use Rattle.safety.proofs.RowRuns.{row_runs}
 use Rattle.safety.proofs.Squares.{square_law}
@@ -9,10 +10,7 @@ use Rattle.safety.proofs.RingChanges.Headline.{Alike, AreAlike, reached_alike}
 use Rattle.safety.proofs.LazyRuns.LazySteps.{run_is}
 use Rattle.safety.proofs.LazyRuns.HaltStep.{halt_step}
 use Rattle.safety.proofs.LazyRuns.RingRows.{comes_follows, goes_follows, reset_follows, reset_on, restored_follows, withdrawn_follows}
-use Rattle.safety.proofs.RingChanges.LiveRuns.{live_row}
-use Rattle.world_state.specs.RingRows.{resting}
 use Rattle.std.proofs.Common.{option_map}
-use Rattle.ring_knowledge.specs.Histories.{gone as known_gone}
 use Rattle.safety.proofs.RingChanges.Restored.{row_comes, row_keeps}
 pub use Rattle.safety.proofs.RingChanges.LiveHeadline.{kept_on, later_kept, one_more}
 

@@ -1,7 +1,5 @@
 -- The need of a ring that is held is 0, where no event is late: until its doorbell no success of its blocks is read
-use Rattle.safety.proofs.MiddleLaws.{known_typed, rules, [], ◌≡◌, ◌≢◌, ◌∷◌, ◌∙◌, ℕ, max, false, List, refl, ap, subst, ne_eqb, eq-eqb, cond_both, cond-false, false≢true, not_from_false, Block, BlockKind, TransferEvent, CommandCompletion, kind, code, pointer, slot, endpoint, is_success, is_halting, is_trb_error, is_stopping, Spot, number, after, RingView, RingChange, changed, new_ring, Shape, put, put_at, put_off, cases_eq, Opens, Holds, Reaches, is_open, ceiling, named, stopped_number, target, Command, is_off, Change, changes, Header, Row, Read, shape_of, command_id, is_ring, ring_having, Known, on_ring, spot_on, command_at, next_command, endpoint_rung, rung, event_read, learned, declaration_leaves, write_leaves, register_leaves, view_after, status_leaves, is_report_of_success, is_held_ring, is_late, number_behind, begins_anew, number_reported, ends_need, need, header_after, known_after, forgotten, restored_on, ring_restored, broken_off, transfers_passed, stopped_at, transfer_read, transferred, transferred_at, bound_to, known_changed_by, known_changed_by_all, completed, known_disabled, known_finished, held_at_ceiling, known_in_state, moved, moved_to, pointed, set_to, stop_ended, known_succeeded, arith, event_at, IsHeader, IsTransferRing, RingRow, FreeRow, Reg, with_ring, without_ring, found_in, eqb-true, not, sym, Option, Some, None, Ring, id_or_none, id_of, command_ring, resets, reset, held_at_given, transfer_not_command, ◌==◌, gone, true, RegRead}
-use Rattle.safety.proofs.RingChanges.ListedRings.{found_kept}
-use Rattle.safety.proofs.RingChanges.NewRings.{found_still}
+use Rattle.safety.proofs.MiddleLaws.{spot_named, known_typed, rules, [], ◌≡◌, ◌≢◌, ◌∷◌, ◌∙◌, ℕ, max, false, List, refl, ap, subst, ne_eqb, eq-eqb, cond_both, cond-false, false≢true, not_from_false, Block, BlockKind, TransferEvent, CommandCompletion, kind, code, pointer, slot, endpoint, is_success, is_halting, is_trb_error, is_stopping, Spot, number, after, RingView, RingChange, changed, new_ring, Shape, put, put_at, put_off, cases_eq, Opens, Holds, Reaches, is_open, ceiling, stopped_number, target, Command, is_off, Change, changes, Header, Row, Read, shape_of, command_id, is_ring, ring_having, Known, on_ring, spot_on, command_at, next_command, endpoint_rung, rung, event_read, learned, declaration_leaves, write_leaves, register_leaves, view_after, status_leaves, is_report_of_success, is_held_ring, is_late, number_behind, begins_anew, number_reported, ends_need, need, header_after, known_after, forgotten, restored_on, ring_restored, broken_off, transfers_passed, stopped_at, transfer_read, transferred, transferred_at, bound_to, known_changed_by, known_changed_by_all, completed, known_disabled, known_finished, held_at_ceiling, known_in_state, moved, moved_to, pointed, set_to, stop_ended, known_succeeded, arith, event_at, IsHeader, IsTransferRing, RingRow, FreeRow, Reg, with_ring, without_ring, found_in, eqb-true, not, sym, Option, Some, None, Ring, id_or_none, id_of, command_ring, resets, reset, held_at_given, transfer_not_command, ◌==◌, gone, true, RegRead, found_kept, found_still}
 
 abbrev pub IsHeld : Known → ℕ → Type 0
 IsHeld k r = is_open (k.ring r) ≡ false
@@ -60,7 +58,7 @@ module _ (h : Header) where
   none_reported : (k : Known) (r : ℕ) (row : Row) → IsHeld k r → is_late h k row ≡ false → number_reported h k r row ≡ 0
   unfolding number_reported is_late event_at spot_on is_held_ring number_behind
   none_reported k r o held timely =
-      grind (arith, is_report_of_success, number_behind, event_at, cond-false, number, named, shape_of, ne_eqb, false≢true, not_from_false, is_open, false, pointer, slot, endpoint, is_held_ring)
+      grind (arith, is_report_of_success, number_behind, event_at, cond-false, number, spot_named, ne_eqb, false≢true, not_from_false, is_open, false, pointer, slot, endpoint, is_held_ring)
 
 -- none of the rows to come is late, and the rings stand together
 abbrev pub AreTimely : Header → Known → List Row → Type 0

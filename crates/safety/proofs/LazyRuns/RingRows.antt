@@ -1,15 +1,10 @@
 -- What the schedule follows stays where a ring comes or goes, where a descriptor is withdrawn, where a ring is restored, and where the controller is
 -- reset: no pointer moves
-use Rattle.safety.proofs.UpperLaws.{◌≡◌, ◌≢◌, ◌==◌, ◌∙◌, ℕ, true, false, Option, Some, None, refl, sym, ap, subst, ne_eqb, rules, none-some, put, put_off, Spot, Data, new_ring, is_open, Header, Ring, Row, IsHeader, shape_of, command_id, ring_with, World, counted, Known, on_ring, DriverKeeps, IsTransferRing, Runs, view_after, IsComing, forgotten, is_bad_free, is_bad_ring, with_ring, without_ring, without_descriptor, is_left, restored, restored_on, ring_restored, RingWithdraws, arith, StandsAt, IsActiveIfOpen, Follows, open_before, is_named, is_used, is_value, is_done, is_some, not, IsSpot, spot_address, next_take, reset, given_up, driver_reset, is_ring, eq-eqb, cond-true, false≢true, ◌⊎◌, inl, inr, cases_Bool, gone, Bool, if◌then◌else◌, put_at, RingView, []}
+use Rattle.safety.proofs.UpperLaws.{◌≡◌, ◌≢◌, ◌==◌, ◌∙◌, ℕ, true, false, Option, Some, None, refl, sym, ap, subst, ne_eqb, rules, none-some, put, put_off, Spot, Data, new_ring, is_open, Header, Ring, Row, IsHeader, shape_of, command_id, ring_with, World, counted, Known, on_ring, DriverKeeps, IsTransferRing, Runs, view_after, IsComing, forgotten, is_bad_free, is_bad_ring, with_ring, without_ring, without_descriptor, is_left, restored, restored_on, ring_restored, RingWithdraws, arith, StandsAt, IsActiveIfOpen, Follows, open_before, is_named, is_used, is_value, is_done, is_some, not, IsSpot, spot_address, next_take, reset, given_up, driver_reset, is_ring, eq-eqb, cond-true, false≢true, ◌⊎◌, inl, inr, cases_Bool, gone, Bool, if◌then◌else◌, put_at, RingView, [], spot_cycle, emptied, resting, command_ring, id_of, shape_or, Crcr, Xfer}
 use Rattle.safety.proofs.LazyRuns.CommandRings.{CommandChanges, CommandIs, CommandStays, comes_command, comes_listed, comes_not_had, goes_command, goes_listed, is_its_own, unnamed}
 use Rattle.safety.proofs.RingChanges.ComingGoing.{absent}
 use Rattle.safety.proofs.RingChanges.GoneRings as gone_rings
 use Rattle.safety.proofs.RingChanges.Restored as restores
-use Rattle.segments.specs.Spots.{spot_cycle}
-use Rattle.world_state.specs.RingRows.{emptied, resting}
-use Rattle.traces.specs.Header.{command_ring, id_of, shape_or}
-use Rattle.traces.specs.declared.register.Register.TheVariants.{Crcr}
-use Rattle.trb.specs.declared.ring_kind.RingKind.TheVariants.{Xfer}
 
 -- what no row of these moves
 pub record StaysPut (w v : World) : Type 0 where

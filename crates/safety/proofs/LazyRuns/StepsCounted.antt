@@ -1,5 +1,6 @@
 -- A clean trace has at most three steps for each row, and three more: rows, events posted and halts, and looks, each of which moves a pointer on
-use Rattle.safety.proofs.UpperLaws.{[], ◌≡◌, ◌≢◌, ◌+◌, ◌*◌, ◌≤◌, ◌==◌, ◌∷◌, if◌then◌else◌, ℕ, true, false, List, All, length, reverse, Option, Some, None, arith, refl, sym, subst, ne_eqb, length-append, rules, FewSteps, driver_ring, length-reverse, flat_map, cases_Bool, cond_both, false≢true, and_parts, put_off, Block, kind, completion_kind, Spot, number, rank_most, floor_number, Command, Change, Places, changes, is_off, Header, Read, IsHeader, command_id, is_ring, ring_having, Known, RingSpot, learned, IsDriverRow, DriverKeeps, transfer_not_command, need, further, brought, goals, looks_to, EndpointsKeep, endpoints_of, transfer_ring, floors_grow, having_transfer, ring_with, is_driver_ring, Row, RingRow, FreeRow, Data, rank, put, lenient, All-head, All-tail, AreKept, IsRow, header_now, known_now, restored, restored_on, ring_restored, with_ring, without_ring, pointers_at, pointers_after, pointers_for, steps_before, steps_for, lazy_run, max, eq-eqb, cases_eq, cond-true, put_at, Ring, IsKept, header_after, known_after, begins_anew, ends_need, number_reported, known_changed_by, command_taken, lazy_steps, post_of, stopped_goals, taken_up_to, is_placed_by, is_placed_by_all, ring_placed, change_keeps, bit, no_steps, pointers_same, whole, come_to, driver_le, of_driver, on_driver, off_driver, place_value, command_value, transfer_value, progress, total, total_le, total_most, total_twice, further_most, row_learns, NopRow, kept_coming, kept_going, inl, inr, ap, RegRead, Reg, Register, sees_halt, resets, reset, held_at_given, RingView, cond-false, is_first_halt, Halt, ◌∙◌, Bool, ◌&&◌, nat_lt, next_command, may_be_taken, shape_of}
+use Rattle.safety.proofs.UpperLaws.{[], ◌≡◌, ◌≢◌, ◌+◌, ◌*◌, ◌≤◌, ◌==◌, ◌∷◌, if◌then◌else◌, ℕ, true, false, List, All, length, reverse, Option, Some, None, arith, refl, sym, subst, ne_eqb, length-append, rules, FewSteps, driver_ring, length-reverse, flat_map, cases_Bool, cond_both, false≢true, and_parts, put_off, Block, kind, completion_kind, Spot, number, rank_most, floor_number, Command, Change, Places, changes, is_off, Header, Read, IsHeader, command_id, is_ring, ring_having, Known, RingSpot, learned, IsDriverRow, DriverKeeps, transfer_not_command, need, further, brought, goals, looks_to, EndpointsKeep, endpoints_of, transfer_ring, floors_grow, having_transfer, ring_with, is_driver_ring, Row, RingRow, FreeRow, Data, rank, put, lenient, All-head, All-tail, AreKept, IsRow, header_now, known_now, restored, restored_on, ring_restored, with_ring, without_ring, pointers_at, pointers_after, pointers_for, steps_before, steps_for, lazy_run, max, eq-eqb, cases_eq, cond-true, put_at, Ring, IsKept, header_after, known_after, begins_anew, ends_need, number_reported, known_changed_by, command_taken, lazy_steps, post_of, stopped_goals, taken_up_to, is_placed_by, is_placed_by_all, ring_placed, change_keeps, bit, no_steps, pointers_same, come_to, driver_le, of_driver, on_driver, off_driver, place_value, command_value, transfer_value, progress, total, total_le, total_most, total_twice, further_most, row_learns, NopRow, kept_coming, kept_going, inl, inr, ap, RegRead, Reg, Register, sees_halt, resets, reset, held_at_given, RingView, cond-false, is_first_halt, Halt, ◌∙◌, Bool, ◌&&◌, nat_lt, next_command, may_be_taken, shape_of, no_command_id, ceiling, command_ring, id_of}
+use Rattle.safety.proofs.LazyRuns.AllRead.{whole}
 use Rattle.safety.specs.LazyRuns.Needs.{is_placed}
 use Rattle.safety.proofs.LazyRuns.RingRows.{OthersStay, comes_stay, goes_stay, restored_learns, withdrawn_learns}
 use Rattle.safety.proofs.RingChanges.ComingGoing.{absent}
@@ -9,10 +10,7 @@ use Rattle.safety.proofs.LazyRuns.EventGoals.{goals_few, AreWithin, top, reporte
 use Rattle.safety.proofs.LazyRuns.Farthest.{event_slack, farthest, farthest_command, farthest_other, floor_reached, no_slack, reset_reaches, restored_slack, row_slack, slack, slack_most, withdrawn_slack}
 use Rattle.safety.proofs.LazyRuns.GivenCounted.{reads, floors, floors_most, gone, kept_before}
 use Rattle.safety.proofs.LazyRuns.Induction.{rows_of}
-use Rattle.safety.proofs.LazyRuns.NeedsOfHeld.{no_command_id}
 use Rattle.safety.proofs.RingChanges.Restored.{row_keeps as kept_row}
-use Rattle.segments.specs.Ceiling.{ceiling}
-use Rattle.traces.specs.Header.{command_ring, id_of}
 
 -- Behind each row of a clean trace no pointer is farther than it may be
 module _ (h : Header) where

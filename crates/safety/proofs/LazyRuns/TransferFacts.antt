@@ -1,5 +1,5 @@
 -- What a Transfer Event says that breaks no rule, by its code: the spot that it names, and what the controller did there
-use Rattle.safety.proofs.MiddleLaws.{named_no_service, no_service, spot_told, is_code_of_profile, has_isoch, is_of_service, ◌⊎◌, is_off, is_stopping, code_told, [], ◌≡◌, ◌<◌, ◌&&◌, ◌||◌, ◌∙◌, ℕ, not, Bool, true, false, Option, Some, None, sym, ap, ltb-true, rules, and_cases, and_parts, or_parts, or_cases, not-false, not-true, false≢true, none-some, same_Some, Block, is_set, word, kind, code, pointer, slot, endpoint, is_transfer_event, is_success, is_halting, is_trb_error, Spot, Data, ceiling, named, is_data_below, is_open, is_stop_spot, is_running, Header, Read, shape_of, Known, RingSpot, spot_on, is_in_profile, is_working, is_stopping_now, can_report, can_report_at, is_impossible_by_kind, is_impossible_transfer, lenient, event_facts, transfer_kind, chain, spot_is, arith, event_at, may_be_taken, false_from_ne_true, eqb-true, inl, inr, ◌==◌, refl}
+use Rattle.safety.proofs.MiddleLaws.{spot_named, may_have_data, named_no_service, no_service, spot_told, is_code_of_profile, has_isoch, is_of_service, ◌⊎◌, is_off, is_stopping, code_told, [], ◌≡◌, ◌<◌, ◌&&◌, ◌||◌, ◌∙◌, ℕ, not, Bool, true, false, Option, Some, None, sym, ap, ltb-true, rules, and_cases, and_parts, or_parts, or_cases, not-false, not-true, false≢true, none-some, same_Some, Block, kind, code, slot, endpoint, is_transfer_event, is_success, is_halting, is_trb_error, Spot, Data, ceiling, is_data_below, is_open, is_stop_spot, is_running, Header, Read, shape_of, Known, RingSpot, spot_on, is_in_profile, is_working, is_stopping_now, can_report, can_report_at, is_impossible_by_kind, is_impossible_transfer, lenient, event_facts, transfer_kind, chain, spot_is, arith, event_at, may_be_taken, false_from_ne_true, eqb-true, inl, inr, ◌==◌, refl}
 use Rattle.std.proofs.Common.{option_map}
 use Rattle.safety.proofs.StopRead.{StopCode}
 
@@ -20,24 +20,24 @@ module _ (h : Header) where
     pub ring : ℕ
     pub spot : Spot
     pub bound : k.ring_of (slot b) (endpoint b) ≡ Some ring
-    pub named_is : named (shape_of h ring) (k.ring ring) (pointer b) ≡ Some spot
+    pub named_is : spot_named h k b ring ≡ Some spot
     pub at : event_at h k b ≡ Some (record { ring = ring; spot = spot })
-    pub no_data : is_set (word b 3) 2 ≡ false
+    pub may_data : may_have_data h.version b ≡ true
     pub no_service : is_of_service (code b) ≡ false
     pub may : can_report h k (code_told h k b) (slot b) (endpoint b) ring spot ≡ true
 
   -- or it tells of the service of its endpoint
   pub record ServiceFacts (k : Known) (b : Block) : Type 0 where
     pub none : event_at h k b ≡ None
-    pub no_data : is_set (word b 3) 2 ≡ false
+    pub may_data : may_have_data h.version b ≡ true
     pub has : has_isoch h.version ≡ true
     pub service : is_of_service (code b) ≡ true
     pub on : is_off (k.endpoint_state (slot b) (endpoint b)) ≡ false
 
-  named_by : (k : Known) (b : Block) (at : RingSpot) → event_at h k b ≡ Some at → can_report_at h k b (Some at) ≡ true → is_set (word b 3) 2 ≡ false → is_of_service (code b) ≡ false →
+  named_by : (k : Known) (b : Block) (at : RingSpot) → event_at h k b ≡ Some at → can_report_at h k b (Some at) ≡ true → may_have_data h.version b ≡ true → is_of_service (code b) ≡ false →
       TransferFacts k b
   unfolding can_report_at spot_on
-  named_by k b at found can no_data no_service = search (rules, none-some, option_map, same_Some, spot_is, spot_told)
+  named_by k b at found can may_data no_service = search (rules, none-some, option_map, same_Some, spot_is, spot_told)
 
   by_kind : (k : Known) (b : Block) → is_transfer_event (kind b) ≡ true → is_impossible_by_kind h k (kind b) b ≡ is_impossible_transfer h k b
   unfolding is_impossible_by_kind
@@ -48,10 +48,10 @@ module _ (h : Header) where
   unfolding is_code_of_profile
   service_has k b inside service = search (rules, or_cases, no_service, and_parts, false≢true)
 
-  facts_at : (k : Known) (b : Block) (o : Option RingSpot) → event_at h k b ≡ o → can_report_at h k b o ≡ true → is_set (word b 3) 2 ≡ false → is_code_of_profile h k b ≡ true →
+  facts_at : (k : Known) (b : Block) (o : Option RingSpot) → event_at h k b ≡ o → can_report_at h k b o ≡ true → may_have_data h.version b ≡ true → is_code_of_profile h k b ≡ true →
       is_off (k.endpoint_state (slot b) (endpoint b)) ≡ false → (TransferFacts k b) ⊎ (ServiceFacts k b)
   unfolding can_report_at
-  facts_at k b o found can no_data inside on = search (rules, service_has, named_by, named_no_service)
+  facts_at k b o found can may_data inside on = search (rules, service_has, named_by, named_no_service)
 
   facts_from : (k : Known) (b : Block) → is_impossible_transfer h k b ≡ false → is_in_profile h k b ≡ true → (TransferFacts k b) ⊎ (ServiceFacts k b)
   unfolding is_impossible_transfer is_in_profile

@@ -1,5 +1,5 @@
 -- What a Transfer Event asks for and teaches, and that the controller can report it
-use Rattle.safety.proofs.UpperLaws.{told_same, code_posted, reported_on, and_right, cond-false, code_told, [], ◌≡◌, ◌≢◌, ◌+◌, ◌≤◌, ◌==◌, ◌||◌, ◌∷◌, ◌∙◌, ℕ, suc, nat_lt, true, false, List, Some, arith, refl, sym, ap, subst, inl, inr, lt-ltb, le-ltb, rules, cases_lt, cond-true, false≢true, Block, kind, slot, endpoint, is_transfer_event, is_success, is_halting, is_trb_error, is_stopping, Spot, Shape, number, rank, after, Reaches, Holds, is_open, same_rank, Header, Row, Read, shape_of, Known, RingSpot, on_ring, event_read, learned, passed, broken_off, stopped_at, transferred, transferred_at, transfer_read, ring_here, learned_read, put_at, put_off, transfer_kind, TransferLeaves, transferred_leaves, with_reads, behind_blocks, further, taken_up_to, report_goals, goals, brought, ◌-◌, ◌<◌, ◌&&◌, zero, Bool, length, map, Option, None, position, get_or, eq-eqb, range_with_len, cases_Bool, and_from, not_from_false, length-map-range_with_len, get_or-map-range_with_len, put, put_pair, IsBlock, pointer, address_of, spot_address, declared, floor_number, named, RingKeeps, named_ahead, position-None, IsNamed, named_spot-Some, EndpointState, Halted, Error, is_running, IsHeader, command_id, World, unreported, lenient, IsDriverRing, DriverKeeps, state_of, BoundRing, Agrees, transfer_driver, transfer_not_command, number_after, PostKeeps, post_keeps, open_takes, stored, stored_block, can_post, is_last, posts_posted, report_code, report_error, report_success, reported, with_reported, TransferFacts, NamesBlock, StandsAt, may_post}
+use Rattle.safety.proofs.UpperLaws.{spot_named, Take, take_at, names, names_value, names_address, by_address, IsValued, spot_ahead, spot_reached, IsAhead, Data, has_event_data, told_same, code_posted, reported_on, and_right, cond-false, code_told, [], ◌≡◌, ◌≢◌, ◌+◌, ◌≤◌, ◌||◌, ◌∷◌, ◌∙◌, ℕ, suc, nat_lt, true, false, List, Some, arith, refl, sym, ap, subst, inl, inr, lt-ltb, le-ltb, rules, cases_lt, cond-true, false≢true, Block, kind, slot, endpoint, is_transfer_event, is_success, is_halting, is_trb_error, is_stopping, Spot, Shape, number, rank, after, Reaches, Holds, is_open, same_rank, Header, Row, Read, shape_of, Known, RingSpot, on_ring, event_read, learned, passed, broken_off, stopped_at, transferred, transferred_at, transfer_read, ring_here, learned_read, put_at, put_off, transfer_kind, TransferLeaves, transferred_leaves, with_reads, behind_blocks, further, taken_up_to, report_goals, goals, brought, ◌-◌, ◌<◌, ◌&&◌, zero, Bool, length, map, Option, None, position, get_or, eq-eqb, range_with_len, cases_Bool, and_from, not_from_false, length-map-range_with_len, get_or-map-range_with_len, put, put_pair, IsBlock, pointer, spot_address, declared, floor_number, named, RingKeeps, position-None, named_spot-Some, EndpointState, Halted, Error, is_running, IsHeader, command_id, World, unreported, lenient, IsDriverRing, DriverKeeps, state_of, BoundRing, Agrees, transfer_driver, transfer_not_command, number_after, PostKeeps, post_keeps, open_takes, stored, stored_block, can_post, names_last, posts_posted, report_code, report_error, report_success, reported, with_reported, TransferFacts, NamesBlock, StandsAt, may_post, named_value}
 use Rattle.std.proofs.Common.{option_map}
 use Rattle.safety.proofs.LazyRuns.PostStep.{EventLearns, ReportLeaves}
 
@@ -82,23 +82,27 @@ module _ (h : Header) where
       stop_ring fails quiet fine stopping = search (rules, ring_here, cond-false, cond-true)
 
 -- an element that passes has a first one
-first_found : (test : ℕ → Bool) (xs : List ℕ) (i : ℕ) → i < length xs → test (get_or xs i 0) ≡ true → (n : ℕ) × (position test xs ≡ Some n)
-first_found test xs i inside passes = by (position test xs) refl
+first_found : {X : Type 0} (test : X → Bool) (xs : List X) (i : ℕ) (d : X) → i < length xs → test (get_or xs i d) ≡ true → (n : ℕ) × (position test xs ≡ Some n)
+first_found test xs i d inside passes = by (position test xs) refl
   where
     by : (o : Option ℕ) → position test xs ≡ o → (n : ℕ) × (position test xs ≡ Some n)
     by (Some n) at = (n, at)
-    by None at = absurd (false≢true (sym (position-None test xs i 0 at inside) ∙ passes))
+    by None at = absurd (false≢true (sym (position-None test xs i d at inside) ∙ passes))
 
-last_of_range : (h : Header) (f : ℕ → ℕ) (from n a : ℕ) → f (from + n) ≡ a → is_last h a (map f (range_with_len from (suc n))) ≡ true
-unfolding is_last
-last_of_range h f from zero a at = eq-eqb (f from) a (ap f (none from) ∙ at)
-  where
-    none : (x : ℕ) → x ≡ x + 0
-    none x = omega arith
-last_of_range h f from (suc n) a at = last_of_range h f (from + 1) n a (ap f (on from n) ∙ at)
-  where
-    on : (x y : ℕ) → x + 1 + y ≡ x + suc y
-    on x y = omega arith
+not_both : (x y : Bool) → (x ≡ true → y ≡ false) → (x && y) ≡ false
+not_both x y other = grind arith
+
+-- an event names the last of these takes, where by a value it names none before it
+last_of_range : (b : Block) (f : ℕ → Take) (from n : ℕ) → names b (f (from + n)) ≡ true → (has_event_data b ≡ true → (q : ℕ) → from ≤ q → q < from + n → names b (f q) ≡ false) →
+    names_last b (map f (range_with_len from (suc n))) ≡ true
+unfolding names_last
+last_of_range b f from zero at first = ap (λ q. names b (f q)) (omega arith) ∙ at
+last_of_range b f from (suc n) at first =
+    and_from _ _ (not_from_false _ (not_both (has_event_data b) (names b (f from)) (λ tells. first tells from (omega arith) (omega arith))))
+    (last_of_range b f (from + 1) n (ap (λ q. names b (f q)) (omega arith) ∙ at) (λ tells q low below. first tells q (omega arith) (omega arith)))
+
+same_position : (p q : ℕ) → Data p ≡ Data q → p ≡ q
+same_position p q e = cc
 
 module _ (h : Header) where
   -- the report of an event on ring r
@@ -131,13 +135,18 @@ module _ (h : Header) where
     unfolding shape
     keeps = d.rings f.ring driver
 
-    pub names : IsNamed (shape_of h f.ring) (k.ring f.ring).floor (declared (k.ring f.ring)) (pointer b) f.spot
-    unfolding named shape
-    names = named_spot-Some (shape_of h f.ring) (k.ring f.ring).floor (declared (k.ring f.ring)) (pointer b) f.spot keeps.is_spot f.named_is
-
-    pub ahead : floor_number (k.ring f.ring) ≤ number f.spot
+    -- the spot that it names lies from the floor on, and where it tells no value, at the address
+    pub there : IsAhead (shape_of h f.ring) (k.ring f.ring) f.spot
     unfolding shape
-    ahead = (named_ahead (shape_of h f.ring) k.memory (k.ring f.ring) keeps (pointer b) f.spot f.named_is).from
+    there = spot_ahead h k b f.ring f.spot keeps f.named_is
+
+    pub reached : rank (k.ring f.ring).floor ≤ rank f.spot
+    unfolding shape
+    reached = spot_reached h k b f.ring f.spot keeps f.named_is
+
+    pub at_address : has_event_data b ≡ false → spot_address (shape_of h f.ring) f.spot ≡ pointer b
+    unfolding spot_named named shape
+    at_address tells = (named_spot-Some (shape_of h f.ring) (k.ring f.ring).floor (declared (k.ring f.ring)) (pointer b) f.spot keeps.is_spot (sym (by_address (shape_of h f.ring) (k.ring f.ring) b tells) ∙ f.named_is)).at
 
     bound : BoundRing shape k.ring_of (k.ring f.ring) (state_of u f.ring) f.ring
     unfolding shape
@@ -150,35 +159,51 @@ module _ (h : Header) where
     told : code_posted h w b ≡ code_told h k b
     told = told_same h k w b (g.matches.isochronous (slot b) (endpoint b))
 
-    pub report_at : (v : World) → report_code h u (code_told h k b) (slot b) (endpoint b) f.ring (pointer b) ≡ Some v → reported h w b ≡ Some v
+    pub report_at : (v : World) → report_code h u (code_told h k b) (slot b) (endpoint b) f.ring b ≡ Some v → reported h w b ≡ Some v
     unfolding reported reported_on
-    report_at v by_code = grind (arith, cond-true, and_from, can, not_from_false, and_right, f.no_service, told, f.bound, g.matches.ring_of)
+    report_at v by_code = grind (arith, cond-true, and_from, can, and_right, f.may_data, f.no_service, told, f.bound, g.matches.ring_of)
 
     module _ (n : NamesBlock h k f.ring f.spot) (here : StandsAt h w f.ring (after (shape_of h f.ring) n.position)) where
       number_now : number bound.spot ≡ n.position + 1
       number_now = number_of (after (shape_of h f.ring) n.position) here ∙ number_after (shape_of h f.ring) n.position
 
       from : floor_number (k.ring f.ring) ≤ n.position
-      from = subst (λ t. floor_number (k.ring f.ring) ≤ number t) n.is ahead
+      from = subst (λ t. floor_number (k.ring f.ring) ≤ number t) n.is there.from
 
-      address_is : address_of shape n.position ≡ pointer b
+      abbrev take_there : ℕ → Take
+      take_there q = take_at shape (k.ring f.ring).queue q
+
+      valued_there : has_event_data b ≡ true → IsValued (k.ring f.ring) (pointer b) n.position
+      unfolding spot_named
+      valued_there tells =
+          let v = named_value (shape_of h f.ring) (k.ring f.ring) b f.spot tells f.named_is in
+          subst (λ q. IsValued (k.ring f.ring) (pointer b) q) (same_position v.0 n.position (sym v.1 ∙ n.is)) v.2
+
+      -- it names the take of its block, and by a value none before it
+      names_take : names b (take_there n.position) ≡ true
       unfolding shape
-      address_is = ap (λ t. spot_address (shape_of h f.ring) t) (sym n.is) ∙ names.at
+      names_take = elim (cases_Bool (has_event_data b)) [
+        | inl tells ↦ names_value b (take_there n.position) tells ∙ (valued_there tells).passes
+        | inr tells ↦ names_address b (take_there n.position) tells ∙ eq-eqb _ (pointer b) (ap (λ t. spot_address (shape_of h f.ring) t) (sym n.is) ∙ at_address tells)
+      ]
 
-      takes : open_takes (state_of u f.ring) ≡ map (address_of shape) (range_with_len (floor_number (k.ring f.ring)) (suc (n.position - floor_number (k.ring f.ring))))
+      names_first : has_event_data b ≡ true → (q : ℕ) → floor_number (k.ring f.ring) ≤ q → q < n.position → names b (take_there q) ≡ false
+      names_first tells q low below = names_value b (take_there q) tells ∙ (valued_there tells).first q low below
+
+      takes : open_takes (state_of u f.ring) ≡ map take_there (range_with_len (floor_number (k.ring f.ring)) (suc (n.position - floor_number (k.ring f.ring))))
       takes =
           let long : number bound.spot - floor_number (k.ring f.ring) ≡ suc (n.position - floor_number (k.ring f.ring)) = omega (arith, number_now, from) in
-          bound.takes.takes ∙ ap (λ l. map (address_of shape) (range_with_len (floor_number (k.ring f.ring)) l)) long
+          bound.takes.takes ∙ ap (λ l. map take_there (range_with_len (floor_number (k.ring f.ring)) l)) long
 
       -- its take is unreported
-      take_found : (m : ℕ) × (position (λ a. a == pointer b) (open_takes (state_of u f.ring)) ≡ Some m)
+      take_found : (m : ℕ) × (position (names b) (open_takes (state_of u f.ring)) ≡ Some m)
       take_found =
           let F : ℕ = floor_number (k.ring f.ring) in
           let i : ℕ = n.position - F in
-          let long : length (open_takes (state_of u f.ring)) ≡ suc i = ap (λ l. length l) takes ∙ length-map-range_with_len (address_of shape) F (suc i) in
-          let element : get_or (open_takes (state_of u f.ring)) i 0 ≡ address_of shape n.position =
-          ap (λ l. get_or l i 0) takes ∙ get_or-map-range_with_len (address_of shape) F (suc i) i n.position 0 (omega arith) (omega (arith, from)) in
-          first_found (λ a. a == pointer b) (open_takes (state_of u f.ring)) i (omega (arith, long)) (eq-eqb _ (pointer b) (element ∙ address_is))
+          let long : length (open_takes (state_of u f.ring)) ≡ suc i = ap (λ l. length l) takes ∙ length-map-range_with_len take_there F (suc i) in
+          let element : get_or (open_takes (state_of u f.ring)) i (take_there 0) ≡ take_there n.position =
+          ap (λ l. get_or l i (take_there 0)) takes ∙ get_or-map-range_with_len take_there F (suc i) i n.position (take_there 0) (omega arith) (omega (arith, from)) in
+          first_found (names b) (open_takes (state_of u f.ring)) i (take_there 0) (omega (arith, long)) (ap (names b) element ∙ names_take)
 
       -- a success: the ring stays as active as it was
       pub success_reports : is_success (code_told h k b) ≡ true → (x : Reports w b f.ring) × (x.world.is_active f.ring ≡ w.is_active f.ring)
@@ -186,7 +211,7 @@ module _ (h : Header) where
       success_reports success =
           let m : ℕ = take_found.0 in
           let v : World = with_reported h (posts_posted h w b) f.ring ((posts_posted h w b).reported f.ring + m + 1) in
-          let found : option_map (λ m. with_reported h (posts_posted h w b) f.ring ((posts_posted h w b).reported f.ring + m + 1)) (position (λ a. a == pointer b) (open_takes (state_of u f.ring))) ≡ Some v =
+          let found : option_map (λ m. with_reported h (posts_posted h w b) f.ring ((posts_posted h w b).reported f.ring + m + 1)) (position (names b) (open_takes (state_of u f.ring))) ≡ Some v =
           ap (λ o. option_map (λ m. with_reported h (posts_posted h w b) f.ring ((posts_posted h w b).reported f.ring + m + 1)) o) take_found.1 in
           let x : Reports w b f.ring = record {
             world = v;
@@ -195,11 +220,11 @@ module _ (h : Header) where
           } in
           (x, refl)
 
-      last : is_last h (pointer b) (open_takes (state_of u f.ring)) ≡ true
+      last : names_last b (open_takes (state_of u f.ring)) ≡ true
       last =
           let F : ℕ = floor_number (k.ring f.ring) in
-          ap (λ l. is_last h (pointer b) l) takes
-          ∙ last_of_range h (address_of shape) F (n.position - F) (pointer b) (ap (λ q. address_of shape q) (omega (arith, from)) ∙ address_is)
+          ap (λ l. names_last b l) takes
+          ∙ last_of_range b take_there F (n.position - F) (ap (λ q. names b (take_there q)) (omega (arith, from)) ∙ names_take) (λ tells q low below. names_first tells q low (omega (arith, from)))
 
       module _ (runs : is_running (k.endpoint_state (slot b) (endpoint b)) ≡ true) (on : w.is_active f.ring ≡ true) where
         ended : EndpointState → World
@@ -208,13 +233,13 @@ module _ (h : Header) where
           endpoint_state = put_pair w.endpoint_state (slot b) (endpoint b) state;
         }
 
-        error_at : (state : EndpointState) → report_error h (posts_posted h w b) (slot b) (endpoint b) f.ring (pointer b) state ≡ Some (ended state)
+        error_at : (state : EndpointState) → report_error h (posts_posted h w b) (slot b) (endpoint b) f.ring b state ≡ Some (ended state)
         unfolding ended report_error with_reported unreported posts_posted stored_block stored
         error_at state =
-            cond-true (is_running (w.endpoint_state (slot b) (endpoint b)) && w.is_active f.ring && is_last h (pointer b) (open_takes (state_of u f.ring))) _ None
+            cond-true (is_running (w.endpoint_state (slot b) (endpoint b)) && w.is_active f.ring && names_last b (open_takes (state_of u f.ring))) _ None
             (and_from _ _ (and_from _ _ (ap is_running (g.matches.endpoints (slot b) (endpoint b)) ∙ runs) on) last)
 
-        error_leaves : (state : EndpointState) → report_code h u (code_told h k b) (slot b) (endpoint b) f.ring (pointer b) ≡ Some (ended state) → Reports w b f.ring
+        error_leaves : (state : EndpointState) → report_code h u (code_told h k b) (slot b) (endpoint b) f.ring b ≡ Some (ended state) → Reports w b f.ring
         unfolding ended with_reported posts_posted stored_block stored
         error_leaves state by_code = search (rules, ended, report_at, put_off)
 

@@ -1,11 +1,11 @@
 -- A Transfer Event, whatever its code: the lazy run brings its ring to where the event says, reports it, and reads it; and with that the lazy law
-use Rattle.safety.proofs.UpperLaws.{can_post, may_post, is_off, post_of, made, event_read, transfer_read, transferred_at, transfer_kind, Report, code_told, code, reported, reported_on, report_runs, ServiceFacts, Header, LazyLaw, AllAreRead, EventLaw, [], ◌||◌, inl, inr, cases_Bool, is_success, is_halting, is_trb_error, is_transfer_event, ◌≡◌, ◌≢◌, ◌≤◌, ◌&&◌, ◌∷◌, ◌∙◌, ℕ, true, false, List, Option, Some, arith, sym, ap, subst, false≢true, not-false, and_from, Block, IsBlock, kind, slot, endpoint, is_stopping, Spot, Data, is_open, floor_number, MayReach, rank, number, after, ceiling_within, after_reached, next_later, Read, Row, IsHeader, shape_of, command_id, World, Known, learned, lenient, RingSpot, transferred, IsDriverRing, DriverKeeps, Agrees, transfer_driver, ring_shape, is_held_ring, is_late, brought, ◌+◌, ◌-◌, ◌<◌, ◌==◌, not, length, None, refl, ltb-true, eq-eqb, rules, and_parts, cond-true, cond-false, not_from_true, pointer, ceiling, cycle_of_bit, command_of, is_stop_of, is_running, UnderWay, unreported, command_at, next_command, is_stopping_now, may_be_taken, UnderWayMatches, CommandMatches, event_facts, put_off, at_floor, command_is_ring, command_at_is, command_of-with_cycle, StopCode, stored, stored_block, is_last, is_stop_under_way, posts_posted, report_code, report_stop, stopped_with, with_reported, ne_eqb, cases_lt, put, number-after, stop_spot_reached, rank_least, rank_most, transfer_not_command, put_at, next_is, goals, further, report_goals, command_taken, taken_up_to, stop_goal, need, ◌++◌, reverse, flat_map, looks_to, StandsAt, IsActiveIfOpen, Follows, Carries, Leads, Past, Traced, traced_behind, TransferFacts, NamesBlock, success_names, error_names, commands_open, CommandsOpen, AreTimely, IsHeld, need_of_held, timely_then, StopsThere, stop_names, stop_code, agrees_now, transfer_facts, is_named, is_done, named_if_taken, error_goes_on, success_goes_on}
+use Rattle.safety.proofs.UpperLaws.{stop_by_address, can_post, may_post, is_off, post_of, made, event_read, transfer_read, transferred_at, transfer_kind, Report, code_told, code, reported, reported_on, report_runs, ServiceFacts, Header, LazyLaw, AllAreRead, EventLaw, [], ◌||◌, inl, inr, cases_Bool, is_success, is_halting, is_trb_error, is_transfer_event, ◌≡◌, ◌≢◌, ◌≤◌, ◌&&◌, ◌∷◌, ◌∙◌, ℕ, true, false, List, Option, Some, arith, sym, ap, subst, false≢true, not-false, and_from, Block, IsBlock, kind, slot, endpoint, is_stopping, Spot, Data, is_open, floor_number, MayReach, rank, number, after, ceiling_within, after_reached, next_later, Read, Row, IsHeader, shape_of, command_id, World, Known, learned, lenient, RingSpot, transferred, IsDriverRing, DriverKeeps, Agrees, transfer_driver, ring_shape, is_held_ring, is_late, brought, ◌+◌, ◌-◌, ◌<◌, ◌==◌, not, length, None, refl, ltb-true, eq-eqb, rules, and_parts, cond-true, cond-false, not_from_true, pointer, ceiling, cycle_of_bit, command_of, is_stop_of, is_running, UnderWay, unreported, command_at, next_command, is_stopping_now, may_be_taken, UnderWayMatches, CommandMatches, event_facts, put_off, at_floor, command_is_ring, command_at_is, command_of-with_cycle, StopCode, stored, stored_block, names_last, is_stop_under_way, posts_posted, report_code, report_stop, stopped_with, with_reported, ne_eqb, cases_lt, put, number-after, stop_spot_reached, rank_least, rank_most, transfer_not_command, put_at, next_is, goals, further, report_goals, command_taken, taken_up_to, stop_goal, need, ◌++◌, reverse, flat_map, looks_to, StandsAt, IsActiveIfOpen, Follows, Carries, Leads, Past, Traced, traced_behind, TransferFacts, NamesBlock, success_names, error_names, commands_open, CommandsOpen, AreTimely, IsHeld, need_of_held, timely_then, StopsThere, stop_names, stop_code, agrees_now, transfer_facts, is_named, is_done, named_if_taken, error_goes_on, success_goes_on}
 use Rattle.safety.proofs.DriverHistories.{run_keeps}
 use Rattle.safety.proofs.LazyRuns.PostStep.{IsSilent, running_named, running_now, timely_running, silent_step, event_law, EventLawOf, EventLearns, pointers_transfer, report_step}
 use Rattle.safety.proofs.LazyRuns.Completions.{completion_law}
 use Rattle.safety.proofs.LazyRuns.Induction.{lazy_from_events, all_read_from_events}
 use Rattle.safety.proofs.LazyRuns.LooksRun.{AllFit, further_then, further_not, Fits, AreApart, AllBrought, goals_reached}
-use Rattle.safety.proofs.LazyRuns.TransferGoals.{Reports, names, ahead, success_reports, error_reports, block_goal, brought_here, brought_off, read_is, learns, success_floor, error_ring, report_at, IsHeldAt, further_is, taken_behind, goals_are, stop_ring, no_command as off_command}
+use Rattle.safety.proofs.LazyRuns.TransferGoals.{Reports, there as spot_there, reached, at_address, success_reports, error_reports, block_goal, brought_here, brought_off, read_is, learns, success_floor, error_ring, report_at, IsHeldAt, further_is, taken_behind, goals_are, stop_ring, no_command as off_command}
 
 module _ (h : Header) where
   -- the next command may be taken, and is a Stop Endpoint for the endpoint
@@ -46,7 +46,7 @@ module _ (h : Header) where
       abbrev stopped : ℕ → World
       stopped n = stopped_with h u f.ring n
 
-      stop_leaves : (n : ℕ) → report_stop h u (slot b) (endpoint b) f.ring (pointer b) ≡ Some (stopped n) → Reports h w b f.ring
+      stop_leaves : (n : ℕ) → report_stop h u (slot b) (endpoint b) f.ring b ≡ Some (stopped n) → Reports h w b f.ring
       unfolding report_code stopped_with with_reported posts_posted stored_block stored
       stop_leaves n made = record {
         world = stopped n;
@@ -66,7 +66,7 @@ module _ (h : Header) where
       pub stop_reports : Reports h w b f.ring
       unfolding report_stop
       stop_reports =
-          elim (cases_Bool (is_last h (pointer b) (unreported u f.ring))) [
+          elim (cases_Bool (names_last b (unreported u f.ring))) [
             | inl last ↦ stop_leaves (u.reported f.ring + length (unreported u f.ring) - 1) (cond-false _ None _ may_stop ∙ cond-true _ _ _ last)
             | inr other ↦ stop_leaves (u.reported f.ring + length (unreported u f.ring)) (cond-false _ None _ may_stop ∙ cond-false _ _ _ other ∙ cond-true _ _ None at_pointer)
           ]
@@ -134,17 +134,16 @@ module _ (h : Header) where
 
       near : rank (at_first e.ring) ≤ rank (after (shape_of h e.ring) n.position)
       near =
-          let named = names h is past.known w b block past.keeps now clean transfer e in
           let past_it = next_later (shape_of h e.ring) (Data n.position) in
           let same : rank (at_first e.ring) ≡ rank (past.known.ring e.ring).floor = ap rank (f.traced (slot b) (endpoint b) e.ring e.bound) in
-          omega (arith, (subst (λ t. rank (past.known.ring e.ring).floor ≤ rank t) n.is named.from), past_it, same)
+          omega (arith, (subst (λ t. rank (past.known.ring e.ring).floor ≤ rank t) n.is (reached h is past.known w b block past.keeps now clean transfer e)), past_it, same)
 
       reach : MayReach (shape_of h e.ring) (past.known.ring e.ring) (after (shape_of h e.ring) n.position)
       reach =
           let driver : IsDriverRing h e.ring = transfer_driver h e.ring (past.keeps.states.transfer (slot b) (endpoint b) e.ring e.bound) in
           let within = ceiling_within (shape_of h e.ring) (ring_shape h is e.ring driver).is past.known.memory (past.known.ring e.ring) (past.keeps.rings e.ring driver) in
           let from : floor_number (past.known.ring e.ring) ≤ n.position =
-          subst (λ t. floor_number (past.known.ring e.ring) ≤ number t) n.is (ahead h is past.known w b block past.keeps now clean transfer e) in
+          subst (λ t. floor_number (past.known.ring e.ring) ≤ number t) n.is (spot_there h is past.known w b block past.keeps now clean transfer e).from in
           after_reached (shape_of h e.ring) (past.known.ring e.ring) n.position (omega (arith, from)) (omega (arith, n.below, within.1))
 
       active : w.is_active e.ring ≡ true
@@ -262,7 +261,7 @@ module _ (h : Header) where
       unfolding brought command place
       ring_brought =
           put_at taken e.ring (further (taken e.ring) e.spot) ∙ ap (λ t. further t e.spot) (put_off at_first (command_id h) behind_command e.ring no_command)
-          ∙ further_is (at_first e.ring) e.spot (omega (arith, ((names h is past.known w b block past.keeps now clean transfer e).from), (ap rank (f.traced (slot b) (endpoint b) e.ring e.bound))))
+          ∙ further_is (at_first e.ring) e.spot (omega (arith, reached h is past.known w b block past.keeps now clean transfer e, (ap rank (f.traced (slot b) (endpoint b) e.ring e.bound))))
 
       command_brought : brought h at_first (command ∷ place ∷ []) (command_id h) ≡ at_command
       unfolding brought command place at_command
@@ -282,12 +281,12 @@ module _ (h : Header) where
       place_fits : Fits h past.known w at_first place
       unfolding place
       place_fits =
-          let named = names h is past.known w b block past.keeps now clean transfer e in
+          let named = spot_there h is past.known w b block past.keeps now clean transfer e in
           record {
             stands = trace.rings (slot b) (endpoint b) e.ring e.bound;
             may = λ further. record {
               active = f.active (slot b) (endpoint b) e.ring e.bound stops.work.opened;
-              reach = stop_spot_reached (shape_of h e.ring) (past.known.ring e.ring) e.spot named.spot (ahead h is past.known w b block past.keeps now clean transfer e) stops.there;
+              reach = stop_spot_reached (shape_of h e.ring) (past.known.ring e.ring) e.spot named.is_spot named.from stops.there;
               one_command = λ same. absurd (no_command same);
             };
           }
@@ -306,7 +305,7 @@ module _ (h : Header) where
           let ring : StandsAt h u e.ring e.spot = subst (λ t. StandsAt h u e.ring t) ring_brought (stop_learns.rings (slot b) (endpoint b) e.ring e.bound) in
           let x : Reports h u b e.ring =
           stop_reports h is past.known u b block past.keeps agree clean transfer e next at_command commands (search (rules, at_command, cases_lt, further_then, further_not, at_first, rank_least, rank_most, number-after)) coded stops.work.runs
-          (stop_learns.active (slot b) (endpoint b) e.ring e.bound stops.work.opened) (sym (names h is past.known w b block past.keeps now clean transfer e).at ∙ sym ring.pointer) in
+          (stop_learns.active (slot b) (endpoint b) e.ring e.bound stops.work.opened) (sym (at_address h is past.known w b block past.keeps now clean transfer e (stop_by_address h past.known b e.may_data coded.stopping)) ∙ sym ring.pointer) in
           (x, λ opened. absurd (false≢true (sym held ∙ opened)))
 
       stop_learns : EventLearns h past.known (learned h past.known (Read b)) e.ring e.spot

@@ -1,6 +1,5 @@
 -- Lazy schedules of three traces, and how they end, by evaluation; tests/schedules has more for the program
-use Rattle.safety.proofs.Words.{[], ◌≡◌, ◌∷◌, ◌++◌, ℕ, suc, zero, List, refl, Cmd, Evt, Xfer, Block, Bytes32, Header, Row, Sub, Write, Reg, Bell, Read, Usbcmd, Crcr, Dcbaap, Config, Erstsz, Erstba, Erdp, Step, NextRow, Look, Report, Finish, lazy_steps, One, scene_ending, NoHarm, world_on_literals, lazy_on_literals, RegRead, Usbsts, FreeRow, RingRow, Halt, resting}
-use Rattle.traces.specs.declared.version.Version.TheVariants.{Four}
+use Rattle.safety.proofs.Words.{[], ◌≡◌, ◌∷◌, ◌++◌, ℕ, suc, zero, List, refl, Cmd, Evt, Xfer, Block, Bytes32, Header, Row, Sub, Write, Reg, Bell, Read, Usbcmd, Crcr, Dcbaap, Config, Erstsz, Erstba, Erdp, Step, NextRow, Look, Report, Finish, lazy_steps, One, scene_ending, NoHarm, world_on_literals, lazy_on_literals, RegRead, Usbsts, FreeRow, RingRow, Halt, resting, Four}
 
 abbrev block : ℕ → ℕ → ℕ → Block
 block at status control = record { w = at ∷ 0 ∷ status ∷ control ∷ [] }

@@ -1,9 +1,7 @@
 -- A run of the model and the run that the rings that live see go alike, step by step, beside rows that break no rule
-use Rattle.safety.proofs.Words.{is_inside_descriptor}
-use Rattle.safety.proofs.UpperLaws.{◌≡◌, ℕ, Bool, true, false, List, Option, Some, None, refl, subst, Header, Row, World, IsHeader, counted, Known, LiveScene, live_with, known_now, is_named, Scene, with_left, with_world, Left, aside, Lists}
+use Rattle.safety.proofs.UpperLaws.{is_inside_descriptor, ◌≡◌, ℕ, Bool, true, false, List, Option, Some, None, refl, subst, Header, Row, World, IsHeader, counted, Known, LiveScene, live_with, known_now, is_named, Scene, with_left, with_world, Left, aside, Lists, lingering}
 use Rattle.std.proofs.Common.{option_map}
 use Rattle.safety.proofs.RingChanges.LiveHeadline.{CameTo}
-use Rattle.safety.proofs.RingChanges.Lingering.{lingering}
 use Rattle.world_state.specs.DriverRows as driver
 
 -- no ring that went is looked at

@@ -1,13 +1,12 @@
 -- Each step keeps a run of the model and what the rings that live see of it alike
-use Rattle.safety.proofs.UpperLaws.{All-head, AreKept, [], ◌≡◌, ◌≢◌, ◌∷◌, ◌∙◌, ℕ, Bool, true, List, refl, sym, ap, subst, inl, inr, false≢true, false_from_ne_true, none-some, reverse, Header, Row, Step, NextRow, World, IsHeader, IsStep, IsRow, counted, Known, Runs, LiveScene, live_next, live_step, live_with, header_now, known_now, Scene, row_next, step_made, with_world, Left, aside, Lists}
+use Rattle.safety.proofs.UpperLaws.{All-head, AreKept, [], ◌≡◌, ◌≢◌, ◌∷◌, ◌∙◌, ℕ, Bool, true, List, refl, sym, ap, subst, inl, inr, false≢true, false_from_ne_true, none-some, reverse, Header, Row, Step, NextRow, World, IsHeader, IsStep, IsRow, counted, Known, Runs, LiveScene, live_next, live_step, live_with, header_now, known_now, Scene, row_next, step_made, with_world, Left, aside, Lists, lingering}
 use Rattle.std.proofs.Common.{option_map}
 use Rattle.safety.proofs.StepRuns.{step_goes}
 use Rattle.safety.proofs.RingChanges.Alike.{Alike, AreAlike, IsIdle, Lingers, alike_step, whole}
 use Rattle.safety.proofs.RingChanges.LiveHeadline.{CameTo, Keeps, here, kept_on, later_kept, one_more, stays}
-use Rattle.safety.proofs.RingChanges.Lingering.{lingering}
-use Rattle.safety.proofs.RingChanges.RunFacts as facts
 use Rattle.safety.proofs.RingChanges.StepsAside.{halted_still, none_behind_stop, step_aside}
 use Rattle.safety.proofs.RingChanges.AlikeRows.{made_row}
+use Rattle.safety.proofs.RingChanges.RunFacts as facts
 use Rattle.world_state.specs.Steps as steps
 
 counted_active : (h : Header) (v : World) → (counted h v).is_active ≡ v.is_active

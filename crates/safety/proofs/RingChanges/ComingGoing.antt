@@ -1,22 +1,12 @@
 -- A ring of any kind that comes or goes: what a driver keeps it keeps still, and the run goes on
-use Rattle.safety.proofs.Words.{RingKind, is_inside_descriptor, resting}
-use Rattle.safety.proofs.UpperLaws.{◌≡◌, ◌||◌, ◌∙◌, ℕ, Bool, true, false, None, Some, Option, is_some, refl, sym, ap, subst, inl, inr, cases_Bool, cases_eq, cases_option, false≢true, false_from_ne_true, none-some, or_parts, fun_ext, put, put_at, put_off, list_any, IsComing, is_bad_free, is_bad_ring, is_bad_kind, is_bad_segment, with_ring, without_ring, emptied, forgotten, Header, Ring, IsHeader, ring_with, command_id, World, Known, counted, DriverKeeps, IsTransferRing, Runs, is_in_run, is_transfer_kind, all_read}
-use Rattle.trb.specs.declared.ring_kind.RingKind.TheVariants.{Cmd, Evt, Xfer}
-use Rattle.ring_knowledge.specs.Histories.{gone}
-use Rattle.ownership_rules.specs.Rings.{goes_badly}
-use Rattle.traces.specs.Header.{command_ring, event_ring, is_command_kind, is_event_kind}
-use Rattle.safety.proofs.Phases.{halted_is, started_is}
-use Rattle.safety.proofs.RingChanges.LeftOut.{is_command, is_event}
-use Rattle.safety.proofs.RingChanges.GoneRings.{gone_ring_header, gone_ring_kept}
-use Rattle.safety.proofs.RingChanges.GoneRings as transfer_gone
+use Rattle.safety.proofs.UpperLaws.{RingKind, is_inside_descriptor, resting, ◌≡◌, ◌||◌, ◌∙◌, ℕ, Bool, true, false, None, Some, Option, is_some, refl, sym, ap, subst, inl, inr, cases_Bool, cases_eq, cases_option, false≢true, false_from_ne_true, none-some, or_parts, fun_ext, put, put_at, put_off, list_any, IsComing, is_bad_free, is_bad_ring, is_bad_kind, is_bad_segment, with_ring, without_ring, emptied, forgotten, Header, Ring, IsHeader, ring_with, command_id, World, Known, counted, DriverKeeps, IsTransferRing, Runs, is_in_run, is_transfer_kind, all_read, Cmd, Evt, Xfer, gone, goes_badly, command_ring, event_ring, is_command_kind, is_event_kind, halted_is, started_is, is_command, gone_ring_header, gone_ring_kept, command_comes_header, command_comes_keeps, command_goes_header, command_goes_keeps, event_comes_header, event_comes_keeps, event_goes_header, event_goes_keeps, event_comes_runs, event_goes_runs}
+use Rattle.safety.proofs.RingChanges.LeftOut.{is_event}
 use Rattle.safety.proofs.RingChanges.RingRuns.{comes_header, comes_keeps, comes_runs, goes_runs}
-use Rattle.safety.proofs.RingChanges.RingRuns as transfer_runs
-use Rattle.safety.proofs.RingChanges.CommandRings.{command_comes_header, command_comes_keeps, command_goes_header, command_goes_keeps}
-use Rattle.safety.proofs.RingChanges.CommandRings as commands
 use Rattle.safety.proofs.RingChanges.CommandRuns.{command_comes_runs, command_goes_runs, command_goes_whole}
-use Rattle.safety.proofs.RingChanges.EventRings.{event_comes_header, event_comes_keeps, event_goes_header, event_goes_keeps}
+use Rattle.safety.proofs.RingChanges.GoneRings as transfer_gone
+use Rattle.safety.proofs.RingChanges.RingRuns as transfer_runs
+use Rattle.safety.proofs.RingChanges.CommandRings as commands
 use Rattle.safety.proofs.RingChanges.EventRings as events
-use Rattle.safety.proofs.RingChanges.EventRuns.{event_comes_runs, event_goes_runs}
 use Rattle.safety.proofs.RingChanges.RunFacts as facts
 
 none_of : {X : Type 0} (o : Option X) → is_some o ≡ false → o ≡ None

@@ -1,17 +1,6 @@
 -- A command ring that goes, or comes: what a driver keeps it keeps still
-use Rattle.ring_knowledge.specs.Histories.{gone}
-use Rattle.safety.specs.Keeps.{IsNobodys}
-use Rattle.traces.specs.Header.{event_id, no_id}
-use Rattle.traces.specs.Register.{same_register}
-use Rattle.trb.specs.declared.ring_kind.RingKind.TheVariants.{Cmd}
-use Rattle.ownership_rules.specs.Registers.{is_in_run}
-use Rattle.safety.proofs.MiddleLaws.{[], ◌≡◌, ◌≢◌, ◌*◌, ◌==◌, ◌&&◌, ◌||◌, ◌++◌, ◌∷◌, ◌∙◌, if◌then◌else◌, ℕ, not, Bool, true, false, List, Option, Some, None, filter, is_some, arith, refl, sym, ap, subst, inl, inr, eq-eqb, ne_eqb, ltb-true, lt-ltb, nat_lt, fun_ext, cases_eq, cases_option, false≢true, false_from_ne_true, none-some, same_Some, not-false, or_parts, or_from, and_from, and_left, and_right, put, put_at, put_off, Segment, new_ring, IsComing, forgotten, is_bad_free, is_bad_ring, is_bad_segment, is_bad_kind, goes_badly, is_in_use, with_ring, without_ring, list_any, list_all, list_any-append, clash, is_shape, may_stand_together, IsIn, Evt, Xfer, RingKeeps, is_inside, device_context_bytes, Register, Crcr, Header, Ring, IsHeader, is_command_kind, is_event_kind, is_transfer_kind, ring_with, shape_of, shape_or, command_ring, command_id, event_ring, event_shape, event_size, place_count, id_or_none, touches_ring, touches, Known, entry_of, next_command, ceiling, given_count, unwrap_or, may_be_taken, is_done, is_named, IsDriverRing, IsTransferRing, DriverKeeps, covers, open_ranges, overlap, rings_overlap, found_in, header_parts, shape_is, ring_untouched, device_free, entry_free, each_good, block_shows, words_clean, touches_none, segment_some, all_more, together_more, none_found, overlaps_none}
-use Rattle.safety.proofs.RingIds.{none_has_256}
-use Rattle.safety.proofs.RingChanges.ListedRings.{all_kept, found_kept, none_kept, together_kept}
+use Rattle.safety.proofs.MiddleLaws.{gone, IsNobodys, event_id, no_id, same_register, Cmd, is_in_run, [], ◌≡◌, ◌≢◌, ◌*◌, ◌==◌, ◌&&◌, ◌||◌, ◌++◌, ◌∷◌, ◌∙◌, if◌then◌else◌, ℕ, not, Bool, true, false, List, Option, Some, None, filter, is_some, arith, refl, sym, ap, subst, inl, inr, eq-eqb, ne_eqb, ltb-true, lt-ltb, nat_lt, fun_ext, cases_eq, cases_option, false≢true, false_from_ne_true, none-some, same_Some, not-false, or_parts, or_from, and_from, and_left, and_right, put, put_at, put_off, Segment, new_ring, IsComing, forgotten, is_bad_free, is_bad_ring, is_bad_segment, is_bad_kind, goes_badly, is_in_use, with_ring, without_ring, list_any, list_all, list_any-append, clash, is_shape, may_stand_together, IsIn, Evt, Xfer, RingKeeps, is_inside, device_context_bytes, Register, Crcr, Header, Ring, IsHeader, is_command_kind, is_event_kind, is_transfer_kind, ring_with, shape_of, shape_or, command_ring, command_id, event_ring, event_shape, event_size, place_count, id_or_none, touches_ring, touches, Known, entry_of, next_command, ceiling, given_count, unwrap_or, may_be_taken, is_done, is_named, IsDriverRing, IsTransferRing, DriverKeeps, covers, open_ranges, overlap, rings_overlap, found_in, header_parts, shape_is, ring_untouched, device_free, entry_free, each_good, block_shows, words_clean, touches_none, segment_some, all_more, together_more, none_found, overlaps_none, none_has_256, all_kept, found_kept, none_kept, together_kept, found_before, found_new, found_still, view_keeps, new_is_nobodys, AnotherRing, another_ring_kept, unnamed}
 use Rattle.safety.proofs.RingChanges.LeftOut as left
-use Rattle.safety.proofs.RingChanges.NewRings.{found_before, found_new, found_still, view_keeps}
-use Rattle.safety.proofs.RingChanges.OtherRings.{new_is_nobodys}
-use Rattle.safety.proofs.RingChanges.OtherCommandRing.{AnotherRing, another_ring_kept, unnamed}
 
 -- of a ring of which nothing is known nothing can have been taken
 pub nobody_untaken : (h : Header) (k : Known) → IsNobodys (k.ring (command_id h)) → may_be_taken h k ≡ false

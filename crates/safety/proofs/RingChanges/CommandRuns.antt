@@ -1,22 +1,9 @@
 -- Behind a command ring that goes, or comes, the run goes on, whatever is unread
-use Rattle.safety.proofs.Words.{Newest, Placed, RingEvent, Took, UnderWayMatches, is_end, is_inside_descriptor, is_step_given}
-use Rattle.safety.proofs.Words.{given_count_near, given_count_stops}
-use Rattle.ring_knowledge.specs.Histories.{gone}
-use Rattle.traces.specs.Header.{no_id}
-use Rattle.trb.specs.declared.ring_kind.RingKind.TheVariants.{Cmd}
-use Rattle.ownership_rules.specs.Registers.{is_in_run}
-use Rattle.safety.specs.Keeps.{IsNobodys}
-use Rattle.safety.proofs.UpperLaws.{[], ◌≡◌, ◌≢◌, ◌≤◌, ◌==◌, ◌&&◌, ◌||◌, ◌++◌, ◌∷◌, ◌∙◌, ℕ, not, Bool, true, false, List, Option, None, Some, filter, get_or, is_some, arith, refl, sym, ap, subst, inl, inr, cases_Bool, cases_eq, false≢true, false_from_ne_true, or_from, lt-ltb, ltb-false, eqb-true, and_right, has_other_words, is_out_of_order, nat_lt, list_any, some_of, put, Block, BlockKind, TransferEvent, CommandCompletion, kind, is_command_completion, Spot, new_ring, is_bad_free, is_bad_ring, is_bad_kind, is_bad_segment, goes_badly, is_in_use, IsComing, with_ring, without_ring, resting, forgotten, Header, Ring, Read, IsHeader, ring_with, ring_having, shape_of, command_id, id_of, is_inside, is_transfer_kind, World, UnderWay, counted, Known, learned, event_read, lenient, next_command, floor_number, number, ceiling, unwrap_or, may_be_taken, is_done, is_named, is_value, binds, DriverKeeps, EventFacts, event_facts, event_same, endpoints_of, transfer_command, next_take, state_of, Rests, UnderWayMatches, Agrees, ArePossible, Runs, all_read, read_on, agrees_once_counted, KeepsRings, HasKept, HavesAlike, BindsAlike, read_possible, each_good, transfer_ring, having_transfer, ring_shape, Shape, RingView}
-use Rattle.safety.proofs.Words.{command_ring, given_count, FreeRing, EndpointRing, Matches}
+use Rattle.safety.proofs.UpperLaws.{Newest, Placed, RingEvent, Took, UnderWayMatches, is_end, is_inside_descriptor, is_step_given, given_count_near, given_count_stops, gone, no_id, Cmd, is_in_run, IsNobodys, [], ◌≡◌, ◌≢◌, ◌≤◌, ◌==◌, ◌&&◌, ◌||◌, ◌++◌, ◌∷◌, ◌∙◌, ℕ, not, Bool, true, false, List, Option, None, Some, filter, get_or, is_some, arith, refl, sym, ap, subst, inl, inr, cases_Bool, cases_eq, false≢true, false_from_ne_true, or_from, lt-ltb, ltb-false, eqb-true, and_right, has_other_words, is_out_of_order, nat_lt, list_any, some_of, put, Block, BlockKind, TransferEvent, CommandCompletion, kind, is_command_completion, Spot, new_ring, is_bad_free, is_bad_ring, is_bad_kind, is_bad_segment, goes_badly, is_in_use, IsComing, with_ring, without_ring, resting, forgotten, Header, Ring, Read, IsHeader, ring_with, ring_having, shape_of, command_id, id_of, is_inside, is_transfer_kind, World, UnderWay, counted, Known, learned, event_read, lenient, next_command, floor_number, number, ceiling, unwrap_or, may_be_taken, is_done, is_named, is_value, binds, DriverKeeps, EventFacts, event_facts, event_same, endpoints_of, transfer_command, next_take, state_of, Rests, Agrees, ArePossible, Runs, all_read, read_on, agrees_once_counted, KeepsRings, HasKept, HavesAlike, BindsAlike, read_possible, each_good, transfer_ring, having_transfer, ring_shape, Shape, RingView, command_ring, given_count, FreeRing, EndpointRing, Matches, completion_facts, none_has_256, NextAlike, AnotherRing, OtherWorld, another_ring_agrees, nothing_next, rested, state_same, unnamed, nobody_untaken}
 use Rattle.safety.proofs.DriverHistories.{kept_driver}
-use Rattle.safety.proofs.KeptRings.{completion_facts}
-use Rattle.safety.proofs.RingIds.{none_has_256}
-use Rattle.safety.proofs.RingChanges.EventsAlike.{NextAlike}
 use Rattle.safety.proofs.RingChanges.ReadAlike.{read_alike}
 use Rattle.safety.proofs.RingChanges.Squares.{Other, cleared, cleared_apart, cleared_put, segment_still}
 use Rattle.safety.proofs.RingChanges.LeftOut as left
-use Rattle.safety.proofs.RingChanges.OtherCommandRing.{AnotherRing, OtherWorld, another_ring_agrees, nothing_next, rested, state_same, unnamed}
-use Rattle.safety.proofs.RingChanges.CommandRings.{nobody_untaken}
 use Rattle.safety.proofs.RingChanges.CommandRings as rings
 
 -- ---- an event, where no command can have been taken

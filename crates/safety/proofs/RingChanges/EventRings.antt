@@ -1,16 +1,6 @@
 -- An event ring that goes, or comes: what a driver keeps it keeps still
-use Rattle.ring_knowledge.specs.Histories.{gone}
-use Rattle.traces.specs.Header.{event_id, no_id}
-use Rattle.traces.specs.Register.{same_register}
-use Rattle.ownership_rules.specs.Registers.{is_written}
-use Rattle.safety.proofs.MiddleLaws.{[], ◌≡◌, ◌≢◌, ◌<◌, ◌==◌, ◌&&◌, ◌||◌, ◌++◌, ◌∷◌, ◌∙◌, ℕ, not, Bool, true, false, List, Option, Some, None, filter, is_some, arith, refl, sym, ap, subst, inl, inr, rules, eq-eqb, ne_eqb, lt-ltb, nat_lt, fun_ext, cases_eq, cases_option, cond-false, false≢true, false_from_ne_true, none-some, same_Some, or_parts, or_from, and_from, and_left, and_right, put, new_ring, IsComing, forgotten, is_bad_free, is_bad_ring, is_bad_segment, is_bad_kind, goes_badly, is_in_use, ◌*◌, with_ring, without_ring, list_any, list_all, clash, is_shape, may_stand_together, IsIn, Evt, Xfer, is_inside, Crcr, Erstsz, Header, Ring, IsHeader, is_command_kind, is_event_kind, is_driver_kind, ring_with, shape_of, shape_or, command_ring, command_id, event_ring, event_shape, event_size, place_count, id_or_none, touches, Known, IsDriverRing, DriverKeeps, rings_overlap, found_in, header_parts, ring_untouched, command_named, each_good, segment_some, all_more, together_more, none_found, overlaps_none}
-use Rattle.safety.proofs.Headers.{no_events, ring_not_event}
-use Rattle.safety.proofs.NamesRing.{command_with}
-use Rattle.safety.proofs.RingIds.{none_has_256}
-use Rattle.safety.proofs.RingChanges.ListedRings.{all_kept, found_kept, together_kept}
+use Rattle.safety.proofs.MiddleLaws.{gone, event_id, no_id, same_register, is_written, [], ◌≡◌, ◌≢◌, ◌<◌, ◌==◌, ◌&&◌, ◌||◌, ◌++◌, ◌∷◌, ◌∙◌, ℕ, not, Bool, true, false, List, Option, Some, None, filter, is_some, arith, refl, sym, ap, subst, inl, inr, rules, eq-eqb, ne_eqb, lt-ltb, nat_lt, fun_ext, cases_eq, cases_option, cond-false, false≢true, false_from_ne_true, none-some, same_Some, or_parts, or_from, and_from, and_left, and_right, put, new_ring, IsComing, forgotten, is_bad_free, is_bad_ring, is_bad_segment, is_bad_kind, goes_badly, is_in_use, ◌*◌, with_ring, without_ring, list_any, list_all, clash, is_shape, may_stand_together, IsIn, Evt, Xfer, is_inside, Crcr, Erstsz, Header, Ring, IsHeader, is_command_kind, is_event_kind, is_driver_kind, ring_with, shape_of, shape_or, command_ring, command_id, event_ring, event_shape, event_size, place_count, id_or_none, touches, Known, IsDriverRing, DriverKeeps, rings_overlap, found_in, header_parts, ring_untouched, command_named, each_good, segment_some, all_more, together_more, none_found, overlaps_none, no_events, ring_not_event, command_with, none_has_256, all_kept, found_kept, together_kept, found_before, found_new, found_still, AnotherEvents, another_events_kept}
 use Rattle.safety.proofs.RingChanges.LeftOut as left
-use Rattle.safety.proofs.RingChanges.NewRings.{found_before, found_new, found_still}
-use Rattle.safety.proofs.RingChanges.OtherEventRing.{AnotherEvents, another_events_kept}
 
 none_of : {X : Type 0} (o : Option X) → is_some o ≡ false → o ≡ None
 none_of o none = elim (cases_option o) [ inl is ↦ is | inr some ↦ absurd (false≢true (sym none ∙ ap (λ x. is_some x) some.1)) ]

@@ -1,9 +1,5 @@
 -- Behind an event ring that goes, or comes, the run goes on: nothing is unread before the controller is started
-use Rattle.ring_knowledge.specs.Histories.{gone}
-use Rattle.trb.specs.declared.ring_kind.RingKind.TheVariants.{Evt}
-use Rattle.safety.proofs.UpperLaws.{[], ◌≡◌, ◌+◌, ◌∷◌, ◌∙◌, ℕ, false, List, Some, length, arith, refl, sym, ap, subst, put, All-nil, IsBlock, Block, new_ring, is_bad_free, is_bad_ring, IsComing, with_ring, without_ring, resting, forgotten, Header, Ring, IsHeader, ring_with, World, counted, Known, DriverKeeps, Agrees, Runs, all_read, agrees_once_counted}
-use Rattle.safety.proofs.Phases.{started_is}
-use Rattle.safety.proofs.RingChanges.OtherEventRing.{another_events_agrees, nothing_posted}
+use Rattle.safety.proofs.MiddleLaws.{gone, Evt, [], ◌≡◌, ◌+◌, ◌∷◌, ◌∙◌, ℕ, false, List, Some, length, arith, refl, sym, ap, subst, put, All-nil, IsBlock, Block, new_ring, is_bad_free, is_bad_ring, IsComing, with_ring, without_ring, resting, forgotten, Header, Ring, IsHeader, ring_with, World, counted, Known, DriverKeeps, Agrees, Runs, all_read, agrees_once_counted, started_is, another_events_agrees, nothing_posted}
 use Rattle.safety.proofs.RingChanges.EventRings as rings
 
 -- ---- nothing is unread

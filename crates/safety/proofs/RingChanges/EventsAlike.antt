@@ -1,5 +1,5 @@
 -- An event says the same where other rings are there, so long as those that endpoints have and commands bind are as they were
-use Rattle.safety.proofs.Words.{◌&&◌, code, code_told, has_isoch, counted_code, is_of_service, typed, [], ◌≡◌, if◌then◌else◌, ◌∷◌, ◌∙◌, ℕ, Bool, true, false, List, Option, Some, None, refl, ap, rules, put, put_pair, cond_both, none-some, same_Some, option_map, Block, slot, endpoint, pointer, is_success, is_halting, is_trb_error, is_stopping, Spot, number, after, RingView, RingChange, Reaches, Holds, changed, ceiling, named, target, Command, Stopped, is_off, Change, Places, Stops, Config, Register, Header, Ring, shape_of, command_id, event_shape, event_size, ring_having, Known, RingSpot, on_ring, spot_on, event_at, passed, broken_off, stopped_at, transferred, transferred_at, transfer_read, set_to, bound_to, moved_to, moved, may_be_taken, pointed, disabled, in_state, held_at_ceiling, changed_by, changed_by_all, arith}
+use Rattle.safety.proofs.LowerLaws.{spot_named, ◌&&◌, code, code_told, has_isoch, counted_code, is_of_service, typed, [], ◌≡◌, if◌then◌else◌, ◌∷◌, ◌∙◌, ℕ, Bool, true, false, List, Option, Some, None, refl, ap, rules, put, put_pair, cond_both, none-some, same_Some, option_map, Block, slot, endpoint, is_success, is_halting, is_trb_error, is_stopping, Spot, number, after, RingView, RingChange, Reaches, Holds, changed, ceiling, target, Command, Stopped, is_off, Change, Places, Stops, Config, Register, Header, Ring, shape_of, command_id, event_shape, event_size, ring_having, Known, RingSpot, on_ring, spot_on, event_at, passed, broken_off, stopped_at, transferred, transferred_at, transfer_read, set_to, bound_to, moved_to, moved, may_be_taken, pointed, disabled, in_state, held_at_ceiling, changed_by, changed_by_all, arith, named_by}
 use Rattle.safety.proofs.Endpoints.{moved_rings, held_rings}
 
 module _ (h : Header) (rings : List Ring) (over : (ℕ → RingView) → ℕ → RingView) (registers : (Register → Option ℕ) → Register → Option ℕ) (Kept : ℕ → Type 0) where
@@ -57,14 +57,14 @@ module _ (h : Header) (rings : List Ring) (over : (ℕ → RingView) → ℕ →
 
     -- ---- a Transfer Event
 
-    spot_alike : (k : Known) (a : ℕ) (q : Option ℕ) → IsKept q → spot_on g (other k) a q ≡ spot_on h k a q
-    unfolding spot_on
-    spot_alike k a None kept = refl
-    spot_alike k a (Some r) kept = λ j. option_map (λ t. record { ring = r; spot = t }) (named (o.shape r (kept r refl) j) (o.view k.ring r (kept r refl) j) a)
+    spot_alike : (k : Known) (b : Block) (q : Option ℕ) → IsKept q → spot_on g (other k) b q ≡ spot_on h k b q
+    unfolding spot_on spot_named
+    spot_alike k b None kept = refl
+    spot_alike k b (Some r) kept = λ j. option_map (λ t. record { ring = r; spot = t }) (named_by (o.shape r (kept r refl) j) (o.view k.ring r (kept r refl) j) b)
 
     pub event_at_alike : (k : Known) (b : Block) → HasKept k → event_at g (other k) b ≡ event_at h k b
     unfolding event_at
-    event_at_alike k b kept = ap (λ o. if is_of_service (code b) then None else o) (spot_alike k (pointer b) (k.ring_of (slot b) (endpoint b)) (kept (slot b) (endpoint b)))
+    event_at_alike k b kept = ap (λ o. if is_of_service (code b) then None else o) (spot_alike k b (k.ring_of (slot b) (endpoint b)) (kept (slot b) (endpoint b)))
 
     pub event_kept : (k : Known) (b : Block) (at : RingSpot) → HasKept k → event_at h k b ≡ Some at → Kept at.ring
     unfolding event_at spot_on

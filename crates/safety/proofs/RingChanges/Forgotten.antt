@@ -1,7 +1,6 @@
 -- Of an ID that no ring has all may be forgotten
-use Rattle.safety.proofs.UpperLaws.{[], ◌≡◌, ◌≢◌, ◌<◌, ◌∙◌, ℕ, List, Some, None, get_or, refl, sym, ap, subst, inl, inr, rules, emptied, forgotten, cases_eq, cases_option, none-some, Block, RingKeeps, Header, Ring, Read, IsHeader, ring_with, ring_having, shape_of, command_id, World, Known, learned, lenient, Binding, binds, ring_bound, IsTransferRing, DriverKeeps, Agrees, forgetting_agrees, context_lies, transfer_ring, command_named, having_transfer, BindsAsBefore, IsAsBefore, OtherRings, other_rings_keep, command_with, BindsAlike, read_possible, KeepsRings}
-use Rattle.safety.proofs.RingChanges.ReadAlike.{next_kept, read_alike}
-use Rattle.safety.proofs.RingChanges.EventsAlike.{NextAlike}
+use Rattle.safety.proofs.UpperLaws.{[], ◌≡◌, ◌≢◌, ◌<◌, ◌∙◌, ℕ, List, Some, None, get_or, refl, sym, ap, subst, inl, inr, rules, emptied, forgotten, cases_eq, cases_option, none-some, Block, RingKeeps, Header, Ring, Read, IsHeader, ring_with, ring_having, shape_of, command_id, World, Known, learned, lenient, Binding, binds, ring_bound, IsTransferRing, DriverKeeps, Agrees, forgetting_agrees, context_lies, transfer_ring, command_named, having_transfer, BindsAsBefore, IsAsBefore, OtherRings, other_rings_keep, command_with, BindsAlike, read_possible, KeepsRings, next_kept, NextAlike}
+use Rattle.safety.proofs.RingChanges.ReadAlike.{read_alike}
 use Rattle.safety.proofs.RingChanges.Squares.{Other, cleared, cleared_apart, cleared_here, cleared_put}
 
 module _ (h : Header) (is : IsHeader h) (k : Known) (d : DriverKeeps h k) (id : ℕ) (low : id < 256) (absent : ring_with h id ≡ None) where

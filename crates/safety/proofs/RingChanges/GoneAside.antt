@@ -1,6 +1,5 @@
 -- A step leaves aside what is left of the rings that went: it does beside them what it does without them
-use Rattle.traces.specs.Versions.{has_runs}
-use Rattle.safety.proofs.Words.{has_isoch, arith, ◌≡◌, ◌≢◌, ◌+◌, ◌-◌, ◌%◌, ◌^◌, ◌==◌, ◌&&◌, ◌∙◌, ◌∷◌, ◌++◌, if◌then◌else◌, ℕ, Bool, true, false, not, List, [], Option, Some, None, is_some, length, drop, ap, refl, sym, inl, inr, eq-eqb, ne_eqb, nat_lt, cases_Bool, cases_eq, cond-true, cond-false, fun_ext, option_and_then, position, list_any, range_with_len, put, put_pair, Block, is_set, block_at, code, cycle, endpoint, kind, same_words, slot, word, counted_code, is_halting, is_stopping, is_success, is_trb_error, is_command_completion, is_link, is_other_event, is_transfer_event, Shape, address_of, cycle_of, is_in, place_count, declared_at, device_context, device_context_bytes, ContextSize, Command, EndpointState, Error, Halted, Stopped, command_of, is_running, Change, Places, Stops, changes, has_room, is_event_place, position_from, Header, Dcbaap, Step, NextRow, Look, Report, Finish, Other, Scribble, command_id, event_shape, event_size, ring_having, shape_of, register_or_zero, RingEvent, Placed, Took, UnderWay, World, next_take, Halt}
+use Rattle.safety.proofs.Words.{has_runs, pointer, may_have_data, has_isoch, arith, ◌≡◌, ◌≢◌, ◌+◌, ◌-◌, ◌%◌, ◌^◌, ◌==◌, ◌&&◌, ◌∙◌, ◌∷◌, ◌++◌, if◌then◌else◌, ℕ, Bool, true, false, not, List, [], Option, Some, None, is_some, length, drop, ap, refl, sym, inl, inr, eq-eqb, ne_eqb, nat_lt, cases_Bool, cases_eq, cond-true, cond-false, fun_ext, option_and_then, position, list_any, range_with_len, put, put_pair, Block, block_at, code, cycle, endpoint, kind, same_words, slot, counted_code, is_halting, is_stopping, is_success, is_trb_error, is_command_completion, is_link, is_other_event, is_transfer_event, Shape, address_of, cycle_of, is_in, place_count, declared_at, device_context, device_context_bytes, ContextSize, Command, EndpointState, Error, Halted, Stopped, command_of, is_running, Change, Places, Stops, changes, has_room, is_event_place, position_from, Header, Dcbaap, Step, NextRow, Look, Report, Finish, Other, Scribble, command_id, event_shape, event_size, ring_having, shape_of, register_or_zero, RingEvent, Placed, Took, UnderWay, World, next_take, Halt}
 use Rattle.std.specs.Prelude.{option_map}
 use Rattle.world_state.specs.World as world
 use Rattle.world_state.specs.Takes as takes
@@ -132,28 +131,22 @@ module _ (l : Left) where
       unfolding takes.unreported
       unreported_so w = λ j. drop (sym (laid_here l.gone l.reported w.reported r off) j) (takes.takes_of (sym (laid_here l.gone l.events w.events r off) j))
 
-      success_so : (w : World) (a : ℕ) → option_map (aside l) (posts.report_success h w r a) ≡ posts.report_success d (aside l w) r a
+      success_so : (w : World) (b : Block) → option_map (aside l) (posts.report_success h w r b) ≡ posts.report_success d (aside l w) r b
       unfolding posts.report_success
-      success_so w a =
+      success_so w b =
           let n = laid_here l.gone l.reported w.reported r off in
           mapped (λ m. posts.with_reported h w r (w.reported r + m + 1)) (λ m. posts.with_reported d (aside l w) r (laid l.gone l.reported w.reported r + m + 1))
-          (position (λ b. b == a) (takes.unreported w r)) (position (λ b. b == a) (takes.unreported (aside l w) r))
-          (ap (λ xs. position (λ b. b == a) xs) (unreported_so w)) (λ m. with_reported_so w (w.reported r + m + 1) ∙ ap (λ k. posts.with_reported d (aside l w) r (k + m + 1)) (sym n))
-
-      last_so : (a : ℕ) (xs : List ℕ) → posts.is_last h a xs ≡ posts.is_last d a xs
-      unfolding posts.is_last
-      last_so a [] = refl
-      last_so a (x ∷ []) = refl
-      last_so a (x ∷ y ∷ rest) = last_so a (y ∷ rest)
+          (position (takes.names b) (takes.unreported w r)) (position (takes.names b) (takes.unreported (aside l w) r))
+          (ap (λ xs. position (takes.names b) xs) (unreported_so w)) (λ m. with_reported_so w (w.reported r + m + 1) ∙ ap (λ k. posts.with_reported d (aside l w) r (k + m + 1)) (sym n))
 
       all_reported : (w : World) → w.reported r + length (takes.unreported w r) ≡ laid l.gone l.reported w.reported r + length (takes.unreported (aside l w) r)
       all_reported w = λ j. sym (laid_here l.gone l.reported w.reported r off) j + length (unreported_so w j)
 
-      error_so : (w : World) (s i a : ℕ) (state : EndpointState) → option_map (aside l) (posts.report_error h w s i r a state) ≡ posts.report_error d (aside l w) s i r a state
+      error_so : (w : World) (s i : ℕ) (b : Block) (state : EndpointState) → option_map (aside l) (posts.report_error h w s i r b state) ≡ posts.report_error d (aside l w) s i r b state
       unfolding posts.report_error
-      error_so w s i a state =
+      error_so w s i b state =
           chosen _ _ _ None _ None
-          (λ j. is_running (w.endpoint_state s i) && w.is_active r && (last_so a (takes.unreported w r) ∙ ap (λ xs. posts.is_last d a xs) (unreported_so w)) j)
+          (λ j. is_running (w.endpoint_state s i) && w.is_active r && takes.names_last b (unreported_so w j))
           (some _ _ (ap (λ (u : World). let v : World = record u { is_active = put w.is_active r false; endpoint_state = put_pair w.endpoint_state s i state } in v)
           (with_reported_so w (w.reported r + length (takes.unreported w r)) ∙ ap (λ n. posts.with_reported d (aside l w) r n) (all_reported w)))) refl
 
@@ -169,23 +162,23 @@ module _ (l : Left) where
       unfolding posts.stopped_with
       stopped_so w n = λ j. record (with_reported_so w n j) { is_active = put w.is_active r false; under_way = with_stopped_so w.under_way j }
 
-      stop_so : (w : World) (s i a : ℕ) → option_map (aside l) (posts.report_stop h w s i r a) ≡ posts.report_stop d (aside l w) s i r a
+      stop_so : (w : World) (s i : ℕ) (b : Block) → option_map (aside l) (posts.report_stop h w s i r b) ≡ posts.report_stop d (aside l w) s i r b
       unfolding posts.report_stop
-      stop_so w s i a =
+      stop_so w s i b =
           chosen _ _ None _ None _
           (λ j. not (under_way_so s i w.under_way j && is_running (w.endpoint_state s i) && w.is_active r)) refl
-          (chosen _ _ _ _ _ _ (last_so a (takes.unreported w r) ∙ ap (λ xs. posts.is_last d a xs) (unreported_so w))
+          (chosen _ _ _ _ _ _ (ap (λ xs. takes.names_last b xs) (unreported_so w))
           (some _ _ (stopped_so w (w.reported r + length (takes.unreported w r) - 1) ∙ ap (λ n. posts.stopped_with d (aside l w) r (n - 1)) (all_reported w)))
-          (chosen (a == w.pointer_of r) (a == w.pointer_of r) _ None _ None refl
+          (chosen (pointer b == w.pointer_of r) (pointer b == w.pointer_of r) _ None _ None refl
           (some _ _ (stopped_so w (w.reported r + length (takes.unreported w r)) ∙ ap (λ n. posts.stopped_with d (aside l w) r n) (all_reported w))) refl))
 
-      code_so : (w : World) (c s i a : ℕ) → option_map (aside l) (posts.report_code h w c s i r a) ≡ posts.report_code d (aside l w) c s i r a
+      code_so : (w : World) (c s i : ℕ) (b : Block) → option_map (aside l) (posts.report_code h w c s i r b) ≡ posts.report_code d (aside l w) c s i r b
       unfolding posts.report_code
-      code_so w c s i a =
-          chosen (is_success c) (is_success c) _ _ _ _ refl (success_so w a)
-          (chosen (is_halting c) (is_halting c) _ _ _ _ refl (error_so w s i a Halted)
-          (chosen (is_trb_error c) (is_trb_error c) _ _ _ _ refl (error_so w s i a Error)
-          (chosen (is_stopping c) (is_stopping c) _ None _ None refl (stop_so w s i a) refl)))
+      code_so w c s i b =
+          chosen (is_success c) (is_success c) _ _ _ _ refl (success_so w b)
+          (chosen (is_halting c) (is_halting c) _ _ _ _ refl (error_so w s i b Halted)
+          (chosen (is_trb_error c) (is_trb_error c) _ _ _ _ refl (error_so w s i b Error)
+          (chosen (is_stopping c) (is_stopping c) _ None _ None refl (stop_so w s i b) refl)))
 
     posted_so : (w : World) (b : Block) → aside l (posts.posted h w b) ≡ posts.posted d (aside l w) b
     unfolding posts.posted world.stored_block world.stored
@@ -207,7 +200,7 @@ module _ (l : Left) where
     reported_so : (w : World) (b : Block) → HasNone w → option_map (aside l) (posts.reported h w b) ≡ posts.reported d (aside l w) b
     unfolding posts.reported posts.reported_on
     reported_so w b had =
-        chosen _ _ _ None _ None (ap (λ t. t && is_transfer_event (kind b) && not (is_set (word b 3) 2)) (can_post_so w b))
+        chosen _ _ _ None _ None (λ j. can_post_so w b j && is_transfer_event (kind b) && may_have_data (sym version j) b)
         (grind (arith, posted_so, code_so, code_posted_so)) refl
 
     other_so : (w : World) (b : Block) → option_map (aside l) (posts.other_posted h w b) ≡ posts.other_posted d (aside l w) b

@@ -1,11 +1,5 @@
 -- A ring that goes: what a driver keeps it keeps still
-use Rattle.safety.proofs.LowerLaws.{◌≡◌, ◌≢◌, ◌<◌, ◌==◌, ◌∙◌, ℕ, not, Bool, true, false, List, Some, find, filter, get_or, length, nat_lt, arith, refl, sym, ap, subst, inl, inr, eq-eqb, ne_eqb, rules, put, new_ring, emptied, forgotten, is_bad_free, is_had, without_ring, list_all, and_from, is_shape, may_stand_together, Block, World, Agrees, Evt, Xfer, RingKind, same_Some, cases_eq, list_any, list_any_at, range_with_len, cond-true, cond-false, false≢true, false_from_ne_true, none-some, or_parts, is_inside, place_count, RingView, RingKeeps, Command, device_context_bytes, input_context_bytes, Header, Ring, IsHeader, is_command_kind, is_event_kind, is_transfer_kind, is_ring, ring_with, shape_of, shape_or, command_ring, command_id, event_ring, event_shape, event_size, ring_having, id_of, id_or_none, touches_ring, Known, entry_of, Binding, binds, ring_bound, binds_ring, is_being_bound, any_of, is_transfer_ring, IsDriverRing, IsTransferRing, IsUnfinished, DriverKeeps, touches, context_lies, transfer_ring, header_parts, transfer_not_command, having_transfer, in_range, unfinished_fails, ◌||◌, ◌&&◌, None, fun_ext, and_right, Crcr, is_in_use, goes_badly}
-use Rattle.ring_knowledge.specs.Histories.{gone as known_gone}
-use Rattle.traces.specs.Header.{event_id}
-use Rattle.traces.specs.Register.{same_register}
-use Rattle.safety.proofs.RingIds.{event_no_transfer}
-use Rattle.safety.proofs.RingChanges.OtherRings.{forgetting_agrees, OtherRings, IsAsBefore, BindsAsBefore, other_rings_keep}
-use Rattle.safety.proofs.RingChanges.ListedRings.{none_kept, all_kept, together_kept}
+use Rattle.safety.proofs.MiddleLaws.{◌≡◌, ◌≢◌, ◌<◌, ◌==◌, ◌∙◌, ℕ, not, Bool, true, false, List, Some, find, filter, get_or, length, nat_lt, arith, refl, sym, ap, subst, inl, inr, eq-eqb, ne_eqb, rules, put, new_ring, emptied, forgotten, is_bad_free, is_had, without_ring, list_all, and_from, is_shape, may_stand_together, Block, World, Agrees, Evt, Xfer, RingKind, same_Some, cases_eq, list_any, list_any_at, range_with_len, cond-true, cond-false, false≢true, false_from_ne_true, none-some, or_parts, is_inside, place_count, RingView, RingKeeps, Command, device_context_bytes, input_context_bytes, Header, Ring, IsHeader, is_command_kind, is_event_kind, is_transfer_kind, is_ring, ring_with, shape_of, shape_or, command_ring, command_id, event_ring, event_shape, event_size, ring_having, id_of, id_or_none, touches_ring, Known, entry_of, Binding, binds, ring_bound, binds_ring, is_being_bound, any_of, is_transfer_ring, IsDriverRing, IsTransferRing, IsUnfinished, DriverKeeps, touches, context_lies, transfer_ring, header_parts, transfer_not_command, having_transfer, in_range, unfinished_fails, ◌||◌, ◌&&◌, None, fun_ext, and_right, Crcr, is_in_use, goes_badly, known_gone, event_id, same_register, event_no_transfer, forgetting_agrees, OtherRings, IsAsBefore, BindsAsBefore, other_rings_keep, none_kept, all_kept, together_kept}
 pub use Rattle.safety.proofs.RingChanges.ListedRings.{find_kept, found_kept}
 use Rattle.safety.proofs.RingChanges.LeftOut as left
 

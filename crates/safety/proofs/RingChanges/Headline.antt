@@ -1,17 +1,11 @@
 -- The headline: behind each step of each run beside rows that break no rule the world is safe, also for rings that went.
 -- The run is that which the rings that live see, with what is left of the others put back
-use Rattle.safety.proofs.UpperLaws.{[], ◌≡◌, ◌∷◌, ◌&&◌, ◌∙◌, ℕ, Bool, true, false, List, Option, Some, None, refl, sym, ap, subst, inl, inr, cond-true, false≢true, false_from_ne_true, none-some, same_Some, All, All-head, All-tail, reverse, IsIn, Header, Ring, Step, Row, World, IsHeader, IsStep, IsSafe, shape_of, harm_of, harms, waits, has_changed_context, is_changed_since, is_context_changed, option_and_then, AreKept, IsRow, Headline, LiveScene, live_reached, live_step, and_left, ◌-◌, ◌==◌, find, nat_le, nat_lt, list_any, some_of, found_in, safe_from, Left, aside, laid_here, Lists, all_live, fails_there, none_gone, shape_same, place_count, Shape, Scene, scene_reached, step_made, Harm, TakenOutOfOrder, TakenOtherWords, WaitsInsideDescriptor, LooksOutside, PostsOverUnread, InputContextChanged, RingEvent, has_other_words, is_inside_descriptor, is_out_of_order, cases_Bool, cases_option, and_right, or_from, or_parts, ◌||◌, ◌<◌, not, Known, header_now, known_now, live_with, arith, zero, suc, rules, append-nil, opens}
+use Rattle.safety.proofs.UpperLaws.{[], ◌≡◌, ◌∷◌, ◌&&◌, ◌∙◌, ℕ, Bool, true, false, List, Option, Some, None, refl, sym, ap, subst, inl, inr, cond-true, false≢true, false_from_ne_true, none-some, same_Some, All, All-head, All-tail, reverse, IsIn, Header, Ring, Step, Row, World, IsHeader, IsStep, IsSafe, shape_of, harm_of, harms, waits, has_changed_context, is_changed_since, is_context_changed, option_and_then, AreKept, IsRow, Headline, LiveScene, live_reached, live_step, and_left, ◌-◌, ◌==◌, find, nat_le, nat_lt, list_any, some_of, found_in, safe_from, Left, aside, laid_here, Lists, all_live, fails_there, none_gone, shape_same, place_count, Shape, Scene, scene_reached, step_made, Harm, TakenOutOfOrder, TakenOtherWords, WaitsInsideDescriptor, LooksOutside, PostsOverUnread, InputContextChanged, RingEvent, has_other_words, is_inside_descriptor, is_out_of_order, cases_Bool, cases_option, and_right, or_from, or_parts, ◌||◌, ◌<◌, not, Known, header_now, known_now, live_with, arith, zero, suc, rules, append-nil, opens, event_ring, event_size, event_shape, lingering, none_lingers, events_are, Evt, shape_or, block_at, cycle, opening}
 use Rattle.std.proofs.Common.{option_map}
 use Rattle.safety.proofs.RingChanges.LiveHeadline.{CameTo, safe_there}
 use Rattle.traces.specs.Header.{some_ring}
-use Rattle.traces.specs.Header.{event_ring, event_size, event_shape}
 use Rattle.safety.proofs.RingChanges.AlikeSteps.{step_alike}
-use Rattle.safety.proofs.RingChanges.Lingering.{lingering, none_lingers}
-use Rattle.safety.proofs.RingChanges.LivingRings.{events_are}
 use Rattle.safety.proofs.RingChanges.RunFacts.{no_room}
-use Rattle.trb.specs.declared.ring_kind.RingKind.TheVariants.{Evt}
-use Rattle.traces.specs.Header.{shape_or}
-use Rattle.safety.proofs.Words.{block_at, cycle, opening}
 pub use Rattle.safety.proofs.RingChanges.Alike.{Alike, AreAlike, IsIdle, Lingers, whole}
 
 -- ---- harm that the rings that live don't show no ring shows

@@ -1,7 +1,5 @@
 -- The ring with an ID, and the rings that stand without it
-use Rattle.safety.proofs.Words.{◌≡◌, ◌≢◌, ◌==◌, ◌∙◌, ℕ, not, Bool, true, false, Some, None, find, filter, sym, ap, inl, inr, arith, eq-eqb, eqb-true, ne_eqb, cases_option, false≢true, not_from_false, not-true, from_filter, IsIn, Header, Ring, IsHeader, ring_with, clash, is_command_kind, is_event_kind, command_ring, event_ring, without_ring}
-use Rattle.safety.proofs.Headers.{found_in, header_parts, together}
-use Rattle.safety.proofs.RingIds.{other_ids}
+use Rattle.safety.proofs.LowerLaws.{◌≡◌, ◌≢◌, ◌==◌, ◌∙◌, ℕ, not, Bool, true, false, Some, None, find, filter, sym, ap, inl, inr, arith, eq-eqb, eqb-true, ne_eqb, cases_option, false≢true, not_from_false, not-true, from_filter, IsIn, Header, Ring, IsHeader, ring_with, clash, is_command_kind, is_event_kind, command_ring, event_ring, without_ring, found_in, header_parts, together, other_ids}
 use Rattle.safety.proofs.RingChanges.ListedRings.{find_kept}
 
 abbrev pub is_command : Ring → Bool

@@ -1,5 +1,5 @@
 -- Behind each step of each run, as the rings that live see it, beside rows that break no rule the world is safe for them
-use Rattle.safety.proofs.UpperLaws.{[], ◌≡◌, ◌∷◌, ◌++◌, ◌∙◌, false, List, Some, All, reverse, refl, sym, ap, subst, inl, inr, append_assoc, append-nil, rules, opening, Row, AreKept, IsKept, IsRow, LiveScene, header_after, header_now, known_after, known_now, live_row, live_next, live_reached, live_step, restored, ring_restored, false≢true, reverse-append, All-cons, All-head, All-tail, none-some, same_Some, Header, Step, NextRow, IsHeader, IsStep, World, IsSafe, Known, DriverKeeps, Runs, nothing_kept, mapped, some_then, opens, safe, clean_tests, RingRow, FreeRow, NopRow, kept_coming, kept_going, kept_withdrawing, Reg, Register, ℕ, cases_Bool, cond-true, cond-false, lenient, learned, with_ring, without_ring, forgotten, resting, register_facts, if◌then◌else◌, restored_on, MayCome, live_with}
+use Rattle.safety.proofs.UpperLaws.{[], ◌≡◌, ◌∷◌, ◌++◌, ◌∙◌, false, List, Some, All, reverse, refl, sym, ap, subst, inl, inr, append_assoc, append-nil, rules, opening, Row, AreKept, IsKept, IsRow, LiveScene, header_after, header_now, known_after, known_now, live_row, live_next, live_reached, live_step, restored, ring_restored, false≢true, reverse-append, All-cons, All-head, All-tail, none-some, same_Some, Header, Step, NextRow, IsHeader, IsStep, World, IsSafe, Known, DriverKeeps, Runs, nothing_kept, mapped, some_then, opens, safe, clean_tests, RingRow, FreeRow, NopRow, kept_coming, kept_going, kept_withdrawing, Reg, Register, ℕ, cases_Bool, cond-true, cond-false, lenient, learned, with_ring, without_ring, forgotten, resting, register_facts, if◌then◌else◌, restored_on, MayCome, live_with, no_reset, plain_done, reset, resets, gone, is_bad_register}
 use Rattle.std.proofs.Common.{option_map}
 use Rattle.safety.specs.Invariant.{Holds}
 use Rattle.safety.proofs.DriverHistories.{kept_driver, run_keeps}
@@ -7,12 +7,7 @@ use Rattle.safety.proofs.StepRuns.{row_holds, step_goes, runs_on}
 use Rattle.safety.proofs.RingChanges.Restored.{row_comes, row_keeps, row_runs as restored_row_runs, stopped_still}
 use Rattle.safety.proofs.RingChanges.Withdrawn.{withdraw_keeps, withdraw_runs}
 use Rattle.safety.proofs.RingChanges.ComingGoing.{coming_header, coming_keeps, coming_runs, going_header, going_keeps, going_runs}
-use Rattle.safety.proofs.Phases.{no_reset}
 use Rattle.safety.proofs.Resets.{reset_keeps, reset_runs}
-use Rattle.safety.proofs.PlainRows.{plain_done}
-use Rattle.ring_knowledge.specs.Resets.{reset, resets}
-use Rattle.ring_knowledge.specs.Histories.{gone}
-use Rattle.ownership_rules.specs.Registers.{is_bad_register}
 use Rattle.world_state.specs.DriverRows as driver
 use Rattle.world_state.specs.Steps as steps
 

@@ -1,6 +1,9 @@
 -- A ring that comes: what a driver keeps it keeps still
-use Rattle.safety.proofs.MiddleLaws.{[], ◌≡◌, ◌≢◌, ◌+◌, ◌-◌, ◌*◌, ◌%◌, ◌<◌, ◌==◌, ◌&&◌, ◌++◌, ◌∷◌, ◌∙◌, ℕ, Bool, true, false, List, Some, None, find, get_or, is_some, arith, refl, sym, ap, subst, inl, inr, eq-eqb, ne_eqb, add-zero, lt-ltb, nat_lt, rules, option_or, find-append, Segment, new_ring, link_address_is, crossed_link, crosses, link_aligned, crossing_due_is, new_ring_keeps, rings_overlap, IsComing, with_ring, is_bad_ring, is_bad_segment, list_all, and_from, and_right, clash, is_shape, may_stand_together, Block, World, FreeRing, state_of, Agrees, Data, Evt, Shape, list_any, list_any-append, cases_eq, cases_option, cond-true, cond-false, false≢true, none-some, or_parts, or_from, is_inside, place_count, address_of, cycle_of, link_address, RingKeeps, address_inside, link_address_inside, address_aligned, cycle_of-first, due_is, Xfer, device_context_bytes, input_context_bytes, Header, Ring, IsHeader, is_command_kind, is_event_kind, ring_with, shape_of, shape_or, command_ring, command_id, event_ring, event_shape, event_size, ring_having, id_of, id_or_none, touches_ring, Known, entry_of, Binding, binds, ring_bound, covers, open_ranges, overlap, IsIn, IsDriverRing, IsTransferRing, DriverKeeps, touches, context_lies, ring_untouched, context_free, device_free, entry_free, transfer_ring, command_named, header_parts, shape_is, having_transfer, free_new, other_worlds_agree, OtherRings, IsAsBefore, BindsAsBefore, other_rings_keep, block_shows, each_good, segment_some, touches_none, words_clean, all_more, none_found, overlaps_none, together_more, ◌||◌, is_bad_kind}
-use Rattle.safety.proofs.NamesRing.{command_with}
+use Rattle.safety.proofs.LowerLaws.{[], ◌≡◌, ◌≢◌, ◌+◌, ◌-◌, ◌*◌, ◌%◌, ◌<◌, ◌==◌, ◌&&◌, ◌++◌, ◌∷◌, ◌∙◌, ℕ, Bool, true, false, List, Some, None, find, get_or, is_some, arith, refl, sym, ap, subst, inl, inr, eq-eqb, ne_eqb, add-zero, lt-ltb, nat_lt, rules, option_or, find-append, Segment, new_ring, link_address_is, crossed_link, crosses, link_aligned, crossing_due_is, new_ring_keeps, rings_overlap, IsComing, with_ring, is_bad_ring, is_bad_segment, list_all, and_from, and_right, clash, is_shape, may_stand_together, Block, World, FreeRing, state_of, Agrees, Data, Evt, Shape, list_any, list_any-append, cases_eq, cases_option, cond-true, cond-false, false≢true, none-some, or_parts, or_from, is_inside, place_count, address_of, cycle_of, link_address, RingKeeps, address_inside, link_address_inside, address_aligned, cycle_of-first, due_is, Xfer, device_context_bytes, input_context_bytes, Header, Ring, IsHeader, is_command_kind, is_event_kind, ring_with, shape_of, shape_or, command_ring, command_id, event_ring, event_shape, event_size, ring_having, id_of, id_or_none, touches_ring, Known, entry_of, Binding, binds, ring_bound, covers, open_ranges, overlap, IsIn, IsDriverRing, IsTransferRing, DriverKeeps, touches, context_lies, ring_untouched, transfer_ring, command_named, header_parts, shape_is, having_transfer, ◌||◌, is_bad_kind, command_with}
+use Rattle.safety.proofs.AreaFacts.{context_free, device_free, entry_free}
+use Rattle.safety.proofs.RingChanges.OtherRings.{free_new, other_worlds_agree, OtherRings, IsAsBefore, BindsAsBefore, other_rings_keep}
+use Rattle.safety.proofs.RingChanges.Segments.{block_shows, each_good, segment_some, touches_none, words_clean}
+use Rattle.safety.proofs.RingChanges.ListedRings.{all_more, none_found, overlaps_none, together_more}
 
 -- ---- one ring more in a list
 

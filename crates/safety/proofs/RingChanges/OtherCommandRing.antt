@@ -1,13 +1,8 @@
 -- Another command ring, or none, in place of the one that was there, with nothing known of it yet: what a driver keeps it keeps still, and the
 -- world agrees with what is known still
-use Rattle.safety.specs.Keeps.{IsNobodys}
-use Rattle.traces.specs.Header.{no_id}
-use Rattle.traces.specs.Register.{same_register}
-use Rattle.safety.proofs.MiddleLaws.{slice_get_past}
+use Rattle.safety.proofs.LowerLaws.{IsNobodys, no_id, same_register, slice_get_past, [], ◌≡◌, ◌≢◌, ◌≤◌, ◌+◌, ◌%◌, ◌<◌, ◌∙◌, if◌then◌else◌, ℕ, not, true, false, List, All, All-nil, Option, Some, None, slice_get, length, refl, sym, ap, subst, inl, inr, arith, cases_Bool, cases_eq, false≢true, false_from_ne_true, and_parts, none-some, put, put_at, put_off, Block, block_at, RingView, RingState, Shape, ceiling, given_count, unwrap_or, new_ring, RingKeeps, is_inside, address_of, overlap, touches, AreInOrder, table_bytes, device_context_bytes, base_address, Register, Crcr, Erstba, Header, Ring, shape_of, command_id, event_shape, event_size, touches_ring, Known, entry_of, device_named, is_soiled, may_be_taken, is_stopping_now, is_done, is_used, is_value, IsDriverRing, IsTransferRing, DeviceKeeps, CommandRingKeeps, StatesKeep, RunKeeps, DriverKeeps, World, emptied, state_of, next_take, BoundRing, FreeRing, EndpointRing, Rests, Matches, Stands, EventsStand, Agrees, resting}
 use Rattle.world_state.specs.World.{event_at}
-use Rattle.safety.proofs.LowerLaws.{[], ◌≡◌, ◌≢◌, ◌≤◌, ◌+◌, ◌%◌, ◌<◌, ◌∙◌, if◌then◌else◌, ℕ, not, true, false, List, All, All-nil, Option, Some, None, slice_get, length, refl, sym, ap, subst, inl, inr, arith, cases_Bool, cases_eq, false≢true, false_from_ne_true, and_parts, none-some, put, put_at, put_off, Block, block_at, RingView, RingState, Shape, ceiling, given_count, unwrap_or, new_ring, RingKeeps, is_inside, address_of, overlap, touches, AreInOrder, table_bytes, device_context_bytes, base_address, Register, Crcr, Erstba, Header, Ring, shape_of, command_id, event_shape, event_size, touches_ring, Known, entry_of, device_named, is_soiled, may_be_taken, is_stopping_now, is_done, is_used, is_value, IsDriverRing, IsTransferRing, DeviceKeeps, CommandRingKeeps, StatesKeep, RunKeeps, DriverKeeps, World, emptied, state_of, next_take, BoundRing, FreeRing, EndpointRing, Rests, Matches, Stands, EventsStand, Agrees}
 use Rattle.safety.proofs.RingChanges.OtherRings.{free_new}
-use Rattle.safety.proofs.Words.{resting}
 
 none_there : (blocks : List Block) (p : ℕ) → blocks ≡ [] → slice_get blocks p ≡ None
 none_there blocks p none = slice_get_past blocks p (let empty : length blocks ≡ 0 = ap length none in omega (arith, empty))

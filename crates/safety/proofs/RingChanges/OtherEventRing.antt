@@ -1,10 +1,7 @@
 -- Another event ring, or none, in place of the one that was there, before the controller is started: what a driver keeps it keeps still, and the
 -- world agrees with what is known still
-use Rattle.safety.specs.Keeps.{IsNobodys}
-use Rattle.traces.specs.Header.{no_id}
-use Rattle.safety.proofs.LowerLaws.{[], Block, ◌≡◌, ◌≢◌, ◌+◌, ◌%◌, ◌<◌, ◌∙◌, ℕ, not, Bool, true, false, List, All, All-nil, Option, Some, None, slice_get, refl, sym, ap, subst, inl, inr, rules, arith, cases_eq, false≢true, or_parts, none-some, option_and_then, put, put_at, put_off, RingView, Spot, new_ring, RingKeeps, IsRestored, is_inside, address_of, Erstsz, Header, Ring, shape_of, command_id, Known, Command, command_at, next_command, floor_number, suc, zero, named_slot, named_endpoint, named_context, NoOp, EnableSlot, binds, binds_ring, ring_bound, is_placed, has_repeats, is_bad_move, adds_streams, has_bad_content, names_disabled_endpoint, Data, ◌⊎◌, is_some, names_disabled_slot, is_disabled, is_bad_command, has_bad_context, is_used, is_value, IsDriverRing, IsUnfinished, CommandKeeps, MovesIf, StaysIf, map, list_any, is_ring, CommandRingKeeps, StatesKeep, RunKeeps, DriverKeeps, was_stop_seen, World, UnderWay, emptied, state_of, next_take, RingMatches, FreeRing, EndpointRing, UnderWayMatches, IsUnchanged, Rests, Matches, Stands, EventsStand, touches_events, Agrees}
+use Rattle.safety.proofs.LowerLaws.{IsNobodys, no_id, [], Block, ◌≡◌, ◌≢◌, ◌+◌, ◌%◌, ◌<◌, ◌∙◌, ℕ, not, Bool, true, false, List, All, All-nil, Option, Some, None, slice_get, refl, sym, ap, subst, inl, inr, rules, arith, cases_eq, false≢true, or_parts, none-some, option_and_then, put, put_at, put_off, RingView, Spot, new_ring, RingKeeps, IsRestored, is_inside, address_of, Erstsz, Header, Ring, shape_of, command_id, Known, Command, command_at, next_command, floor_number, suc, zero, named_slot, named_endpoint, named_context, NoOp, EnableSlot, binds, binds_ring, ring_bound, is_placed, has_repeats, is_bad_move, adds_streams, has_bad_content, names_disabled_endpoint, Data, ◌⊎◌, is_some, names_disabled_slot, is_disabled, is_bad_command, has_bad_context, is_used, is_value, IsDriverRing, IsUnfinished, CommandKeeps, MovesIf, StaysIf, map, list_any, is_ring, CommandRingKeeps, StatesKeep, RunKeeps, DriverKeeps, was_stop_seen, World, UnderWay, emptied, state_of, next_take, RingMatches, FreeRing, EndpointRing, UnderWayMatches, IsUnchanged, Rests, Matches, Stands, EventsStand, touches_events, Agrees, resting}
 use Rattle.safety.proofs.RingChanges.OtherRings.{free_new, new_is_nobodys}
-use Rattle.safety.proofs.Words.{resting}
 
 -- commands that name no slot
 two_commands : (c : Command) → named_slot c ≡ None → (c ≡ NoOp) ⊎ (c ≡ EnableSlot)

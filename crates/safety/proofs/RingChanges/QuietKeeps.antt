@@ -1,15 +1,11 @@
 -- A descriptor that is withdrawn, or a ring that is restored: what a driver keeps stays, events stay possible, and the world still agrees
-use Rattle.safety.proofs.MiddleLaws.{◌≡◌, ◌≤◌, ℕ, true, arith, refl, sym, ap, rules, Withdraws, Restores, length-no_ops, split_border, number, Shape, RingView, RingChange, changed, declared, floor_number, ceiling, is_border, is_placement, move_more, GivesMore, [], ◌≢◌, ◌<◌, ◌∙◌, option_and_then, slice_get, subst, ltb-true, Block, command_of, Header, Read, IsHeader, shape_of, command_id, Known, on_ring, command_at, next_command, learned, may_be_taken, lenient, DriverKeeps, IsHeldMore, HeldMore, nat_lt, RingKeeps, IsRestored, is_stop_of, Command, device_named, entry_of, is_stopping_now, is_soiled, MovesRestored, IsDriverRing, IsUnfinished, DeviceKeeps, List, Option, length_from, no_ops, split_at, without_descriptor, put, address_of, named_context, World, IsUnchanged, Matches, Agrees, RingAlike, ceiling_more, held_same, Standing, PlacesStay, MovesAhead, RingGoesOn, SameGiven, transfer_driver, event_facts, ring_elsewhere, SameDriver, both_drivers, view_after, Alike, named_still, SameStates, RingsStay, same_stay, put_at, put_off, SameController, matches_go_on, same_controller, unfinished_view, is_used, is_value, not}
+use Rattle.safety.proofs.MiddleLaws.{KeepsValues, names_still, slot, endpoint, pointer, ◌≡◌, ◌≤◌, ℕ, true, arith, refl, sym, ap, rules, Withdraws, Restores, length-no_ops, split_border, number, Shape, RingView, RingChange, changed, declared, floor_number, ceiling, is_border, is_placement, move_more, GivesMore, [], ◌≢◌, ◌<◌, ◌∙◌, option_and_then, slice_get, subst, ltb-true, Block, command_of, Header, Read, IsHeader, shape_of, command_id, Known, on_ring, command_at, next_command, learned, may_be_taken, lenient, DriverKeeps, IsHeldMore, HeldMore, nat_lt, RingKeeps, IsRestored, is_stop_of, Command, device_named, entry_of, is_stopping_now, is_soiled, MovesRestored, IsDriverRing, IsUnfinished, DeviceKeeps, List, Option, length_from, no_ops, split_at, without_descriptor, put, address_of, named_context, World, IsUnchanged, Matches, Agrees, RingAlike, ceiling_more, held_same, Standing, PlacesStay, MovesAhead, RingGoesOn, SameGiven, transfer_driver, event_facts, ring_elsewhere, SameDriver, both_drivers, view_after, Alike, named_still, SameStates, RingsStay, same_stay, put_at, put_off, SameController, matches_go_on, same_controller, unfinished_view, is_used, is_value, not, IsNobodys, is_in, ◌&&◌, ◌||◌, false, and_right}
 use Rattle.safety.proofs.KeptRings.{next_unfinished, command_holds}
 use Rattle.safety.proofs.AlikeEvents.{EventAlike, ReadAlike, read_alike}
 use Rattle.safety.proofs.PlacedTargets.{placed_targets}
 use Rattle.safety.proofs.HeldFurther.{states_from, EverySlot, held_more, counted, read_same, flip_driver}
 use Rattle.world_state.specs.World as of_world
-use Rattle.safety.specs.Keeps.{IsNobodys}
-use Rattle.segments.specs.Places.{is_in}
 use Rattle.segments.specs.Descriptors as descriptors
-use Rattle.std.specs.Prelude.{◌&&◌, ◌||◌, false}
-use Rattle.std.proofs.lemmas.Bool.{and_right}
 
 -- A descriptor that is withdrawn, and a ring that is restored, change neither what is given of the ring nor where its pointer is
 
@@ -61,8 +57,8 @@ module _ (v w : RingView) (q : Quiet v w) where
     ceiling_down : ceiling shape w ≤ ceiling shape v
     ceiling_down = ceiling_more shape w v (search (rules, quiet_floor, held_same, quiet_held))
 
-    pub quiet_goes_on : RingGoesOn shape v w
-    quiet_goes_on = search (rules, quiet_floor, ceiling_more, quiet_alike, gives_more, quiet_held)
+    pub quiet_goes_on : KeepsValues shape v w → RingGoesOn shape v w
+    quiet_goes_on values = search (rules, quiet_floor, ceiling_more, quiet_alike, gives_more, quiet_held)
 
     pub quiet_standing : Standing shape v w
     quiet_standing = search (rules, quiet_floor, move_more, gives_more)
@@ -86,6 +82,12 @@ module _ (h : Header) (r : ℕ) (change : RingChange) (quiet : IsQuiet change) w
       view_after h (Quiet (k.ring q)) k r change q
       (λ same. subst (λ n. Quiet (k.ring n) (changed (shape_of h r) (k.ring r) change)) (sym same) (quiet_view (shape_of h r) (k.ring r) change quiet)) (λ other. quiet_same (k.ring q))
 
+  -- what an event may tell stays, so long as it does on the ring
+  pub keeps_values : (k : Known) → KeepsValues (shape_of h r) (k.ring r) (changed (shape_of h r) (k.ring r) change) → (q : ℕ) → KeepsValues (shape_of h q) (k.ring q) ((quieted k).ring q)
+  keeps_values k values q =
+      view_after h (λ x. KeepsValues (shape_of h q) (k.ring q) x) k r change q
+      (λ same. subst (λ n. KeepsValues (shape_of h n) (k.ring n) (changed (shape_of h r) (k.ring r) change)) (sym same) values) (λ other p from below. refl)
+
   alike : (k : Known) → Alike EverySlot k (quieted k)
   unfolding on_ring
   alike k = search (rules, quiet_alike, quiet_rings)
@@ -101,9 +103,9 @@ module _ (h : Header) (r : ℕ) (change : RingChange) (quiet : IsQuiet change) w
     pub command_same : (k : Known) → (quieted k).ring (command_id h) ≡ k.ring (command_id h)
     command_same k = ring_elsewhere h k r (command_id h) change (λ same. other (sym same))
 
-    events : IsHeader h → (k : Known) → DriverKeeps h k → k.started ≡ true → EventAlike h k (quieted k)
+    events : IsHeader h → (k : Known) → DriverKeeps h k → KeepsValues (shape_of h r) (k.ring r) (changed (shape_of h r) (k.ring r) change) → k.started ≡ true → EventAlike h k (quieted k)
     unfolding on_ring command_at
-    events is k d on =
+    events is k d values on =
         let l : Known = quieted k in
         record {
           started = refl;
@@ -111,9 +113,10 @@ module _ (h : Header) (r : ℕ) (change : RingChange) (quiet : IsQuiet change) w
           reads = refl;
           room = omega arith;
           config = refl;
-          names = λ s i q p t has at.
-              named_still (shape_of h q) (k.ring q) (l.ring q) (quiet_floor (k.ring q) (l.ring q) (quiet_rings k q)) (omega (arith, (quiet_rings k q).many)) p t
-              (d.rings q (transfer_driver h q (d.states.transfer s i q has))).is_spot at;
+          names = λ e q t has below.
+              names_still h k e q t l (quiet_floor (k.ring q) (l.ring q) (quiet_rings k q)) (omega (arith, (quiet_rings k q).many)) (λ tells p from up. keeps_values k values q p from (omega (arith, below tells)))
+              (named_still (shape_of h q) (k.ring q) (l.ring q) (quiet_floor (k.ring q) (l.ring q) (quiet_rings k q)) (omega (arith, (quiet_rings k q).many)) (pointer e) t
+              (d.rings q (transfer_driver h q (d.states.transfer (slot e) (endpoint e) q has))).is_spot);
           command = record {
             command = λ c may at. ap (λ (v : RingView). option_and_then command_of (slice_get v.queue (next_command h k))) (command_same k) ∙ at;
             does = λ n c may at. refl;
@@ -146,13 +149,13 @@ module _ (h : Header) (r : ℕ) (change : RingChange) (quiet : IsQuiet change) w
       pub event : lenient h (quieted k) (Read e) ≡ []
       pub after : HeldMore (quieted (learned h k (Read e))) (learned h (quieted k) (Read e))
 
-    pub quiet_square : IsHeader h → (k : Known) → DriverKeeps h k → (e : Block) → lenient h k (Read e) ≡ [] → QuietSquare k e
+    pub quiet_square : IsHeader h → (k : Known) → DriverKeeps h k → KeepsValues (shape_of h r) (k.ring r) (changed (shape_of h r) (k.ring r) change) → (e : Block) → lenient h k (Read e) ≡ [] → QuietSquare k e
     unfolding on_ring
-    quiet_square is k d e may =
+    quiet_square is k d values e may =
         let l : Known = quieted k in
         let k_read : Known = learned h k (Read e) in
         let l_read : Known = learned h l (Read e) in
-        let read : ReadAlike h EverySlot k l e = read_alike h EverySlot k l (alike k) (events is k d (event_facts h k e may).started) e may in
+        let read : ReadAlike h EverySlot k l e = read_alike h EverySlot k l (alike k) (events is k d values (event_facts h k e may).started) e may in
         let driver : SameDriver (quieted k_read) l_read =
         both_drivers (quieted k_read) (counted h l) l_read
         (subst (λ x. SameDriver (quieted k_read) x) (counted_quieted k) (drivers k_read (counted h k) (flip_driver (counted h k) k_read (read_same h k e)))) (read_same h l e) in
@@ -233,10 +236,10 @@ module _ (h : Header) (r : ℕ) (change : RingChange) (quiet : IsQuiet change) (
 
   -- where all events are read, what is known agrees with the world
   module _ (unread : List Block) (w v : World) (c : SameController w v) (g : Agrees h k unread w) where
-    pub quiet_matches : ((at : ℕ) (f : Option ℕ) → IsUnchanged h w at f → IsUnchanged h v at f) → Matches h l v
+    pub quiet_matches : KeepsValues (shape_of h r) (k.ring r) (changed (shape_of h r) (k.ring r) change) → ((at : ℕ) (f : Option ℕ) → IsUnchanged h w at f → IsUnchanged h v at f) → Matches h l v
     unfolding on_ring
-    quiet_matches unchanged =
-        matches_go_on h k l w v (search (rules, l, quiet_goes_on, quiet_rings)) c (λ u at. ap (λ (x : RingView). slice_get x.queue (next_command h k)) same)
+    quiet_matches values unchanged =
+        matches_go_on h k l w v (search (rules, l, quiet_goes_on, quiet_rings, keeps_values h r change quiet k values)) c (λ u at. ap (λ (x : RingView). slice_get x.queue (next_command h k)) same)
         (λ p f u. unchanged (address_of (shape_of h (command_id h)) p) (named_context f) (g.matches.contexts p f (before p f u))) g.matches
 
 -- nothing happens in the world where a ring is restored
@@ -245,12 +248,12 @@ unfolding on_ring
 restored_agrees h r other k unread w g = record {
   stands = (search (rules, view_after));
   events = g.events;
-  matches = quiet_matches h r Restores tt other k unread w w (same_controller w) g (λ at f as_it_was. as_it_was);
+  matches = quiet_matches h r Restores tt other k unread w w (same_controller w) g (λ p from below. refl) (λ at f as_it_was. as_it_was);
   read = g.read;
   stamps = g.stamps;
 }
 
-module _ (h : Header) (r p : ℕ) (other : r ≢ command_id h) (k : Known) (unread : List Block) (w : World) (g : Agrees h k unread w) where
+module _ (h : Header) (r p : ℕ) (other : r ≢ command_id h) (k : Known) (values : KeepsValues (shape_of h r) (k.ring r) (changed (shape_of h r) (k.ring r) (Withdraws p))) (unread : List Block) (w : World) (g : Agrees h k unread w) where
   abbrev v : World
   v = without_descriptor w r p
 
@@ -281,4 +284,4 @@ module _ (h : Header) (r p : ℕ) (other : r ≢ command_id h) (k : Known) (unre
 
   pub withdrawn_agrees : Agrees h (on_ring h k r (Withdraws p)) unread (without_descriptor w r p)
   unfolding on_ring without_descriptor of_world.event_at
-  withdrawn_agrees = search (rules, queues, lengths, quiet_matches, unchanged)
+  withdrawn_agrees = search (rules, queues, lengths, quiet_matches, unchanged, values)

@@ -1,14 +1,15 @@
 -- A ring that a row starts or moves is restored first: all of it stands as declared, and nothing of it is free any more
-use Rattle.safety.proofs.UpperLaws.{[], ◌≡◌, ◌∷◌, ◌∙◌, ℕ, ◌≢◌, false, List, refl, sym, ap, Block, RingChange, Header, Read, IsHeader, command_id, World, Known, on_ring, learned, lenient, DriverKeeps, HeldMore, Agrees, ArePossible, Runs, all_read, ◌||◌, not, Bool, Option, None, Some, option_and_then, slice_get, inl, inr, rules, is_not_restored, Restores, restores_keeps, is_left, restored, restored_on, ring_moved, ring_restored, some_flips, command_of, flat_map, or_parts, Ring, list_any, none-some, same_Some, block_at, IsRestored, address_of, cycle_of, positions_given, flips_passed, unrestored, is_declared_as, Command, Row, Write, Bell, shape_of, driver_rings, command_at, command_given, MayCome, MovesRestored, KeepsPassed, IsTransferRing, arith, more_law, read_on, behind_kept, event_behind, read_same, none_fewer, quiet_keeps, restored_agrees, held_more_same, held_more_twice, weaker, driver_test, ring_elsewhere, ring_here, ring_shape, transfer_driver, transfer_not_command, HasRing, has_ring, none_of_ring, QuietSquare, quiet_square, IsQuiet, unrestored_before}
+use Rattle.safety.proofs.UpperLaws.{KeepsValues, changed, [], ◌≡◌, ◌∷◌, ◌∙◌, ℕ, ◌≢◌, false, List, refl, sym, ap, Block, RingChange, Header, Read, IsHeader, command_id, World, Known, on_ring, learned, lenient, DriverKeeps, HeldMore, Agrees, ArePossible, Runs, all_read, ◌||◌, not, Bool, Option, None, Some, option_and_then, slice_get, inl, inr, rules, is_not_restored, Restores, restores_keeps, is_left, restored, restored_on, ring_moved, ring_restored, some_flips, command_of, flat_map, or_parts, Ring, list_any, none-some, same_Some, block_at, IsRestored, address_of, cycle_of, positions_given, flips_passed, unrestored, is_declared_as, Command, Row, Write, Bell, shape_of, driver_rings, command_at, command_given, MayCome, MovesRestored, KeepsPassed, IsTransferRing, arith, more_law, read_on, behind_kept, event_behind, read_same, none_fewer, quiet_keeps, restored_agrees, held_more_same, held_more_twice, weaker, driver_test, ring_elsewhere, ring_here, ring_shape, transfer_driver, transfer_not_command, HasRing, has_ring, none_of_ring, QuietSquare, quiet_square, IsQuiet, unrestored_before}
 use Rattle.safety.proofs.DriverHistories.{kept_driver}
 
 -- A descriptor that is withdrawn, or a ring that is restored, beneath all events that aren't read yet: the run goes on
 
--- Good is what the change rests on: it stays behind an event, and where it holds the change keeps what a driver keeps
+-- Good is what the change rests on: it stays behind an event, and where it holds the change keeps what a driver keeps, and what events may tell
 pub record IsGood (h : Header) (r : ℕ) (change : RingChange) (Good : Known → Type 0) : Type 0 where
   pub quiet : IsQuiet change
   pub other : r ≢ command_id h
   pub keeps : (k : Known) → DriverKeeps h k → Good k → DriverKeeps h (on_ring h k r change)
+  pub values : (k : Known) → Good k → KeepsValues (shape_of h r) (k.ring r) (changed (shape_of h r) (k.ring r) change)
   pub behind : (k : Known) (e : Block) → DriverKeeps h k → lenient h k (Read e) ≡ [] → Good k → Good (learned h k (Read e))
 
 module _ (h : Header) (is : IsHeader h) (r : ℕ) (change : RingChange) (Good : Known → Type 0) (g : IsGood h r change Good) where
@@ -29,7 +30,7 @@ module _ (h : Header) (is : IsHeader h) (r : ℕ) (change : RingChange) (Good : 
 
   one_on : (k m : Known) (e : Block) → lenient h k (Read e) ≡ [] → Beside k m → (lenient h m (Read e) ≡ []) × Beside (learned h k (Read e)) (learned h m (Read e))
   one_on k m e event b =
-      let s : QuietSquare h r change g.quiet g.other k e = quiet_square h r change g.quiet g.other is k b.keeps e event in
+      let s : QuietSquare h r change g.quiet g.other k e = quiet_square h r change g.quiet g.other is k b.keeps (g.values k b.good) e event in
       let both = more_law h (d k) m e (g.keeps k b.keeps b.good) b.keeps_beneath b.held s.event in (
         both.0,
         record {
@@ -50,7 +51,7 @@ module _ (h : Header) (is : IsHeader h) (r : ℕ) (change : RingChange) (Good : 
 
   -- the run goes on, where the change agrees with the world
   pub quiet_runs : (now : Known) (w v : World) → DriverKeeps h now → Good now → (run : Runs h now w) →
-      ((later : Known) → DriverKeeps h later → Agrees h later run.unread w → Agrees h (d later) run.unread v) → Runs h (d now) v
+      ((later : Known) → DriverKeeps h later → Good later → Agrees h later run.unread w → Agrees h (d later) run.unread v) → Runs h (d now) v
   quiet_runs now w v keeps good run agrees =
       let b = all_on run.unread now (d now) run.possible (record { keeps = keeps; keeps_beneath = g.keeps now keeps good; good = good; on = run.on; held = held_more_same (d now) }) in
       let later : Known = all_read h now run.unread in
@@ -59,7 +60,7 @@ module _ (h : Header) (is : IsHeader h) (r : ℕ) (change : RingChange) (Good : 
         possible = b.0;
         blocks = run.blocks;
         on = d_stopped now ∙ run.on;
-        agrees = weaker h (d later) (all_read h (d now) run.unread) b.1.held run.unread v (agrees later b.1.keeps run.agrees);
+        agrees = weaker h (d later) (all_read h (d now) run.unread) b.1.held run.unread v (agrees later b.1.keeps b.1.good run.agrees);
       }
 
 -- a list is the lists of its elements alone, one after the other
@@ -97,10 +98,10 @@ module _ (h : Header) (is : IsHeader h) (r : ℕ) (transfer : IsTransferRing h r
       ]
 
   good : IsGood h r Restores Stands
-  good = record { quiet = tt; other = other; keeps = restored_keeps; behind = behind }
+  good = record { quiet = tt; other = other; keeps = restored_keeps; values = λ k stands p from below. refl; behind = behind }
 
   pub restored_runs : (k : Known) (w : World) → DriverKeeps h k → Stands k → Runs h k w → Runs h (on_ring h k r Restores) w
-  restored_runs k w d stands run = quiet_runs h is r Restores Stands good k w w d stands run (λ later keeps agrees. restored_agrees h r other later run.unread w agrees)
+  restored_runs k w d stands run = quiet_runs h is r Restores Stands good k w w d stands run (λ later keeps good agrees. restored_agrees h r other later run.unread w agrees)
 
 pub stopped_still : (h : Header) (k : Known) (o : Option ℕ) → (restored_on h k o).stopped ≡ k.stopped
 unfolding restored_on on_ring

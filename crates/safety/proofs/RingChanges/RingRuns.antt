@@ -1,6 +1,5 @@
 -- Behind a ring that comes or goes the run goes on, whatever is unread
-use Rattle.trb.specs.declared.ring_kind.RingKind.TheVariants.{Xfer}
-use Rattle.safety.proofs.UpperLaws.{rules, [], ◌≡◌, ◌∷◌, ◌∙◌, ℕ, false, List, filter, None, option_and_then, slice_get, is_some, refl, sym, ap, subst, ◌||◌, ◌==◌, ◌*◌, eq-eqb, new_ring, IsComing, emptied, forgotten, is_bad_free, is_bad_ring, is_bad_segment, shows_first_lap, with_ring, without_ring, fun_ext, range_of_entry, entry_of, slots, cond-true, segment_ranges, table_range, entry_ranges, device_ranges, touches_ring, is_soiled, cases_option, false≢true, flat_map, list_any, or_parts, Block, RingView, due_positions, shape_of, command_of, Header, Read, Ring, IsHeader, ring_with, command_id, World, counted, Known, command_at, unfinished_positions, learned, lenient, open_ranges, context_ranges, range_of_command, covers, is_in_range_lease, DriverKeeps, Agrees, ArePossible, Runs, all_read, arith, read_on, gone_ring_agrees, new_ring_agrees, new_ring_kept, new_ring_header, agrees_once_counted, IsTransferRing, is_bad_kind, inl, inr}
+use Rattle.safety.proofs.UpperLaws.{Xfer, rules, [], ◌≡◌, ◌∷◌, ◌∙◌, ℕ, false, List, filter, None, option_and_then, slice_get, is_some, refl, sym, ap, subst, ◌||◌, ◌==◌, ◌*◌, eq-eqb, new_ring, IsComing, emptied, forgotten, is_bad_free, is_bad_ring, is_bad_segment, shows_first_lap, with_ring, without_ring, fun_ext, range_of_entry, entry_of, slots, cond-true, segment_ranges, table_range, entry_ranges, device_ranges, touches_ring, is_soiled, cases_option, false≢true, flat_map, list_any, or_parts, Block, RingView, due_positions, shape_of, command_of, Header, Read, Ring, IsHeader, ring_with, command_id, World, counted, Known, command_at, unfinished_positions, learned, lenient, open_ranges, context_ranges, range_of_command, covers, is_in_range_lease, DriverKeeps, Agrees, ArePossible, Runs, all_read, arith, read_on, gone_ring_agrees, new_ring_agrees, new_ring_kept, new_ring_header, agrees_once_counted, IsTransferRing, is_bad_kind, inl, inr}
 use Rattle.safety.proofs.DriverHistories.{kept_driver}
 use Rattle.safety.proofs.RingChanges.Forgotten.{forgotten_agrees, forgotten_keeps, forgotten_learned, forgotten_read}
 use Rattle.safety.proofs.RingChanges.Squares.{cleared, cleared_apart, cleared_here, learned_with, learned_without, read_with, read_without, still_comes, still_goes}

@@ -1,15 +1,7 @@
 -- A row of the driver makes of the model's world what it makes of the world of the rings that live
-use Rattle.safety.proofs.UpperLaws.{◌≡◌, ◌≢◌, ◌<◌, ◌==◌, ◌&&◌, ◌||◌, ◌∙◌, if◌then◌else◌, ℕ, not, Bool, true, false, List, Option, Some, None, is_none, nat_lt, put, refl, sym, ap, arith, inl, inr, cases_Bool, cases_option, false≢true, false_from_ne_true, same_Some, eqb-true, and_from, and_parts, fun_ext, some_of, list_any, IsIn, found_in, Block, Header, Ring, Sub, Write, Reg, Bell, Read, RegRead, Register, Usbcmd, Erdp, erdp_address, World, IsHeader, ring_with, event_shape, place_count, Known, DriverKeeps, Runs, is_asked, is_named, is_run, is_bad_erdp, Left, aside, Lists, bell_so, declared_so, dequeue_so, phase_so, read_so, ◌⊎◌, zero, suc}
-use Rattle.traces.specs.Register.{base_address, ring_cycle_state}
-use Rattle.traces.specs.Header.{command_ring, event_ring, shape_or, is_command_kind}
-use Rattle.trb.specs.declared.ring_kind.RingKind.TheVariants.{Evt}
+use Rattle.safety.proofs.UpperLaws.{◌≡◌, ◌≢◌, ◌<◌, ◌==◌, ◌&&◌, ◌||◌, ◌∙◌, if◌then◌else◌, ℕ, not, Bool, true, false, List, Option, Some, None, is_none, nat_lt, put, refl, sym, ap, arith, inl, inr, cases_Bool, cases_option, false≢true, false_from_ne_true, same_Some, eqb-true, and_from, and_parts, fun_ext, some_of, list_any, IsIn, found_in, Block, Header, Ring, Sub, Write, Reg, Bell, Read, RegRead, Register, Usbcmd, Erdp, erdp_address, World, IsHeader, ring_with, event_shape, place_count, Known, DriverKeeps, Runs, is_asked, is_named, is_run, is_bad_erdp, Left, aside, Lists, bell_so, declared_so, dequeue_so, phase_so, read_so, ◌⊎◌, zero, suc, base_address, ring_cycle_state, command_ring, event_ring, shape_or, is_command_kind, Evt, Crcr, Usbsts, any_of, is_reached_within, is_bad_command_register, is_early_resume, is_unwritten, names_no_place, is_command, only_one, declared_lingers, dequeue_lingers, lingering, none_lingers, phase_lingers, read_lingers, command_is, events_are}
 use Rattle.std.specs.Prelude.{option_map}
-use Rattle.safety.proofs.Words.{Crcr, Usbsts, any_of, is_reached_within}
-use Rattle.ownership_rules.specs.Registers.{is_bad_command_register, is_early_resume, is_unwritten, names_no_place}
 use Rattle.safety.proofs.RingChanges.Alike.{Lingers}
-use Rattle.safety.proofs.RingChanges.LeftOut.{is_command, only_one}
-use Rattle.safety.proofs.RingChanges.Lingering.{declared_lingers, dequeue_lingers, lingering, none_lingers, phase_lingers, read_lingers}
-use Rattle.safety.proofs.RingChanges.LivingRings.{command_is, events_are}
 use Rattle.safety.proofs.RingChanges.StepsAside.{none_still}
 use Rattle.safety.proofs.RingChanges.RunFacts as facts
 use Rattle.world_state.specs.World as world

@@ -1,6 +1,5 @@
 -- Behind a row no ring that went is looked at, and what lingers lingers still
-use Rattle.safety.proofs.Words.{Crcr, erdp_address, on_ring}
-use Rattle.safety.proofs.UpperLaws.{◌≡◌, ◌==◌, ◌&&◌, ◌∙◌, if◌then◌else◌, ℕ, not, Bool, true, false, Option, Some, None, refl, sym, ap, subst, arith, cond_both, false≢true, none-some, same_Some, and_parts, put_off, Block, kind, Header, Row, Sub, Write, Reg, Bell, Read, RegRead, Register, Usbcmd, IsHeader, World, Known, learned, restored, ring_restored, restored_on, command_id, DriverKeeps, Runs, Left, Lists, declaration_leaves, write_leaves, status_leaves, event_same, learned_read, known_after, Erdp}
+use Rattle.safety.proofs.UpperLaws.{Crcr, erdp_address, on_ring, ◌≡◌, ◌==◌, ◌&&◌, ◌∙◌, if◌then◌else◌, ℕ, not, Bool, true, false, Option, Some, None, refl, sym, ap, subst, arith, cond_both, false≢true, none-some, same_Some, and_parts, put_off, Block, kind, Header, Row, Sub, Write, Reg, Bell, Read, RegRead, Register, Usbcmd, IsHeader, World, Known, learned, restored, ring_restored, restored_on, command_id, DriverKeeps, Runs, Left, Lists, declaration_leaves, write_leaves, status_leaves, event_same, learned_read, known_after, Erdp}
 use Rattle.safety.proofs.RingChanges.Alike.{IsIdle}
 use Rattle.safety.proofs.RingChanges.RunFacts as facts
 use Rattle.world_state.specs.World as world

@@ -1,9 +1,6 @@
 -- What a run has of the rings that live: which are active, and that a controller that runs has its command ring and its event ring
-use Rattle.safety.proofs.UpperLaws.{◌≡◌, ◌<◌, ◌∙◌, ℕ, true, false, None, Some, Option, arith, sym, ap, subst, inl, inr, cases_Bool, cases_eq, cases_option, false≢true, none-some, Header, Ring, IsHeader, ring_with, command_id, event_shape, World, Known, DriverKeeps, Runs, all_read, is_done, is_named, is_value, command_is_ring, TakesAreRight, place_count, not-false}
-use Rattle.traces.specs.Header.{command_ring, event_ring, event_size, id_or_none, shape_or}
-use Rattle.trb.specs.declared.ring_kind.RingKind.TheVariants.{Evt}
+use Rattle.safety.proofs.UpperLaws.{◌≡◌, ◌<◌, ◌∙◌, ℕ, true, false, None, Some, Option, arith, sym, ap, subst, inl, inr, cases_Bool, cases_eq, cases_option, false≢true, none-some, Header, Ring, IsHeader, ring_with, command_id, event_shape, World, Known, DriverKeeps, Runs, all_read, is_done, is_named, is_value, command_is_ring, TakesAreRight, place_count, not-false, command_ring, event_ring, event_size, id_or_none, shape_or, Evt, none_has_256}
 use Rattle.safety.proofs.DriverHistories.{run_keeps}
-use Rattle.safety.proofs.RingIds.{none_has_256}
 
 pub no_room : (o : Option Ring) → o ≡ None → 0 < place_count (shape_or Evt o) → ⊥
 no_room o none some = grind (arith, place_count)

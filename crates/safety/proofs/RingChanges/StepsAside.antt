@@ -1,9 +1,6 @@
 -- A step of the controller makes of the model's world what it makes of the world of the rings that live
-use Rattle.safety.proofs.Words.{ContextSize, device_context, device_context_bytes, is_in}
-use Rattle.safety.proofs.UpperLaws.{◌≡◌, ◌≢◌, ◌&&◌, ◌∙◌, ℕ, not, Bool, true, false, Option, Some, None, refl, sym, ap, arith, inl, inr, cases_Bool, cond-true, cond-false, false≢true, false_from_ne_true, none-some, same_Some, Block, Header, Ring, Step, NextRow, Look, Report, Finish, Other, Scribble, Halt, World, IsHeader, ring_with, ring_having, shape_of, Known, DriverKeeps, Runs, having_transfer, transfer_ring, Left, aside, made_so, Lists, shape_same, if◌then◌else◌, or_from, fun_ext, register_or_zero, Dcbaap, list_any, range_with_len}
+use Rattle.safety.proofs.UpperLaws.{ContextSize, device_context, device_context_bytes, is_in, ◌≡◌, ◌≢◌, ◌&&◌, ◌∙◌, ℕ, not, Bool, true, false, Option, Some, None, refl, sym, ap, arith, inl, inr, cases_Bool, cond-true, cond-false, false≢true, false_from_ne_true, none-some, same_Some, Block, Header, Ring, Step, NextRow, Look, Report, Finish, Other, Scribble, Halt, World, IsHeader, ring_with, ring_having, shape_of, Known, DriverKeeps, Runs, having_transfer, transfer_ring, Left, aside, made_so, Lists, shape_same, if◌then◌else◌, or_from, fun_ext, register_or_zero, Dcbaap, list_any, range_with_len, lingering, none_lingers, command_is, events_are}
 use Rattle.std.specs.Prelude.{option_map}
-use Rattle.safety.proofs.RingChanges.Lingering.{lingering, none_lingers}
-use Rattle.safety.proofs.RingChanges.LivingRings.{command_is, events_are}
 use Rattle.safety.proofs.RingChanges.RunFacts as facts
 use Rattle.world_state.specs.World as world
 use Rattle.world_state.specs.Looks as looks

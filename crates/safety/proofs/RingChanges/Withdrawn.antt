@@ -1,9 +1,43 @@
 -- A descriptor that is withdrawn of a ring whose endpoint has stopped: what a driver keeps stays, and the row may be made behind any event
 -- that isn't read yet
-use Rattle.safety.proofs.UpperLaws.{[], ◌≡◌, ◌≢◌, ◌==◌, ◌&&◌, ◌||◌, ◌∙◌, ℕ, not, Bool, true, false, None, Some, refl, sym, ap, subst, inl, inr, eq-eqb, arith, rules, length_from, Withdraws, withdraws_keeps, has_stopped, is_bad_withdraw, rests_with, without_descriptor, cases_eq, list_any, range_with_len, or_parts, or_from, and_parts, and_from, not-false, not_from_true, not_from_false, not-true, false≢true, false_from_ne_true, Block, RingView, IsRestored, is_open, descriptor_length, Command, Running, Stopped, is_stopped, Header, Read, IsHeader, is_ring, shape_of, command_id, Known, on_ring, learned, is_touched, lenient, IsIn, some_of, any_of, MovesRestored, IsTransferRing, IsUnfinished, DriverKeeps, World, counted, Agrees, Runs, ring_is, ring_elsewhere, ring_shape, transfer_not_command, open_held, agrees_counted, set_touches, read_same, withdrawn_agrees, quiet_keeps}
+use Rattle.safety.proofs.UpperLaws.{ceiling_held, KeepsValues, Shape, may_tell_value, may_be_told, data_at, no_ops, List, zero, suc, ◌<◌, ◌≤◌, ◌+◌, Option, is_some, any_in_range, none_in_range, le-leb, lt-ltb, leb-true, ltb-true, nat_le, nat_lt, ceiling, floor_number, changed, cases_option, floors_grow, ◌∷◌, [], ◌≡◌, ◌≢◌, ◌==◌, ◌&&◌, ◌||◌, ◌∙◌, ℕ, not, Bool, true, false, None, Some, refl, sym, ap, subst, inl, inr, eq-eqb, arith, rules, length_from, Withdraws, withdraws_keeps, has_stopped, is_bad_withdraw, rests_with, without_descriptor, cases_eq, list_any, range_with_len, or_parts, or_from, and_parts, and_from, not-false, not_from_true, not_from_false, not-true, false≢true, false_from_ne_true, Block, RingView, IsRestored, is_open, descriptor_length, Command, Running, Stopped, is_stopped, Header, Read, IsHeader, is_ring, shape_of, command_id, Known, on_ring, learned, is_touched, lenient, IsIn, some_of, any_of, MovesRestored, IsTransferRing, IsUnfinished, DriverKeeps, World, counted, Agrees, Runs, ring_is, ring_elsewhere, ring_shape, transfer_not_command, open_held, agrees_counted, set_touches, read_same, withdrawn_agrees, quiet_keeps}
 use Rattle.safety.proofs.HeldBehind.{read_holds}
 use Rattle.safety.proofs.StillRings.{untouched_behind}
 use Rattle.safety.proofs.RingChanges.Restored.{IsGood, quiet_runs}
+use Rattle.segments.specs.Descriptors as descriptors
+
+-- ---- what an event may tell of the descriptor
+
+-- a No Op tells no value
+no_ops_tell : (xs : List Block) (p n q : ℕ) → (p ≤ q → q < p + n → data_at xs q ≡ None) → data_at (no_ops xs p n) q ≡ data_at xs q
+unfolding data_at descriptors.no_ops
+no_ops_tell [] p n q none = refl
+no_ops_tell (b ∷ rest) zero zero q none = refl
+no_ops_tell (b ∷ rest) zero (suc n) zero none = sym (none (omega arith) (omega arith))
+no_ops_tell (b ∷ rest) zero (suc n) (suc q) none = no_ops_tell rest zero n q (λ low high. none (omega arith) (omega arith))
+no_ops_tell (b ∷ rest) (suc p) n zero none = refl
+no_ops_tell (b ∷ rest) (suc p) n (suc q) none = no_ops_tell rest p n q (λ low high. none (omega arith) (omega arith))
+
+some_is : (o : Option ℕ) → is_some o ≡ false → o ≡ None
+some_is o none = grind (arith, false≢true)
+
+module _ (shape : Shape) (v : RingView) (p : ℕ) (none : may_tell_value shape v p ≡ false) where
+  -- none of its blocks that may be told holds a value
+  none_told : (q : ℕ) → p ≤ q → q < p + descriptor_length v p → floor_number v ≤ q → q < ceiling shape v → data_at v.queue q ≡ None
+  unfolding may_tell_value may_be_told
+  none_told q low high from below = some_is (data_at v.queue q) (search (rules, false_from_ne_true, false≢true, any_in_range, and_from, le-leb, lt-ltb))
+
+  withdraws_values : KeepsValues shape v (changed shape v (Withdraws p))
+  unfolding descriptor_length
+  withdraws_values q from below = no_ops_tell v.queue p (length_from v.lengths 0 p) q (λ low high. none_told q low high from below)
+
+  -- nor where the floor lies further on, and the ceiling no higher
+  none_told_later : (w : RingView) → w.queue ≡ v.queue → descriptor_length w p ≡ descriptor_length v p → floor_number v ≤ floor_number w → ceiling shape w ≤ ceiling shape v → may_tell_value shape w p ≡ false
+  unfolding may_tell_value may_be_told
+  none_told_later w queue long floor top =
+      none_in_range (may_be_told shape w) p (descriptor_length w p) (λ q low high. false_from_ne_true (may_be_told shape w q) (λ told.
+      let some = and_parts (nat_le (floor_number w) q && nat_lt q (ceiling shape w)) (is_some (data_at w.queue q)) told in
+      grind (arith, and_parts, leb-true, ltb-true, false≢true, none_told q)))
 
 running_is_not : Running ≡ Stopped → ⊥
 running_is_not same = false≢true (ap is_stopped same)
@@ -45,7 +79,7 @@ module _ (h : Header) (r p : ℕ) where
       (and_from (is_stopped (k.endpoint_state s.slot s.index)) (not (is_touched h k s.slot s.index)) s.stopped (not_from_false (is_touched h k s.slot s.index) s.untouched))))
 
   abbrev cut : RingView → Bool
-  cut v = descriptor_length v p == 0 || list_any v.withdrawn (range_with_len p (descriptor_length v p))
+  cut v = descriptor_length v p == 0 || (list_any v.withdrawn (range_with_len p (descriptor_length v p)) || may_tell_value (shape_of h r) v p)
 
   parts : (k : Known) → is_bad_withdraw h k r p ≡ false → HasStopped k × (cut (k.ring r) ≡ false)
   unfolding is_bad_withdraw
@@ -80,6 +114,10 @@ module _ (h : Header) (r p : ℕ) where
         closed : is_open (k.ring r) ≡ false
         closed = false_from_ne_true (is_open (k.ring r)) (λ opened. stopped_held (open_held (k.ring r) opened))
 
+        -- it is held where it was
+        ceiling_behind : ceiling (shape_of h r) ((learned h k (Read e)).ring r) ≤ ceiling (shape_of h r) (k.ring r)
+        ceiling_behind = search (rules, arith, cases_option (k.ring r).held, stopped_held, ceiling_held, (read_holds h is k d s.slot s.index r s.has closed s.untouched e may).held r s.has)
+
         pub stopped_behind : HasStopped (learned h k (Read e))
         stopped_behind =
             let holds = read_holds h is k d s.slot s.index r s.has closed s.untouched e may in
@@ -95,7 +133,11 @@ module _ (h : Header) (r p : ℕ) where
 
     behind : (k : Known) (e : Block) → DriverKeeps h k → lenient h k (Read e) ≡ [] → is_bad_withdraw h k r p ≡ false → is_bad_withdraw h (learned h k (Read e)) r p ≡ false
     unfolding is_bad_withdraw descriptor_length
-    behind k e d may good = search (rules, parts, read_same, or_from, not_from_true, with_stopped, stopped_behind, length_from, list_any, range_with_len)
+    behind k e d may good =
+        let s = parts k good in
+        let one = or_parts (descriptor_length (k.ring r) p == 0) _ s.1 in
+        let two = or_parts (list_any (k.ring r).withdrawn (range_with_len p (descriptor_length (k.ring r) p))) _ one.1 in
+        search (rules, read_same, or_from, not_from_true, with_stopped, stopped_behind, length_from, list_any, range_with_len, none_told_later, floors_grow h is k d e may r, ceiling_behind k d s.0 e may)
 
     -- where it may be withdrawn
     pub may_withdraw : (k : Known) → DriverKeeps h k → is_bad_withdraw h k r p ≡ false → r ≢ command_id h
@@ -104,8 +146,11 @@ module _ (h : Header) (r p : ℕ) where
     pub withdraw_keeps : (k : Known) → DriverKeeps h k → is_bad_withdraw h k r p ≡ false → DriverKeeps h (on_ring h k r (Withdraws p))
     withdraw_keeps k d good = withdrawn_keeps k d (parts k good).0
 
+    good_values : (k : Known) → is_bad_withdraw h k r p ≡ false → KeepsValues (shape_of h r) (k.ring r) (changed (shape_of h r) (k.ring r) (Withdraws p))
+    good_values k good = withdraws_values (shape_of h r) (k.ring r) p (or_parts (list_any (k.ring r).withdrawn (range_with_len p (descriptor_length (k.ring r) p))) _ (or_parts (descriptor_length (k.ring r) p == 0) _ (parts k good).1).1).1
+
     pub withdraw_good : r ≢ command_id h → IsGood h r (Withdraws p) (λ k. is_bad_withdraw h k r p ≡ false)
-    withdraw_good other = record { quiet = tt; other = other; keeps = withdraw_keeps; behind = behind }
+    withdraw_good other = record { quiet = tt; other = other; keeps = withdraw_keeps; values = good_values; behind = behind }
 
     -- the run goes on
     pub withdraw_runs : (k : Known) (w : World) → DriverKeeps h k → is_bad_withdraw h k r p ≡ false → Runs h k w → Runs h (on_ring h k r (Withdraws p)) (counted h (without_descriptor w r p))
@@ -113,6 +158,6 @@ module _ (h : Header) (r p : ℕ) where
     withdraw_runs k w d good run =
         let other : r ≢ command_id h = may_withdraw k d good in
         quiet_runs h is r (Withdraws p) (λ k. is_bad_withdraw h k r p ≡ false) (withdraw_good other) k w (counted h (without_descriptor w r p)) d good run
-        (λ later keeps agrees.
-        let there : Agrees h (on_ring h later r (Withdraws p)) run.unread (without_descriptor w r p) = withdrawn_agrees h r p other later run.unread w agrees in
+        (λ later keeps still agrees.
+        let there : Agrees h (on_ring h later r (Withdraws p)) run.unread (without_descriptor w r p) = withdrawn_agrees h r p other later (good_values later still) run.unread w agrees in
         agrees_counted h (on_ring h later r (Withdraws p)) run.unread (without_descriptor w r p) there.stands there.events there.matches there.read (λ a. let low = there.stamps a in omega (arith, low)))

@@ -1,4 +1,4 @@
-use Rattle.controller_model.proofs.Laws.{◌≡◌, ap, take, idle, arith, follows_along, take_past, idle_more, idle_none}
+use Rattle.controller_model.proofs.Laws.{take, idle, arith, follows_along, take_past, idle_more, idle_none}
 use Rattle.controller_model.proofs.command_rings.idle_all.Goals as goal
 
 pub loop-ring-init : goal.loop-ring-init

@@ -1,4 +1,4 @@
-use Rattle.controller_model.proofs.Words.{◌≡◌, ℕ, take, HeaderValue, World, Follows, idle}
+use Rattle.controller_model.proofs.Words.{ℕ, take, HeaderValue, World, Follows, idle}
 use Rattle.controller_model.proofs.command_rings.idle_all.Given as goal
 
 -- the command rings so far are inactive

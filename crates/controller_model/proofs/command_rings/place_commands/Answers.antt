@@ -1,4 +1,4 @@
-use Rattle.controller_model.proofs.Laws.{◌∙◌, sym, follows_along, idle, placed_is}
+use Rattle.controller_model.proofs.Laws.{follows_along, idle, placed_is}
 use Rattle.controller_model.proofs.command_rings.place_commands.Goals as goal
 
 pub returns : goal.returns

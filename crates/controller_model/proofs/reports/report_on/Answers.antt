@@ -26,5 +26,5 @@ returns-in-Some-2-clause-change c = λ words w f.
     let counts : code_posted h w c.args.block.now ≡ c.code_at-code.result =
     ap (λ b. counted_code (has_isoch h.version && b) (code c.args.block.now)) flag ∙ sym c.code_at-code.ensures in
     rw (ap (λ o. told h w c.args.block.now o) some ∙ cond-false _ _ _ (sym c.tells_of_service.ensures ∙ c.if-tells_of_service.false)
-    ∙ (λ k. report_code h w (counts k) (sym c.slot-slot.ensures k) (sym c.endpoint-index.ensures k) c.in-Some-2.ring (sym c.pointer.ensures k)))
+    ∙ (λ k. report_code h w (counts k) (sym c.slot-slot.ensures k) (sym c.endpoint-index.ensures k) c.in-Some-2.ring c.args.block.now))
     (c.report_code.ensures.change h words w f)

@@ -1,4 +1,4 @@
-use Rattle.controller_model.proofs.Words.{◌≡◌, ◌++◌, ◌∷◌, ◌∙◌, [], ap, Header, with_ring}
+use Rattle.controller_model.proofs.Words.{◌≡◌, ◌++◌, ◌∷◌, ◌∙◌, [], ap, with_ring}
 use Rattle.controller_model.proofs.ring_rows.add.Goals as goal
 
 pub returns : goal.returns

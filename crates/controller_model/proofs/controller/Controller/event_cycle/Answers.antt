@@ -1,4 +1,3 @@
-use Rattle.controller_model.proofs.Words.{sym}
 use Rattle.controller_model.proofs.controller.Controller.event_cycle.Goals as goal
 
 pub returns : goal.returns

@@ -9,5 +9,5 @@ returns-clause-harms c = λ events reported.
 
 pub returns-clause-keeps : goal.returns-clause-keeps
 returns-clause-keeps c = λ events reported before.
-    let k = c.in_ok-take_anywhere.ensures.keeps c.args.shape.now events reported c.args.block.now before in
+    let k = c.in_ok-take_anywhere.ensures.keeps c.args.shape.now events reported before in
     record { next = k.next; placed = k.placed; inside = k.inside; unreported = k.unreported; few = k.few }

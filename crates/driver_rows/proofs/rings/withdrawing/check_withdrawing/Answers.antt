@@ -1,4 +1,5 @@
 use Rattle.driver_rows.proofs.Laws.{◌≡◌, ◌∙◌, ap, arith, rules, get_or, length, refl, inl, inr, slice_get_read, slice_get_within, Ring, read_there, known_read, passed_so, withdrawn_so, if_both, if_ok, or_true, if_refused, may, may_not, may_now, withdrawing_kept, floor_low, is_bad_withdraw, withdraws_badly}
+use Rattle.driver_rows.proofs.RingRows.OneRing.{unfit_so}
 use Rattle.driver_rows.proofs.rings.withdrawing.check_withdrawing.Goals as goal
 
 pub returns-in_default-clause-refused : goal.returns-in_default-clause-refused
@@ -21,14 +22,14 @@ returns g c =
     record {
       ok = if_both c.withdraw_on.result
           (λ rule noted k f d fits on. record {
-            kept = withdrawing_kept h k on c.args.id c.args.position (may h k c.args.id c.args.position (c.in-Some.ensures.stopped k f d fits) (rule (k.ring c.args.id) (known k m f shape read) (low k m f shape read d)).1);
+            kept = withdrawing_kept h k on c.args.id c.args.position (may h k c.args.id c.args.position (c.in-Some.ensures.stopped k f d fits) (unfit_so h c.requires.headed c.args.id n there c.args.kept.now old at k m f shape read c.args.position (rule (k.ring c.args.id) (known k m f shape read) (low k m f shape read d)).1));
             followed = withdrawn_so h c.requires.headed c.args.id n there c.args.kept.now old at k m f shape read c.args.position c.withdraw_on.new.known (noted (k.ring c.args.id) (known k m f shape read) (low k m f shape read d));
           })
           c.withdraw_on.ensures.rule c.withdraw_on.ensures.ok;
       version = if_ok c.withdraw_on.result
           (λ rule k f d fits.
           let told = rule (k.ring c.args.id) (known k m f shape read) (low k m f shape read d) in
-          may_now h k c.args.id c.args.position (c.in-Some.ensures.stopped k f d fits) told.1 (passed_so h c.requires.headed c.args.id n there c.args.kept.now old at k m f shape read c.args.position told.0))
+          may_now h k c.args.id c.args.position (c.in-Some.ensures.stopped k f d fits) (unfit_so h c.requires.headed c.args.id n there c.args.kept.now old at k m f shape read c.args.position told.1) (passed_so h c.requires.headed c.args.id n there c.args.kept.now old at k m f shape read c.args.position told.0))
           c.withdraw_on.ensures.rule;
       from = if_ok c.withdraw_on.result (λ from k f d fits. from (k.ring c.args.id) (known k m f shape read) (low k m f shape read d)) c.withdraw_on.ensures.from;
       refused = if_refused c.withdraw_on.result
@@ -38,7 +39,7 @@ returns g c =
                 may_not h k c.args.id c.args.position (c.in-Some.ensures.stopped k f d fits)
                 (elim (says.1 (k.ring c.args.id) (known k m f shape read) (low k m f shape read d)) [
                   | inl is ↦ inl (passed_so h c.requires.headed c.args.id n there c.args.kept.now old at k m f shape read c.args.position is)
-                  | inr none ↦ inr none
+                  | inr bars ↦ inr (unfit_so h c.requires.headed c.args.id n there c.args.kept.now old at k m f shape read c.args.position bars)
                 ]),
           ))
           c.withdraw_on.ensures.refused;

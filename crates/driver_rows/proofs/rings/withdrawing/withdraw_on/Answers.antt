@@ -1,12 +1,17 @@
 use Rattle.driver_rows.proofs.Laws.{arith, ◌∙◌, sym, not-false, not-true, is_no_descriptor, not_passed}
+use Rattle.driver_rows.specs.RingRows.Withdrawing.{is_unfit}
 use Rattle.driver_rows.proofs.rings.withdrawing.withdraw_on.Goals as goal
 
 pub returns-then-not-may_withdraw-clause-refused : goal.returns-then-not-may_withdraw-clause-refused
-unfolding is_no_descriptor
+unfolding is_unfit is_no_descriptor
 returns-then-not-may_withdraw-clause-refused c = grind (arith, not-false, not_passed)
 
+pub returns-then-may_tell_value-clause-refused : goal.returns-then-may_tell_value-clause-refused
+unfolding is_unfit is_no_descriptor
+returns-then-may_tell_value-clause-refused c = grind (arith, not-false, not_passed)
+
 pub returns-clause-rule : goal.returns-clause-rule
-unfolding is_no_descriptor
+unfolding is_unfit is_no_descriptor
 returns-clause-rule c = grind (arith, not-true, not_passed)
 
 pub returns-clause-from : goal.returns-clause-from

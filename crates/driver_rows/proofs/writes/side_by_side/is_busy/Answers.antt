@@ -1,5 +1,4 @@
-use Rattle.driver_rows.proofs.Words.{◌≡◌, ◌&&◌, ◌∙◌, ◌<◌, ◌≤◌, ◌+◌, ℕ, List, All, false, Some, sym, subst, cases_lt, arith, inl, inr, list_any, named_slot, Command, is_about, FollowsUnfinished, FitsMemory}
-use Rattle.driver_rows.specs.ContextRules.Contents.{NamesLow}
+use Rattle.driver_rows.proofs.Words.{◌≡◌, ◌&&◌, ◌∙◌, false, Some, sym, subst, cases_lt, arith, inl, inr, list_any, named_slot, is_about}
 use Rattle.driver_rows.proofs.MemoryWrites.BesideOthers.{excluded_shares, none_excluded, none_of_slot, none_shares, one_slot_is, some_excluded}
 use Rattle.commands.specs.SideBySide.{exclude}
 use Rattle.driver_rows.proofs.writes.side_by_side.is_busy.Goals as goal

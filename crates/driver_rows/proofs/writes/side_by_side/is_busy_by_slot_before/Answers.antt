@@ -1,4 +1,4 @@
-use Rattle.driver_rows.proofs.Words.{◌∙◌, ◌&&◌, not, Bool, true, false, ◌≡◌, refl, sym, unfinished}
+use Rattle.driver_rows.proofs.Words.{◌∙◌, ◌&&◌, Bool, true, false, ◌≡◌, refl, sym, unfinished}
 use Rattle.ownership_rules.specs.Commands.{is_busy_by_slot}
 use Rattle.driver_rows.proofs.writes.side_by_side.is_busy_by_slot_before.Goals as goal
 

@@ -1,4 +1,4 @@
-use Rattle.driver_rows.proofs.Words.{◌∙◌, Some, None, subst}
+use Rattle.driver_rows.proofs.Words.{◌∙◌, Some, subst}
 use Rattle.commands.specs.SideBySide.{exclude}
 use Rattle.driver_rows.proofs.DoorbellRows.Touching.{IsThat, named_fits, that_is}
 use Rattle.driver_rows.proofs.MemoryWrites.BesideOthers.{excludes_there, low_there, none_there}

@@ -1,4 +1,4 @@
-use Rattle.driver_rows.proofs.Words.{◌∙◌, ◌&&◌, not, Bool, true, false, ◌≡◌, refl, sym, unfinished}
+use Rattle.driver_rows.proofs.Words.{◌∙◌, ◌&&◌, Bool, true, false, ◌≡◌, refl, sym, unfinished}
 use Rattle.ownership_rules.specs.Commands.{shares_slot}
 use Rattle.driver_rows.proofs.writes.side_by_side.shares_slot_before.Goals as goal
 

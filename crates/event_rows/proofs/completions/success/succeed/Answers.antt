@@ -1,4 +1,4 @@
-use Rattle.event_rows.proofs.Laws.{◌≡◌, ◌∙◌, true, false, ap, subst, sym, refl, ConfigureEndpoint, Places, added_endpoints, addressed, changed_by_all, changes, configured, disabled, in_state, HasRoom, changed_by, MayPoint, Placing, FollowsPlaces, devices_only, success_by}
+use Rattle.event_rows.proofs.Laws.{◌∙◌, ap, subst, sym, refl, ConfigureEndpoint, Places, added_endpoints, addressed, changed_by_all, changes, configured, disabled, in_state, HasRoom, changed_by, MayPoint, Placing, FollowsPlaces, devices_only, success_by}
 use Rattle.event_rows.proofs.completions.success.succeed.Goals as goal
 
 pub returns-in-NoOp-clause-followed : goal.returns-in-NoOp-clause-followed

@@ -1,4 +1,4 @@
-use Rattle.leases.proofs.Laws.{◌∙◌, ◌==◌, ℕ, get_or, refl, sym, ap, arith, eqb-true, endpoint, code_told, named, come_to, some_end, ring_here, shape_there, among_at, held_still, record_there, comes, driver_kind, keeps, other_lent, ring_keeps, ring_of_header, transfer_ends, unbound_lent, unnamed_lent}
+use Rattle.leases.proofs.Laws.{◌∙◌, ◌==◌, ℕ, get_or, refl, sym, ap, arith, eqb-true, endpoint, code_told, come_to, some_end, ring_here, shape_there, among_at, held_still, record_there, comes, driver_kind, keeps, other_lent, ring_keeps, ring_of_header, transfer_ends, unbound_lent, unnamed_lent}
 use Rattle.leases.proofs.rows.events.note_transfer.Goals as goal
 
 pub returns-then-not-is_transfer : goal.returns-then-not-is_transfer
@@ -22,8 +22,8 @@ returns-in_default-ring_named g c = λ list k ts memory ranges other next all.
     let of = ap (λ (s : ℕ). k.ring_of s (endpoint b)) (sym c.slot.ensures) ∙ ap (λ (i : ℕ). k.ring_of c.slot.result i) (sym c.endpoint.ensures) ∙ sym (c.ring_of.ensures k next.followed.devices) ∙ c.in-Some.is in
     absurd (ring_of_header h k d _ _ c.in-Some.id of (sym (c.ring_named.ensures h.rings c.requires.found) ∙ c.in_default-ring_named.is))
 
-pub returns-in_default-named : goal.returns-in_default-named
-returns-in_default-named g c = λ list k ts memory ranges other next all.
+pub returns-in_default-named_by : goal.returns-in_default-named_by
+returns-in_default-named_by g c = λ list k ts memory ranges other next all.
     let h = c.args.header.now in
     let d = keeps h c.requires.headed k ts c.args.event c.args.number c.args.t.now memory next in
     let b = c.args.event in
@@ -37,9 +37,9 @@ returns-in_default-named g c = λ list k ts memory ranges other next all.
     let there = record_there _ _ _ _ c.as_slice-records.ensures.value c.in-Some-get-2.ensures.lookup.0 c.in-Some-get-2.ensures.lookup.1 in
     let follows = next.followed.rings.each c.in-Some-ring_named.place q r here.0 there (driver_kind h c.requires.headed k ts b c.args.number c.args.t.now memory next transfers c.in-Some.id of q among id) in
     let ring = ring_keeps h c.requires.headed k ts b c.args.number c.args.t.now memory next transfers c.in-Some.id of q among id in
-    let named_is = sym (c.named.ensures.value (k.ring q.id) follows ring.is_spot) in
+    let named_is = sym (c.named_by.ensures.value (k.ring q.id) follows ring.is_spot) in
     held_still h c.requires.headed k ts c.args.book.now ranges _ c.args.number
-    (unnamed_lent h c.requires.headed k ts c.args.event c.args.number c.args.t.now memory next transfers c.in-Some.id of q among id (ap (λ (a : ℕ). named q.shape (k.ring q.id) a) (sym c.pointer.ensures) ∙ named_is ∙ c.in_default-named.is)) all
+    (unnamed_lent h c.requires.headed k ts c.args.event c.args.number c.args.t.now memory next transfers c.in-Some.id of q among id (named_is ∙ c.in_default-named_by.is)) all
 
 pub returns : goal.returns
 returns g c = λ list k ts memory ranges other next all.
@@ -56,9 +56,9 @@ returns g c = λ list k ts memory ranges other next all.
     let there = record_there _ _ _ _ c.as_slice-records.ensures.value c.in-Some-get-2.ensures.lookup.0 c.in-Some-get-2.ensures.lookup.1 in
     let follows = next.followed.rings.each c.in-Some-ring_named.place q r here.0 there (driver_kind h c.requires.headed k ts b c.args.number c.args.t.now memory next transfers c.in-Some.id of q among id) in
     let ring = ring_keeps h c.requires.headed k ts b c.args.number c.args.t.now memory next transfers c.in-Some.id of q among id in
-    let named_is = sym (c.named.ensures.value (k.ring q.id) follows ring.is_spot) in
-    let spot = c.in-Some-named.spot in
-    let is = ap (λ (a : ℕ). named q.shape (k.ring q.id) a) (sym c.pointer.ensures) ∙ named_is ∙ c.in-Some-named.is in
+    let named_is = sym (c.named_by.ensures.value (k.ring q.id) follows ring.is_spot) in
+    let spot = c.in-Some-named_by.spot in
+    let is = named_is ∙ c.in-Some-named_by.is in
     let floor = c.floor_number-floor.ensures.value q.shape (k.ring q.id) follows in
     let reached = c.come_to-reached.ensures ∙ ap (λ (x : ℕ). come_to x spot c.floor_number-floor.result) (c.code_told.ensures k next.followed.devices) ∙ ap (λ (n : ℕ). come_to (code_told h k b) spot n) floor in
     let rises = comes h c.requires.headed k ts c.args.event c.args.number c.args.t.now memory next transfers c.in-Some.id of q among id spot is in
