@@ -1,6 +1,6 @@
 ghost use Rattle.std.specs.Prelude.{◌≡◌, ◌≤◌, ℕ, Bool, [], ◌∷◌, ◌++◌, true, false, List, Option, Some, None, Ok, Err, IfOk, IfSome, OnOk, length, nat_lt, reverse, ◌≢◌};
 ghost use Rattle.std.specs.Result.{result_err};
-ghost use Rattle.traces.specs.AllowedHeaders.{IsHeader};
+ghost use Rattle.traces.specs.AllowedHeaders.{AreUnmoved, IsHeader};
 ghost use Rattle.traces.specs.Limits.{most_streamed_lines};
 ghost use Rattle.traces.specs.Rows.{IsRow};
 ghost use Rattle.traces.specs.TraceRows.{IsTraceRow};
@@ -138,6 +138,7 @@ impl<M: WordMemory + Drop> Bench<M> {
     /// Before the first row, with two memories in which no word was written: the controller's, and what is known of it to the judge.
     pub fn new(alloc: Global, header: &Header, memory: M, known: M) -> Result<Bench<M>, AllocError>
         requires headed { IsHeader header.now }
+        requires unmoved { AreUnmoved header.now.rings }
         requires zero { (a : ℕ) → M.words memory a ≡ 0 }
         requires unknown { (a : ℕ) → M.words known a ≡ 0 }
         ensures bench { IfOk result (IsBench M.words header.now [] [] [] (scene_before header.now [])) }

@@ -4,5 +4,5 @@ pub use Rattle.controller_model.proofs.MiddleLaws.{KeepsRest, activated_other, a
 pub use Rattle.controller_model.proofs.RingHarmLemmas.{harms_looked, look_came, look_is, second_false}
 pub use Rattle.controller_model.proofs.SuccessLemmas.{can_be_addressed, none_of_test, one_some, some_of, success_changes}
 pub use Rattle.controller_model.proofs.TrialLemmas.{had_by_trial, own_here, own_none, own_some, own_there, sees_placed}
-pub use Rattle.controller_model.proofs.Words.{Bool, BringsNone, Endpoint, Evt, Follows, FollowsRing, FollowsScene, FollowsSlots, Header, HeaderValue, IsFollowed, IsLeft, IsSome, List, Look, None, Ok, Option, Posted, Ring, RingState, RowSeen, Running, Sees, SlotState, Some, Xfer, [], address_of, addressed, adds_end, adds_next, ap, arith, as_declared, block_at, bound, cases_eq, cases_lt, changed_at, command_of, command_well, common_steps, completed, cond-false, cond-true, context_cycle, context_pointer, drop, endpoint, entries, eq-eqb, eqb-true, err_from_is_err_and, false, false_from_ne_true, false≢true, filter, first_at-found, first_at-nowhere, freed, get_or, has_flag, has_isochronous, held, idle, if◌then◌else◌, inl, input_add_flag, inr, is_command_kind, is_dropped, is_event_place, is_it, is_ring, is_some, is_transfer_kind, length, length-remove, length-set, link_target-crossed, list_any, may_be_inside, named_by, nat_le, nat_lt, ne_eqb, none-some, not, option_copied, option_map, place_count, places_from, position_from, position_is, put, refl, remove, ring_held, ring_with, row_made, same_Some, set, shape_or, slice_get, slice_get_within, slice_index, slot, slot_success, step_made, subst, sym, take, take_all, told, true, unwrap_or, with_coming, with_left, with_world, written_at, ℕ, ◌%◌, ◌&&◌, ◌*◌, ◌++◌, ◌+◌, ◌-◌, ◌<◌, ◌==◌, ◌||◌, ◌∙◌, ◌∷◌, ◌≡◌, ◌≢◌, ◌≤◌}
+pub use Rattle.controller_model.proofs.Words.{Bool, BringsNone, Endpoint, Evt, Follows, FollowsRing, FollowsScene, FollowsSlots, Header, HeaderValue, IsFollowed, IsLeft, IsSome, List, Look, None, Ok, Option, Posted, Ring, RingState, RowSeen, Running, Sees, SlotState, Some, Xfer, [], address_of, addressed, adds_end, adds_next, ap, arith, as_declared, block_at, bound, cases_eq, cases_lt, changed_at, command_of, command_well, common_steps, completed, cond-false, cond-true, context_cycle, context_pointer, drop, endpoint, entries, eq-eqb, eqb-true, err_from_is_err_and, false, false_from_ne_true, false≢true, filter, first_at-found, first_at-nowhere, freed, get_or, has_flag, has_isochronous, held, idle, if◌then◌else◌, inl, input_add_flag, inr, is_command_kind, is_dropped, is_event_place, is_it, is_ring, is_some, is_transfer_kind, length, length-remove, length-set, link_target-crossed, list_any, may_be_inside, named_by, nat_le, nat_lt, ne_eqb, none-some, not, option_copied, option_map, places_from, position_from, position_is, put, refl, remove, ring_held, ring_with, row_made, same_Some, set, shape_or, slice_get, slice_get_within, slice_index, slot, slot_success, step_made, subst, sym, take, take_all, told, true, unwrap_or, with_coming, with_left, with_world, written_at, ℕ, ◌&&◌, ◌*◌, ◌++◌, ◌+◌, ◌-◌, ◌<◌, ◌==◌, ◌||◌, ◌∙◌, ◌∷◌, ◌≡◌, ◌≢◌, ◌≤◌}
 unfoldable pub use Rattle.controller_model.proofs.Words.{activated, added_endpoints, bell_row, changed_by, changed_by_all, changes, command_begun, counted, crossed, declared, disabled, ended, event_read, event_shape, finished, finished_as, halts, has_other_words, in_state, is_inside_descriptor, is_out_of_order, listed, look_shows, looked, looked_at, made, may_come, may_scribble, noting_post, opening, other_posted, placed, placed_on, posted, reported, reset, resting, ring_having, row_done, runs_again, runs_once, scribbled, seen_by_look, shape_of, shows, some_ring, stepped, stored, stored_block, succeeded, taken_on, typed, unreported, valued, waits, with_dequeue, with_reported, with_ring, without_descriptor, without_ring}

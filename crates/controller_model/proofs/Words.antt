@@ -40,22 +40,22 @@ pub use Rattle.controller_model.specs.declared.safety.RingHarms.{RingHarms}
 pub use Rattle.controller_model.specs.declared.seen.Seen.{Seen}
 pub use Rattle.controller_model.specs.declared.seen.Seen.TheVariants.{Posted, Row as RowSeen}
 pub use Rattle.controller_model.specs.declared.stamps.Stamps.{Stamps}
-pub use Rattle.event_ring.proofs.Words.{Data, Link, address_aligned, has_room, or_from, place_at-address_of, position_from, same_in_lap}
+pub use Rattle.event_ring.proofs.Words.{Data, Link, address_aligned, has_room, or_from, place_at-address_of, position_from}
 pub use Rattle.event_ring.specs.EventRing.{is_event_place}
 pub use Rattle.guest_memory.specs.Memory.{put_pair}
 pub use Rattle.segments.proofs.Crossings.{link_target-crossed}
 pub use Rattle.segments.proofs.InsideLemmas.{is_inside-word}
 pub use Rattle.segments.proofs.PlaceAtLemmas.{place_at-link_address}
+pub use Rattle.segments.proofs.Positions.{same_in_lap_of}
 pub use Rattle.segments.proofs.Search.{cases_option}
 pub use Rattle.segments.proofs.Withdrawing.{length-no_ops, split_all}
-pub use Rattle.segments.proofs.Words.{All-push, Block, Evt, IsShape, Shape, Xfer, address_of, aligned, and_from, and_parts, block_at, cases_Bool, cases_eq, cases_lt, cond-false, cond-true, cycle, cycle_of, false_from_ne_true, false≢true, is_inside, is_set, link_address, link_crossed, list_any, none-some, or_cases, or_left, or_right, place_at, place_count, pointer, position_or_len, put, range_with_len, same_Some, slice_get-get_or, slice_get_within, word}
+pub use Rattle.segments.proofs.Words.{All-push, Block, Evt, IsShape, Shape, Xfer, address_of, aligned, and_from, and_parts, block_at, cases_Bool, cases_eq, cases_lt, cond-false, cond-true, cycle, cycle_of, false_from_ne_true, false≢true, is_inside, is_set, link_address, link_crossed, list_any, none-some, or_cases, or_left, or_right, place_at, place_count, place_of, pointer, position_or_len, put, range_with_len, same_Some, slice_get-get_or, slice_get_within, word}
 unfoldable pub use Rattle.segments.proofs.Words.{is_border}
 pub use Rattle.segments.specs.Descriptors.{DeclaredBlock, no_op}
 unfoldable pub use Rattle.segments.specs.Descriptors.{declared_at, length_from, no_ops, split_at}
 pub use Rattle.std.proofs.Common.{All, Bool, Err, IsSome, List, None, Ok, Option, Result, Some, [], add-zero, ap, append_assoc, arith, drop, drop-drop, eq-eqb, eqb-true, false, filter, find, get_or, if◌then◌else◌, inl, inr, is_some, le-leb, le-ltb, length, length-append, length-take-le, lt-ltb, ltb-false, nat_le, nat_lt, ne_eqb, not, option_and_then, option_map, position, refl, rules, set, slice_get, slice_index, slice_index_or, subst, suc, sym, take, true, unwrap_or, zero, ℕ, ◌%◌, ◌&&◌, ◌*◌, ◌++◌, ◌+◌, ◌-◌, ◌/◌, ◌<◌, ◌==◌, ◌^◌, ◌||◌, ◌↔◌, ◌∙◌, ◌∷◌, ◌≡◌, ◌≢◌, ◌≤◌, ◌⊎◌}
 pub use Rattle.std.proofs.Math.Bool.{or-true, or_assoc}
 pub use Rattle.std.proofs.Math.ListN.{length-set}
-pub use Rattle.std.proofs.Math.Nat.{add-mod_right, div-add-mod'}
 pub use Rattle.std.proofs.Math.Path.{fun_ext}
 pub use Rattle.std.proofs.lemmas.Bool.{cond_both}
 pub use Rattle.std.proofs.lemmas.Bool.Decides.{nat_tests}
@@ -66,7 +66,6 @@ pub use Rattle.std.proofs.lemmas.List.Elements.{All-head, All-tail}
 pub use Rattle.std.proofs.lemmas.List.Folds.{list_any_more}
 pub use Rattle.std.proofs.lemmas.List.Quantifiers.{position-Some}
 pub use Rattle.std.proofs.lemmas.List.Sums.{fails_before_first}
-pub use Rattle.std.proofs.lemmas.Nat.{mod-mul-add}
 pub use Rattle.std.proofs.lemmas.Option.{get_or_from_slice_get}
 pub use Rattle.std.proofs.lemmas.Result.{err_from_is_err_and}
 pub use Rattle.std.specs.List.{remove}

@@ -5,7 +5,7 @@ use Rattle.controller_model.proofs.WorkedReplays.{addressed}
 abbrev four_rings : Version → Header
 four_rings version = record (three_rings 4) {
   version = version;
-  rings = (three_rings 4).rings ++ record { id = 3; shape = record { kind = Xfer; segments = record { base = 524288; count = 4 } ∷ [] } } ∷ [];
+  rings = (three_rings 4).rings ++ record { id = 3; shape = record { kind = Xfer; segments = record { base = 524288; count = 4 } ∷ []; offset = 0 } } ∷ [];
 }
 
 -- Configure Endpoint adds endpoint 3 with this type, and two Isoch TDs are given to it

@@ -3,11 +3,11 @@ use Rattle.controller_model.proofs.Words.{ℕ, ◌++◌, replicate, ◌≡◌, L
 
 -- a Command Ring and an Event Ring of 16 blocks, alone
 abbrev two_rings : Header
-two_rings = record { version = One; context_size = Bytes32; rings = record { id = 0; shape = record { kind = Cmd; segments = record { base = 65536; count = 16 } ∷ [] } } ∷ record { id = 1; shape = record { kind = Evt; segments = record { base = 131072; count = 16 } ∷ [] } } ∷ [] }
+two_rings = record { version = One; context_size = Bytes32; rings = record { id = 0; shape = record { kind = Cmd; segments = record { base = 65536; count = 16 } ∷ []; offset = 0 } } ∷ record { id = 1; shape = record { kind = Evt; segments = record { base = 131072; count = 16 } ∷ []; offset = 0 } } ∷ [] }
 
 -- and a Transfer Ring behind them
 abbrev pub three_rings : ℕ → Header
-three_rings count = record { version = One; context_size = Bytes32; rings = record { id = 0; shape = record { kind = Cmd; segments = record { base = 65536; count = 16 } ∷ [] } } ∷ record { id = 1; shape = record { kind = Evt; segments = record { base = 131072; count = 16 } ∷ [] } } ∷ record { id = 2; shape = record { kind = Xfer; segments = record { base = 196608; count = count } ∷ [] } } ∷ [] }
+three_rings count = record { version = One; context_size = Bytes32; rings = record { id = 0; shape = record { kind = Cmd; segments = record { base = 65536; count = 16 } ∷ []; offset = 0 } } ∷ record { id = 1; shape = record { kind = Evt; segments = record { base = 131072; count = 16 } ∷ []; offset = 0 } } ∷ record { id = 2; shape = record { kind = Xfer; segments = record { base = 196608; count = count } ∷ []; offset = 0 } } ∷ [] }
 
 -- the registers are written, and the controller runs
 abbrev started : List Row → List Row
@@ -119,7 +119,7 @@ unfolding model_on_literals
 crcr_may_name_any_address_harmful = refl
 
 abbrev pub device_contexts_over_input_contexts_header : Header
-device_contexts_over_input_contexts_header = record { version = One; context_size = Bytes32; rings = record { id = 0; shape = record { kind = Cmd; segments = record { base = 65600; count = 3 } ∷ [] } } ∷ record { id = 1; shape = record { kind = Evt; segments = record { base = 65792; count = 17 } ∷ [] } } ∷ record { id = 2; shape = record { kind = Xfer; segments = record { base = 66080; count = 2 } ∷ record { base = 66128; count = 2 } ∷ record { base = 66160; count = 2 } ∷ [] } } ∷ record { id = 3; shape = record { kind = Xfer; segments = record { base = 66224; count = 4 } ∷ record { base = 66304; count = 4 } ∷ [] } } ∷ record { id = 4; shape = record { kind = Xfer; segments = record { base = 66384; count = 4 } ∷ [] } } ∷ [] }
+device_contexts_over_input_contexts_header = record { version = One; context_size = Bytes32; rings = record { id = 0; shape = record { kind = Cmd; segments = record { base = 65600; count = 3 } ∷ []; offset = 0 } } ∷ record { id = 1; shape = record { kind = Evt; segments = record { base = 65792; count = 17 } ∷ []; offset = 0 } } ∷ record { id = 2; shape = record { kind = Xfer; segments = record { base = 66080; count = 2 } ∷ record { base = 66128; count = 2 } ∷ record { base = 66160; count = 2 } ∷ []; offset = 0 } } ∷ record { id = 3; shape = record { kind = Xfer; segments = record { base = 66224; count = 4 } ∷ record { base = 66304; count = 4 } ∷ []; offset = 0 } } ∷ record { id = 4; shape = record { kind = Xfer; segments = record { base = 66384; count = 4 } ∷ []; offset = 0 } } ∷ [] }
 
 abbrev pub device_contexts_over_input_contexts_rows : List Row
 device_contexts_over_input_contexts_rows =
@@ -154,7 +154,7 @@ unfolding model_on_literals
 device_contexts_over_input_contexts_harmful = refl
 
 abbrev pub erdp_past_what_was_read_header : Header
-erdp_past_what_was_read_header = record { version = One; context_size = Bytes32; rings = record { id = 0; shape = record { kind = Cmd; segments = record { base = 65600; count = 3 } ∷ [] } } ∷ record { id = 1; shape = record { kind = Evt; segments = record { base = 65792; count = 16 } ∷ [] } } ∷ record { id = 2; shape = record { kind = Xfer; segments = record { base = 66176; count = 7 } ∷ record { base = 66048; count = 7 } ∷ [] } } ∷ record { id = 3; shape = record { kind = Xfer; segments = record { base = 66288; count = 2 } ∷ record { base = 66320; count = 2 } ∷ record { base = 66368; count = 2 } ∷ record { base = 66416; count = 2 } ∷ [] } } ∷ record { id = 4; shape = record { kind = Xfer; segments = record { base = 66496; count = 4 } ∷ [] } } ∷ record { id = 5; shape = record { kind = Xfer; segments = record { base = 66624; count = 2 } ∷ record { base = 66592; count = 2 } ∷ record { base = 66656; count = 2 } ∷ record { base = 66560; count = 2 } ∷ [] } } ∷ record { id = 6; shape = record { kind = Xfer; segments = record { base = 66688; count = 3 } ∷ record { base = 66736; count = 3 } ∷ [] } } ∷ record { id = 7; shape = record { kind = Xfer; segments = record { base = 66832; count = 2 } ∷ record { base = 66896; count = 2 } ∷ record { base = 66800; count = 2 } ∷ [] } } ∷ [] }
+erdp_past_what_was_read_header = record { version = One; context_size = Bytes32; rings = record { id = 0; shape = record { kind = Cmd; segments = record { base = 65600; count = 3 } ∷ []; offset = 0 } } ∷ record { id = 1; shape = record { kind = Evt; segments = record { base = 65792; count = 16 } ∷ []; offset = 0 } } ∷ record { id = 2; shape = record { kind = Xfer; segments = record { base = 66176; count = 7 } ∷ record { base = 66048; count = 7 } ∷ []; offset = 0 } } ∷ record { id = 3; shape = record { kind = Xfer; segments = record { base = 66288; count = 2 } ∷ record { base = 66320; count = 2 } ∷ record { base = 66368; count = 2 } ∷ record { base = 66416; count = 2 } ∷ []; offset = 0 } } ∷ record { id = 4; shape = record { kind = Xfer; segments = record { base = 66496; count = 4 } ∷ []; offset = 0 } } ∷ record { id = 5; shape = record { kind = Xfer; segments = record { base = 66624; count = 2 } ∷ record { base = 66592; count = 2 } ∷ record { base = 66656; count = 2 } ∷ record { base = 66560; count = 2 } ∷ []; offset = 0 } } ∷ record { id = 6; shape = record { kind = Xfer; segments = record { base = 66688; count = 3 } ∷ record { base = 66736; count = 3 } ∷ []; offset = 0 } } ∷ record { id = 7; shape = record { kind = Xfer; segments = record { base = 66832; count = 2 } ∷ record { base = 66896; count = 2 } ∷ record { base = 66800; count = 2 } ∷ []; offset = 0 } } ∷ [] }
 
 abbrev pub erdp_past_what_was_read_rows : List Row
 erdp_past_what_was_read_rows =

@@ -112,7 +112,7 @@ posts_nowhere = refl
 abbrev another_event_ring : List Row
 another_event_ring =
     Reg Usbcmd 0 ∷ Reg Usbcmd 2 ∷ FreeRow 1
-    ∷ RingRow (record { id = 5; shape = record { kind = Evt; segments = record { base = 262144; count = 16 } ∷ [] } })
+    ∷ RingRow (record { id = 5; shape = record { kind = Evt; segments = record { base = 262144; count = 16 } ∷ []; offset = 0 } })
     ∷ Reg Usbcmd 1 ∷ []
 
 pub posts_into_the_newest : shown another_event_ring (NextRow ∷ Halt ∷ replicate 4 NextRow ++ Other port_event ∷ [])
@@ -121,7 +121,7 @@ unfolding model_on_literals
 posts_into_the_newest = refl
 
 -- a ring that comes isn't looked at, whatever was looked at under its ID before
-pub comes_at_rest : told runs (FreeRow 0 ∷ RingRow (record { id = 0; shape = record { kind = Cmd; segments = record { base = 524288; count = 4 } ∷ [] } }) ∷ []) (replicate 2 NextRow)
+pub comes_at_rest : told runs (FreeRow 0 ∷ RingRow (record { id = 0; shape = record { kind = Cmd; segments = record { base = 524288; count = 4 } ∷ []; offset = 0 } }) ∷ []) (replicate 2 NextRow)
     ≡ Some (true, false)
 unfolding model_on_literals
 comes_at_rest = refl

@@ -2,7 +2,7 @@
 use Rattle.controller_model.proofs.Words.{◌≡◌, ◌++◌, ◌∷◌, [], List, Some, option_map, replicate, refl, Cmd, Bytes32, Header, Crcr, Usbcmd, Bell, Reg, Sub, Look, NextRow, Row, FreeRow, NopRow, Two, LooksOutside, model_on_literals, scene_reached, scene_replayed, NoHarm, Harmful}
 
 abbrev pub one_ring : Header
-one_ring = record { version = Two; context_size = Bytes32; rings = record { id = 0; shape = record { kind = Cmd; segments = record { base = 65600; count = 3 } ∷ [] } } ∷ [] }
+one_ring = record { version = Two; context_size = Bytes32; rings = record { id = 0; shape = record { kind = Cmd; segments = record { base = 65600; count = 3 } ∷ []; offset = 0 } } ∷ [] }
 
 abbrev pub begun : List Row
 begun = (Reg Crcr 65601) ∷ (Reg Usbcmd 1) ∷ (Bell 0 0) ∷ []

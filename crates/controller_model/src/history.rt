@@ -1,8 +1,8 @@
-ghost use Rattle.std.specs.Prelude.{◌≡◌, ℕ, ◌+◌, ◌-◌, ◌==◌, ◌∷◌, ◌&&◌, ◌%◌, ◌^◌, [], List, Option, Some, None, length, OnOk, IsTrue, IfSome, true, false, ◌≤◌, ◌<◌, option_map};
+ghost use Rattle.std.specs.Prelude.{◌≡◌, ℕ, ◌+◌, ◌-◌, ◌==◌, ◌∷◌, ◌&&◌, ◌^◌, [], List, Option, Some, None, length, OnOk, IsTrue, IfSome, true, false, ◌≤◌, ◌<◌, option_map};
 ghost use Rattle.trb.specs.Block.{same_words};
 ghost use Rattle.trb.specs.declared.block.Block.{Block};
 ghost use Rattle.segments.specs.ShapeValue.{Shape};
-ghost use Rattle.segments.specs.Places.{address_of, is_crossing, link_address, place_count};
+ghost use Rattle.segments.specs.Places.{address_of, is_crossing, link_address, place_count, place_of};
 ghost use Rattle.world_state.specs.World.{RingEvent, Took, Placed};
 ghost use Rattle.world_state.specs.Takes.{takes_of, first_at, is_as_declared, is_place};
 ghost use Rattle.world_state.specs.Harms.{is_end, is_right_place};
@@ -52,13 +52,13 @@ fn leads_over(shape: &RingShape, address: u64, position: u64) -> bool
 }
 
 /// The number of the data place at an address: of each position that lies there.
-fn data_place(shape: &RingShape, address: u64) -> Option<u64>
-    ensures place { (p : ℕ) → address_of shape.now p ≡ address → result ≡ Some (p % place_count shape.now) }
+fn data_place(shape: &RingShape, address: u64) -> Option<u32>
+    ensures place { (p : ℕ) → address_of shape.now p ≡ address → result ≡ Some (place_of shape.now p) }
     ensures below { IfSome result (λ place. place < place_count shape.now) }
 {
     let _ = shape.places();
     match shape.place_at(address) {
-        Some(Place::Data { place, .. }) => Some(u64::from(place)),
+        Some(Place::Data { place, .. }) => Some(place),
         Some(Place::Link { .. }) => None,
         None => None,
     }
@@ -66,8 +66,8 @@ fn data_place(shape: &RingShape, address: u64) -> Option<u64>
 
 /// The number of the data place that an address names, by its block or by the Link before it: of each position there.
 #[tactic(auto, using(crate::proofs::NamedPlaces::names, crate::proofs::NamedPlaces::at_crossing, crate::proofs::NamedPlaces::at_block))]
-fn place_named(shape: &RingShape, address: u64) -> Option<u64>
-    ensures place { (p : ℕ) → is_place shape.now address p ≡ true → result ≡ Some (p % place_count shape.now) }
+fn place_named(shape: &RingShape, address: u64) -> Option<u32>
+    ensures place { (p : ℕ) → is_place shape.now address p ≡ true → result ≡ Some (place_of shape.now p) }
     ensures below { IfSome result (λ place. place < place_count shape.now) }
 {
     let _ = shape.places();
@@ -87,24 +87,12 @@ fn first_at(shape: &RingShape, address: u64, from: u64) -> u64
         None => return from,
         Some(place) => place,
     };
-    let position = lap_position(u64::from(shape.places()), place, from);
+    let position = shape.next_at(from, place);
     if is_place(shape, address, position) {
         position
     } else {
         from
     }
-}
-
-/// The least position from `from` on with this number in its lap.
-fn lap_position(places: u64, place: u64, from: u64) -> u64
-    requires place { place < places }
-    requires end { from + places < 2 ^ 64 }
-    ensures place { result % places ≡ place }
-    ensures from { from ≤ result }
-    ensures lap { result < from + places }
-{
-    let here = from - from % places + place;
-    if here < from { here + places } else { here }
 }
 
 /// Whether two blocks have the same words.

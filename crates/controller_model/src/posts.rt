@@ -82,7 +82,7 @@ pub(crate) fn has_event_room(header: &Header, kept: &Kept) -> bool
 }
 
 /// The Cycle bit of the next event; 1 where no event ring is declared.
-#[tactic(auto, unfolding(traces::specs::Header::event_shape))]
+#[tactic(auto, using(crate::proofs::PostLemmas::no_ring_cycle), unfolding(traces::specs::Header::event_shape))]
 pub(crate) fn event_cycle(header: &Header, kept: &Kept) -> bool
     ensures { (words : ℕ → ℕ) (w : World) → Follows header.now words kept.now w →
         result ≡ (cycle_of (event_shape header.now) w.posted == 1) }

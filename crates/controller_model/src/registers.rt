@@ -1,4 +1,4 @@
-ghost use Rattle.std.specs.Prelude.{◌≡◌, ℕ, ◌+◌, ◌-◌, ◌<◌, IfSome, OnOk, ◌*◌, ◌/◌, ◌%◌, ◌==◌, ◌&&◌, ◌||◌, not, true, false, if◌then◌else◌, Option, Some, None};
+ghost use Rattle.std.specs.Prelude.{◌≡◌, ℕ, ◌+◌, OnOk, ◌*◌, ◌/◌, ◌%◌, ◌==◌, ◌&&◌, ◌||◌, not, true, false, if◌then◌else◌, Option, Some, None};
 ghost use Rattle.traces.specs.declared.header.Header.{Header as HeaderValue};
 ghost use Rattle.traces.specs.declared.register.Register.TheVariants.{Crcr, Erdp, Usbcmd};
 ghost use Rattle.traces.specs.Register.{run_bit, reset_bit};
@@ -152,15 +152,6 @@ fn write_pointer(header: &Header, kept: &mut Kept, value: u64)
     place_commands(header, kept, value);
 }
 
-/// The least number from `from` on that leaves `place` when divided by `size`; `None` past the greatest number.
-fn next_at(size: u64, place: u64, from: u64) -> Option<u64>
-    requires { place < size }
-    ensures { IfSome result (λ n. n ≡ from + (place + size - from % size) % size) }
-{
-    let turn = u128::from(place) + u128::from(size) - u128::from(from % size);
-    from.checked_add((turn % u128::from(size)) as u64)
-}
-
 /// The event position that ERDP names is the next one at an address, where that is an event place (xHCI 5.5.2.3.3).
 #[tactic(auto, using(crate::proofs::EventPlaces::dequeue_kept, crate::proofs::EventPlaces::no_ring_place, world_state::proofs::EventPlaces::no_place), unfolding(traces::specs::Header::event_shape))]
 fn set_dequeue(header: &Header, kept: &mut Kept, address: u64) -> Result<(), AllocError>
@@ -172,13 +163,17 @@ fn set_dequeue(header: &Header, kept: &mut Kept, address: u64) -> Result<(), All
         None => return Ok(()),
         Some(ring) => &ring.shape,
     };
-    let size = u64::from(shape.places());
     let place = match shape.place_at(address) {
         None => return Ok(()),
         Some(Place::Link { .. }) => return Ok(()),
-        Some(Place::Data { place, .. }) => u64::from(place),
+        Some(Place::Data { place, .. }) => place,
     };
-    let dequeue = next_at(size, place, kept.events.dequeue).ok_or(AllocError)?;
+    let ahead = shape.ahead(kept.events.dequeue, place);
+    let dequeue = kept
+        .events
+        .dequeue
+        .checked_add(u64::from(ahead))
+        .ok_or(AllocError)?;
     kept.events.dequeue = dequeue;
     Ok(())
 }

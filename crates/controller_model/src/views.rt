@@ -1,5 +1,5 @@
 //! What a controller beside rows shows of itself to who chooses its next step (xHCI 4.5, 4.9).
-ghost use Rattle.std.specs.Prelude.{◌≡◌, ◌==◌, ◌&&◌, ◌<◌, ℕ, nat_lt, if◌then◌else◌, None, Some, true, not, IfSome, option_map};
+ghost use Rattle.std.specs.Prelude.{◌≡◌, ◌==◌, ◌&&◌, ◌<◌, ℕ, nat_lt, if◌then◌else◌, None, Some, true, false, not, IfSome, option_map};
 ghost use Rattle.contexts.specs.Contexts.{device_context};
 ghost use Rattle.segments.specs.Places.{cycle_of};
 ghost use Rattle.event_ring.specs.EventRing.{has_room};
@@ -9,7 +9,7 @@ ghost use Rattle.traces.specs.declared.register.Register.TheVariants.{Dcbaap};
 ghost use Rattle.world_state.specs.Scenes.{Scene};
 ghost use Rattle.world_state.specs.Takes.{unreported};
 ghost use Rattle.controller_model.specs.Controllers.{IsBeside};
-ghost use Rattle.controller_model.specs.Following.{under_way_of};
+ghost use Rattle.controller_model.specs.Following.{IsEndpoint, under_way_of};
 
 use crate::controller::Controller;
 use crate::endpoints::endpoint_of;
@@ -74,10 +74,12 @@ impl<M: WordMemory + Drop> Controller<M> {
         ring_state(&self.kept, ring).history.unreported_takes()
     }
 
-    /// The endpoint that has a ring, by its slot and DCI.
+    /// The endpoint that has a ring, by its slot and DCI: none where no endpoint has it.
     pub fn holder(&self, ring: u8) -> Option<(u8, u8)>
         ensures below { IfSome result (λ e. e.1 < 32) }
         ensures held { (x : Scene) → IsBeside M.words self.now x → IfSome result (λ e. is_ring ring (x.world.ring_of e.0 e.1) ≡ true) }
+        ensures free { (x : Scene) → IsBeside M.words self.now x → result ≡ None →
+            (slot endpoint : ℕ) → IsEndpoint slot endpoint → is_ring ring (x.world.ring_of slot endpoint) ≡ false }
     {
         match ring_state(&self.kept, ring).holder {
             Some(holder) if holder.index < 32 => Some((holder.slot, holder.index)),

@@ -1,6 +1,6 @@
 -- Played into memory, the writes of a descriptor that is shorter than a lap put its blocks and the Links before them at
 -- their places, and no other word
-use Rattle.cycle_ring.proofs.LowerLaws.{suc, rules, ◌≡◌, ◌+◌, ◌-◌, ◌*◌, ◌%◌, ◌<◌, ◌≤◌, ◌∷◌, ◌++◌, ◌∙◌, ℕ, Bool, false, List, [], take, drop, length, arith, refl, ap, sym, inl, inr, Some, Option, nat_lt, get_or, lit<, Contains, slice_get, take-append-drop, length-append, cases_lt, slice_get_within, slice_get-get_or, Contains-append_left, Contains-append_cases, take-append-le, Block, word, Place, Data, Link, Shape, IsShape, place_at, address_of, cycle_of, link_crossed, link_address, place_count, same_position_near, same_crossing, is_crossing-from, place_at-address_of, place_at-link_address, link_block, low_writes, control_write, block_at_position, way_writes, later_writes, writes_of, played, BlocksStand, LinksStand, OthersStay, GivenLast, played-written, played-elsewhere, block_at-words, same_address, IsWordOf, IsWordOfLink, IsWordAt, IsWritten, way_writes-words, later_writes-words, writes_of-words, word_of_descriptor_written}
+use Rattle.cycle_ring.proofs.LowerLaws.{suc, rules, ◌≡◌, ◌+◌, ◌-◌, ◌*◌, ◌<◌, ◌≤◌, ◌∷◌, ◌++◌, ◌∙◌, ℕ, Bool, false, List, [], take, drop, length, arith, refl, ap, sym, inl, inr, Some, Option, nat_lt, get_or, lit<, Contains, slice_get, take-append-drop, length-append, cases_lt, slice_get_within, slice_get-get_or, Contains-append_left, Contains-append_cases, take-append-le, Block, word, Place, Data, Link, Shape, IsShape, place_at, place_of, address_of, cycle_of, link_crossed, link_address, place_count, same_position_near, same_crossing, is_crossing-from, place_at-address_of, place_at-link_address, link_block, low_writes, control_write, block_at_position, way_writes, later_writes, writes_of, played, BlocksStand, LinksStand, OthersStay, GivenLast, played-written, played-elsewhere, block_at-words, same_address, IsWordOf, IsWordOfLink, IsWordAt, IsWritten, way_writes-words, later_writes-words, writes_of-words, word_of_descriptor_written}
 
 some_parts : {A : Type 0} {a c : A} → Some a ≡ Some c → a ≡ c
 some_parts same = cc
@@ -13,7 +13,7 @@ link_parts i j v w same = (cc, cc)
 
 module _ (shape : Shape) (is_shape : IsShape shape) where
   -- a word of the block at a position, and one of a Link, by the place that has it
-  block_place : (q : ℕ) (b : Block) (x v : ℕ) → (of : IsWordOf (address_of shape q) b x v) → place_at shape x ≡ Some (Data (q % place_count shape) of.w)
+  block_place : (q : ℕ) (b : Block) (x v : ℕ) → (of : IsWordOf (address_of shape q) b x v) → place_at shape x ≡ Some (Data (place_of shape q) of.w)
   block_place q b x v of = search (rules, place_at-address_of)
 
   link_place : (q : ℕ) (chain : Bool) (x v : ℕ) → (is : IsWordOfLink shape q chain x v) → place_at shape x ≡ Some (Link is.i is.of.w)
@@ -23,7 +23,7 @@ module _ (shape : Shape) (is_shape : IsShape shape) where
   same_number :
       (q r : ℕ) (b d : Block) (x v u : ℕ) → (of : IsWordOf (address_of shape q) b x v) → (of' : IsWordOf (address_of shape r) d x u) → of.w ≡ of'.w
   same_number q r b d x v u of of' =
-      (data_parts (q % place_count shape) (r % place_count shape) of.w of'.w (some_parts (sym (block_place q b x v of) ∙ block_place r d x u of'))).1
+      (data_parts (place_of shape q) (place_of shape r) of.w of'.w (some_parts (sym (block_place q b x v of) ∙ block_place r d x u of'))).1
 
   same_block_position :
       (q r : ℕ) (b d : Block) (x v u : ℕ) → q < r + place_count shape → r < q + place_count shape
@@ -54,7 +54,7 @@ module _ (shape : Shape) (is_shape : IsShape shape) where
       (q r : ℕ) (b : Block) (chain : Bool) (x v u : ℕ)
       → IsWordOf (address_of shape q) b x v → IsWordOfLink shape r chain x u → ⊥
   block_not_link q r b chain x v u of is =
-      apart (q % place_count shape) is.i of.w is.of.w (sym (block_place q b x v of) ∙ link_place r chain x u is)
+      apart (place_of shape q) is.i of.w is.of.w (sym (block_place q b x v of) ∙ link_place r chain x u is)
     where
       apart : (i j w w' : ℕ) → (let a : Option Place = Some (Data i w) in a) ≡ Some (Link j w') → ⊥
       apart i j w w' same = cc

@@ -1,5 +1,5 @@
 -- When a word may be written on a ring, by what it touches and what it gives
-use Rattle.cycle_ring.proofs.Words.{common_steps, rules, IsRestored, no_flips, ◌≡◌, ◌+◌, ◌*◌, ◌%◌, ◌<◌, ◌≤◌, ◌∙◌, ℕ, true, false, List, All, Contains, slice_index, arith, sym, ap, and_parts, false_from_ne_true, All-weaker, All-contains_itself, Shape, IsShape, data_places, links, place_count, address_of, is_crossing, link_address, overlap, RingView, floor_number, is_due, positions_given, crossings_given, leased_positions, leased_crossings, is_other_than_declared, is_not_declared, is_not_whole, leads_wrong, interrupts, MayWrite, place_not_link, link_aligned, links_apart, place_below, same_place_of, same_position_near, crosses, crossed_link, link_address_is, same_crossing_at, Gives, GivesCrossing, gives_is, gives_crossing_is, leased_position_is, leased_crossing_is, position_given_is, crossing_given_is}
+use Rattle.cycle_ring.proofs.Words.{common_steps, rules, IsRestored, no_flips, ◌≡◌, ◌+◌, ◌*◌, ◌%◌, ◌<◌, ◌≤◌, ◌∙◌, ℕ, true, false, List, All, Contains, slice_index, arith, sym, ap, and_parts, false_from_ne_true, All-weaker, All-contains_itself, Shape, IsShape, data_places, links, place_count, place_of, address_of, is_crossing, link_address, overlap, RingView, floor_number, is_due, positions_given, crossings_given, leased_positions, leased_crossings, is_other_than_declared, is_not_declared, is_not_whole, leads_wrong, interrupts, MayWrite, place_not_link, link_aligned, links_apart, place_below, same_place_of, same_position_near, crosses, crossed_link, link_address_is, same_crossing_at, Gives, GivesCrossing, gives_is, gives_crossing_is, leased_position_is, leased_crossing_is, position_given_is, crossing_given_is}
 
 all_in : (P : ℕ → Type 0) (xs : List ℕ) → ((x : ℕ) → Contains xs x → P x) → All P xs
 all_in P xs each = All-weaker (Contains xs) P each xs (All-contains_itself xs)
@@ -67,7 +67,7 @@ module _ (shape : Shape) (is : IsShape shape) where
   place_and_link p q crossing near far =
       let found = crossed_link shape q crossing in
       let at : link_address shape q ≡ slice_index (links shape) found.0 = link_address_is shape q found.0 found.1 in
-      place_not_link shape is (p % place_count shape) found.0 (place_below shape is p) (crosses shape q found.0 found.1).link (omega arith) (omega arith)
+      place_not_link shape is (place_of shape p) found.0 (place_below shape is p) (crosses shape q found.0 found.1).link (omega arith) (omega arith)
 
   module _ (x : ℕ) (k : ℕ) (small : k < 4) where
     pub block_word_no_block :

@@ -53,10 +53,10 @@ pub record KeepsTheRing (p : Progress) (blocks : List Block) (writes : List (ℕ
 abbrev pub KeepTheRing : Progress → List Block → List (ℕ × ℕ) → Type 0
 KeepTheRing p blocks writes = (memory : ℕ → ℕ) (v : RingView) → RingKeeps p.shape memory v → IsEnqueuedSo p v → KeepsTheRing p blocks writes memory v
 
--- before anything happens the ring, with blank memory, is as the producer has it, and its rules are kept
+-- before anything happens the ring is as the producer has it, and with blank memory its rules are kept, since it hasn't grown then
 pub record BeginsWithTheRing (p : Progress) : Type 0 where
   pub enqueued : IsEnqueuedSo p new_ring
-  pub keeps : (memory : ℕ → ℕ) → ((a : ℕ) → memory a ≡ 0) → RingKeeps p.shape memory new_ring
+  pub keeps : p.shape.offset ≡ 0 → (memory : ℕ → ℕ) → ((a : ℕ) → memory a ≡ 0) → RingKeeps p.shape memory new_ring
 
 -- the controller's pointer is known to have come to this spot, with the first count blocks behind it: all before the spot is given, the
 -- pointer doesn't go back, and a ring that is held is held no lower

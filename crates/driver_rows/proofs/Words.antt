@@ -24,7 +24,7 @@ pub use Rattle.driver_rows.specs.declared.bindings.context.Dequeue.{Dequeue}
 pub use Rattle.event_ring.proofs.Words.{place_at-Data}
 pub use Rattle.event_ring.specs.EventRing.{is_table_fault}
 pub use Rattle.guest_memory.specs.Memory.{long_at}
-unfoldable pub use Rattle.ownership_rules.specs.BadWithdrawals.{is_no_descriptor, withdraws_badly}
+unfoldable pub use Rattle.ownership_rules.specs.BadWithdrawals.{withdraws_badly}
 unfoldable pub use Rattle.ownership_rules.specs.ByVersion.{has_busy_slot, has_left_out_endpoint, places_badly, writes_to_owned}
 unfoldable pub use Rattle.ownership_rules.specs.Commands.{adds_isochronous, adds_streams, has_bad_entry, is_bad_added, is_bad_device, is_busy, shares_slot, streams_in, takes_bad_device, type_in}
 unfoldable pub use Rattle.ownership_rules.specs.Moves.{binds_again, was_ring_bound}
@@ -32,7 +32,7 @@ unfoldable pub use Rattle.ownership_rules.specs.Older.{older, stricter}
 pub use Rattle.ownership_rules.specs.Registers.{has_gap, is_impossible_read, is_in_run, is_restored, is_used}
 unfoldable pub use Rattle.ownership_rules.specs.Registers.{is_bad_command_register, is_bad_size, is_bad_table, is_early_reset, is_written, is_wrong_size, read_tests}
 unfoldable pub use Rattle.ownership_rules.specs.Rings.{goes_badly, is_bad_kind, is_in_use}
-unfoldable pub use Rattle.ownership_rules.specs.Withdrawals.{is_passed}
+unfoldable pub use Rattle.ownership_rules.specs.Withdrawals.{is_no_descriptor, is_passed}
 pub use Rattle.ownership_rules.specs.declared.refusal.Refusal.TheVariants.{BadCommand, BadFree, BadMove, Busy, ImpossibleRead, LinkFault, NotAsSubmitted, NotWhole, WriteToOwned}
 pub use Rattle.ring_knowledge.proofs.GivenWords.{given_from}
 pub use Rattle.ring_knowledge.specs.Histories.{gone}
@@ -42,15 +42,15 @@ unfoldable pub use Rattle.ring_knowledge.specs.Resets.{resets}
 pub use Rattle.ring_knowledge.specs.RingRecords.{IsNotPassed}
 pub use Rattle.ring_knowledge.specs.declared.register_record.RegisterRecord.{RegisterRecord}
 pub use Rattle.ring_knowledge.specs.declared.ring_record.RingGiving.TheVariants.{Crossing, Position}
-pub use Rattle.safety.proofs.AreaFacts.{area_parts}
-pub use Rattle.safety.proofs.Areas.{ring_untouched}
-pub use Rattle.safety.proofs.CommandRing.{due_has_ring}
-pub use Rattle.safety.proofs.CommandsBeside.{binds_ring_beside}
-pub use Rattle.safety.proofs.DevicesWritten.{written_devices}
-pub use Rattle.safety.proofs.ErdpMoves.{no_place_stays}
-pub use Rattle.safety.proofs.GivenRules.{given_facts}
-pub use Rattle.safety.proofs.Headers.{header_parts, ring_shape}
-pub use Rattle.safety.proofs.KeptClean.{taking}
+pub use Rattle.safety.proofs.DevicesKeep.AreaFacts.{area_parts}
+pub use Rattle.safety.proofs.Posts.Areas.{ring_untouched}
+pub use Rattle.safety.proofs.RingsKeep.CommandRing.{due_has_ring}
+pub use Rattle.safety.proofs.CommandsKeep.CommandsBeside.{binds_ring_beside}
+pub use Rattle.safety.proofs.DevicesKeep.DevicesWritten.{written_devices}
+pub use Rattle.safety.proofs.RunKeeps.ErdpMoves.{no_place_stays}
+pub use Rattle.safety.proofs.CommandsKeep.GivenRules.{given_facts}
+pub use Rattle.safety.proofs.HeaderRings.Headers.{header_parts, ring_shape}
+pub use Rattle.safety.proofs.RunKeeps.KeptClean.{taking}
 pub use Rattle.safety.proofs.RingChanges.ComingGoing.{absent, no_command, no_event}
 pub use Rattle.safety.proofs.RingChanges.ListedRings.{all_kept, all_more, none_found, overlaps_none, together_kept, together_more}
 pub use Rattle.safety.proofs.RingChanges.OtherRings.{OtherRings, bound_still}
@@ -58,15 +58,15 @@ pub use Rattle.safety.proofs.RingChanges.RingRuns.{bad_same, f_keeps, fresh, no_
 pub use Rattle.safety.proofs.RingChanges.Segments.{segment_some}
 pub use Rattle.safety.proofs.RingChanges.Squares.{cleared}
 pub use Rattle.safety.proofs.RingChanges.Withdrawn.{HasStopped, stopped_with, with_stopped}
-pub use Rattle.safety.proofs.RingIds.{none_has_256}
-pub use Rattle.safety.proofs.RowFrames.{SameRegisters, write_leaves}
-pub use Rattle.safety.proofs.RowRegister.{event_place}
-pub use Rattle.safety.proofs.UnfinishedBehind.{listed_unfinished}
-pub use Rattle.safety.proofs.UnfinishedLists.{fails_in, in_range}
+pub use Rattle.safety.proofs.HeaderRings.RingIds.{none_has_256}
+pub use Rattle.safety.proofs.Rows.RowFrames.{SameRegisters, write_leaves}
+pub use Rattle.safety.proofs.Rows.RowRegister.{event_place}
+pub use Rattle.safety.proofs.Behind.UnfinishedBehind.{listed_unfinished}
+pub use Rattle.safety.proofs.CommandsKeep.UnfinishedLists.{fails_in, in_range}
 pub use Rattle.safety.proofs.Words.{AddressDevice, AfterStop, All, BadErdp, BadRegister, Bell, Binding, Block, BlockKind, Bool, Command, Config, ConfigureEndpoint, Contains, ContextSize, Crcr, Dcbaap, Declares, DeviceKeeps, DisableSlot, DriverKeeps, EnableSlot, EndpointState, Erdp, Erstba, Erstsz, EvaluateContext, Evt, Header, IsComing, IsDriverRing, IsHeader, IsIn, IsShape, IsTransferRing, Known, List, NoOp, None, NotDeclared, NotInProfile, Opens, Option, Refusal, Reg, Register, ResetDevice, ResetEndpoint, Restores, Ring, RingChange, RingKind, RingView, Row, SetTrDequeue, Shape, Some, StopEndpoint, Sub, Test, Usbcmd, Withdraws, Write, Writes, Xfer, [], address_aligned, address_ends, address_inside, address_of, and_from, and_left, and_parts, and_right, any_of, ap, append-nil, arith, base_address, block_at, broken_of, cases_Bool, cases_eq, cases_lt, ceiling_within, changed, clash, command_by_kind, command_of, cond-false, cond-true, cond_both, cons_option, cycle_of, cycle_of_bit, declared, device_context_bytes, eq-eqb, eqb-true, erdp_address, false, false_from_ne_true, false≢true, filter, filter_map, find, floor_number, fun_ext, get_or, gives, gives_crossing_is, gives_is, has_flag, id_of, if◌then◌else◌, inl, input_add_flag, input_context_bytes, input_drop_flag, inr, is_command_kind, is_command_left_out, is_driver_kind, is_dropped, is_event_kind, is_event_place, is_in, is_inside, is_none, is_off, is_reached_within, is_ring, is_set, is_shape, is_some, is_stopped, is_transfer_kind, is_transfer_ring, kind, le-ltb, length, link_address, link_address_inside, link_aligned, link_ends, list_all, list_any, list_any_at, lt-ltb, ltb-false, ltb-true, map, may_stand_together, named_context, named_endpoint, named_slot, nat_le, nat_lt, ne_eqb, none-some, not, not-false, not-true, not_from_false, option_and_then, option_map, or_from, or_left, or_parts, or_right, overlap, placed_by_context, position, position-Some, position_given_is, put, put_pair, range_with_len, refl, register_or_zero, reset_bit, ring_with, rings_overlap, rules, run_bit, same_Some, same_words, shape_facts, shape_or, slice_get, slice_get_within, slice_index, slot, slot_entry, some_of, subst, suc, sym, table_bytes, touches-word, true, unwrap_or, with_cycle, word, zero, ℕ, ◌%◌, ◌&&◌, ◌*◌, ◌++◌, ◌+◌, ◌-◌, ◌/◌, ◌<◌, ◌==◌, ◌^◌, ◌||◌, ◌∙◌, ◌∷◌, ◌≡◌, ◌≢◌, ◌≤◌, ◌⊎◌}
 unfoldable pub use Rattle.safety.proofs.Words.{added_endpoints, awaits_binding, binding_in, binds, binds_ring, broken, ceiling, changes, changes_owned, command_at, command_given, command_id, context_ranges, covers, crossings_given, declaration_tests, device_named, device_ranges, driver_rings, drops, due_positions, endpoint_rung, entry_of, entry_ranges, event_ring, event_shape, flips_passed, forgotten, given_by, given_of, has_bad_content, has_bad_context, has_repeats, has_stopped, holds_of, interrupts, is_among, is_bad_area, is_bad_bell, is_bad_binding, is_bad_command, is_bad_crcr, is_bad_dequeue, is_bad_doorbell, is_bad_erdp, is_bad_free, is_bad_move, is_bad_place, is_bad_register, is_bad_ring, is_bad_segment, is_bad_stay, is_bad_withdraw, is_being_bound, is_being_moved, is_declared_as, is_driver_ring, is_early_start, is_had, is_in_range_lease, is_kept, is_late_reset, is_move, is_no_first_block, is_not_declared, is_not_restored, is_not_whole, is_open, is_other_than_declared, is_placed, is_placement, is_soiled, is_taken, is_the_controllers, is_touched, is_unwritten, is_wrong_link, is_wrong_start, leads_wrong, learned, lease_bytes, lease_start, lenient, lenient_tests, may_pass, moves_ring, names_disabled_endpoint, names_disabled_slot, names_no_place, no_device, on_crossing, on_position, on_ring, open_ranges, positions_given, range_of_command, range_of_context, range_of_device, range_of_entry, register_tests, register_written, restored_on, ring_bound, ring_having, ring_moved, ring_restored, run_or_stop, rung, segment_ranges, shape_of, shows_first_lap, slots, some_command, some_crossed, some_flips, some_given, table_range, taken_device, tests, touches_endpoint, touches_ring, unfinished, unfinished_positions, unrestored, valued, with_device, with_ring, with_word, without_ring, write_tests, written}
-pub use Rattle.safety.proofs.WriteBeside.{beside_old, rules_of}
-pub use Rattle.safety.proofs.WrittenKnown.{after_write, taken, written_device, written_device_none, written_memory, written_ring}
+pub use Rattle.safety.proofs.CommandsKeep.WriteBeside.{beside_old, rules_of}
+pub use Rattle.safety.proofs.Rows.WrittenKnown.{after_write, taken, written_device, written_device_none, written_memory, written_ring}
 pub use Rattle.safety.specs.RingChanges.Histories.{IsKept}
 pub use Rattle.segments.proofs.Search.{position-None}
 unfoldable pub use Rattle.segments.specs.Givings.{descriptor_length, link_of}

@@ -415,10 +415,5 @@ fn is_event_place(shape: &RingShape, address: u64) -> bool
     requires aligned { address % 16 ≡ 0 }
     ensures { result ≡ is_event_place shape.now address }
 {
-    let count = shape.places();
-    match shape.place_at(address) {
-        None => false,
-        Some(Place::Link { .. }) => false,
-        Some(Place::Data { place, .. }) => place < count,
-    }
+    matches!(shape.place_at(address), Some(Place::Data { .. }))
 }

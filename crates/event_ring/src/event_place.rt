@@ -137,14 +137,13 @@ impl EventPlace {
         // The controller's side keeps its counts in order.
         ensures in_order { IsInOrder self.old → IsInOrder self.new }
     {
-        let size = u64::from(self.shape.places());
         let place = match self.shape.place_at(value / 16 * 16) {
             Some(Place::Data { place, .. }) => place,
             // An event ring has no Links.
             Some(Place::Link { .. }) => unreachable!(),
             None => return Err(BadErdp),
         };
-        let ahead = (u64::from(place) + size - self.dequeue % size) % size;
+        let ahead = u64::from(self.shape.ahead(self.dequeue, place));
         if ahead > self.reads - self.dequeue {
             return Err(BadErdp);
         }

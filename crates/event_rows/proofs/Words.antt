@@ -18,21 +18,21 @@ unfoldable pub use Rattle.ownership_rules.specs.Events.{is_code_of_profile}
 unfoldable pub use Rattle.ring_knowledge.specs.Completions.{typed}
 unfoldable pub use Rattle.ring_knowledge.specs.Rings.{code_told}
 pub use Rattle.ring_knowledge.specs.declared.register_record.RegisterRecord.{RegisterRecord}
-pub use Rattle.safety.proofs.AreaFacts.{area_parts}
-pub use Rattle.safety.proofs.Areas.{bad_command_context}
-pub use Rattle.safety.proofs.CommandsBeside.{Beside, binds_ring_beside}
-pub use Rattle.safety.proofs.CommandsCompleted.{Changed, changed_by_code}
-pub use Rattle.safety.proofs.CommandsFinished.{beside_finished, unfinished_before}
+pub use Rattle.safety.proofs.DevicesKeep.AreaFacts.{area_parts}
+pub use Rattle.safety.proofs.Posts.Areas.{bad_command_context}
+pub use Rattle.safety.proofs.CommandsKeep.CommandsBeside.{Beside, binds_ring_beside}
+pub use Rattle.safety.proofs.CommandsKeep.CommandsCompleted.{Changed, changed_by_code}
+pub use Rattle.safety.proofs.CommandsKeep.CommandsFinished.{beside_finished, unfinished_before}
 pub use Rattle.safety.proofs.DriverRings.{endpoints_of, rings_of}
-pub use Rattle.safety.proofs.EndpointHistories.{finish_elsewhere}
-pub use Rattle.safety.proofs.Headers.{ring_shape}
-pub use Rattle.safety.proofs.KeptRings.{CompletionFacts, by_completion, command_holds, next_at_floor, next_unfinished}
-pub use Rattle.safety.proofs.NoWait.{ceiling_given}
-pub use Rattle.safety.proofs.Placings.{still_places}
-pub use Rattle.safety.proofs.SafeContext.{AtFloor, command_is_ring, named_if_taken}
-pub use Rattle.safety.proofs.SameDriver.{completion_same}
-pub use Rattle.safety.proofs.StatesPlaced.{is_off_of, on_is}
-pub use Rattle.safety.proofs.UnfinishedBehind.{listed_unfinished}
+pub use Rattle.safety.proofs.StatesKeep.EndpointHistories.{finish_elsewhere}
+pub use Rattle.safety.proofs.HeaderRings.Headers.{ring_shape}
+pub use Rattle.safety.proofs.RingsKeep.KeptRings.{CompletionFacts, by_completion, command_holds, next_at_floor, next_unfinished}
+pub use Rattle.safety.proofs.NoHarm.NoWait.{ceiling_given}
+pub use Rattle.safety.proofs.Targets.Placings.{still_places}
+pub use Rattle.safety.proofs.NoHarm.SafeContext.{AtFloor, command_is_ring, named_if_taken}
+pub use Rattle.safety.proofs.Rows.SameDriver.{completion_same}
+pub use Rattle.safety.proofs.StatesKeep.StatesPlaced.{is_off_of, on_is}
+pub use Rattle.safety.proofs.Behind.UnfinishedBehind.{listed_unfinished}
 pub use Rattle.safety.proofs.Words.{Block, Bool, Change, Command, CommandKeeps, Config, ConfigureEndpoint, ContextSize, DeviceLeft, DisableSlot, Disables, DriverKeeps, EndpointState, Header, Holds, IsAhead, IsDriverRing, IsHeader, IsIn, IsSpot, IsTransferRing, IsUnfinished, Known, List, MayChange, MayChangeAll, MayPoint, None, Option, Places, Reaches, Ring, RingChange, RingKeeps, RingKind, RingSpot, RingView, Shape, SlotGoesOn, SlotState, Some, Spot, StopEndpoint, Stopped, [], after, and_parts, ap, arith, below_is, cases_Bool, cases_eq, ceiling_within, changed, code, command_of, cond-false, cond-true, cons_option, cycle, cycle_of, declared, device_context_bytes, endpoint, endpoint_meant, endpoint_success, eq-eqb, eqb-true, false, false≢true, filter_map, floor_number, fun_ext, get_or, get_or_from_slice_get, given_count_declared, if◌then◌else◌, inl, input_context_bytes, inr, is_command_kind, is_driver_kind, is_dropped, is_event, is_halting, is_off, is_slot_enabled, is_some, is_stop_of, is_success, is_transfer_code, is_transfer_kind, is_trb_error, kind, length, list_any, map, may_answer_slot, named_ahead, named_context, named_endpoint, named_slot, nat_lt, ne_eqb, none-some, not, number, option_and_then, option_map, or_parts, place_count, placed_by_context, pointer, position, put, range_with_len, refl, register_or_zero, rules, same_Some, slice_get, slice_get-get_or, slice_get_within, slot, slot_meant, slot_success, subst, suc, sym, target_ahead, true, zero, ℕ, ◌&&◌, ◌++◌, ◌+◌, ◌-◌, ◌<◌, ◌==◌, ◌^◌, ◌||◌, ◌∙◌, ◌∷◌, ◌≡◌, ◌≢◌, ◌≤◌, ◌⊎◌}
 unfoldable pub use Rattle.safety.proofs.Words.{added_endpoints, binds_ring, bound_to, broken_off, can_finish, can_report, can_report_at, can_succeed, ceiling, changed_by, changed_by_all, changes, command_at, command_id, command_ring, completed, disabled, event_at, event_shape, event_size, finished, given_count, has_bad_context, held_at_ceiling, in_state, is_being_bound, is_data_below, is_impossible_completion, is_impossible_transfer, is_in_profile, is_past_room, is_stop_spot, is_stopping_now, is_working, may_be_taken, moved, moved_to, named, next_command, on_ring, passed, pointed, ring_having, set_to, shape_of, slots, spot_on, stop_ended, stopped_at, succeeded, target, transfer_read, transferred, transferred_at, unfinished, was_stop_seen}
 pub use Rattle.segments.proofs.Search.{cases_option}

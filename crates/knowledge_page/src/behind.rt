@@ -1,6 +1,6 @@
 //! A pass over rows none of which breaks a rule: what is known behind them, and what is lent.
 ghost use Rattle.std.specs.Prelude.{◌≡◌, ◌+◌, ◌≤◌, All, Some, length, IfOk, IfErr};
-ghost use Rattle.traces.specs.AllowedHeaders.{IsHeader};
+ghost use Rattle.traces.specs.AllowedHeaders.{AreUnmoved, IsHeader};
 ghost use Rattle.traces.specs.Limits.{most_streamed_lines};
 ghost use Rattle.traces.specs.TraceRows.{IsTraceRow};
 ghost use Rattle.ownership_rules.specs.Rules.{trace_verdict};
@@ -23,6 +23,7 @@ pub(crate) fn standing_behind(
     rows: &[Row],
 ) -> Result<Standing, CheckFault>
     requires headed { IsHeader header.now }
+    requires unmoved { AreUnmoved header.now.rings }
     requires fitting { All IsTraceRow rows.now }
     requires within { first + length rows.now ≤ most_streamed_lines + 1 }
     ensures standing { IfOk result (IsStanding header.now first rows.now) }

@@ -58,39 +58,39 @@ unfoldable pub use Rattle.ring_knowledge.specs.Transfers.{broken_off, passed, st
 unfoldable pub use Rattle.ring_knowledge.specs.Writes.{device_named, no_device}
 pub use Rattle.ring_knowledge.specs.declared.lease.Lease.{Lease}
 pub use Rattle.ring_knowledge.specs.declared.ring_record.RingGiving.{RingGiving}
-pub use Rattle.safety.proofs.AreaFacts.{area_parts}
-pub use Rattle.safety.proofs.CleanRows.{EventFacts, event_facts, register_facts}
-pub use Rattle.safety.proofs.CommandRing.{due_has_ring}
-pub use Rattle.safety.proofs.DeviceFrames.{entry_same}
-pub use Rattle.safety.proofs.DevicesWritten.{and_then_parts, contains_first, written_devices}
+pub use Rattle.safety.proofs.DevicesKeep.AreaFacts.{area_parts}
+pub use Rattle.safety.proofs.Rows.CleanRows.{EventFacts, event_facts, register_facts}
+pub use Rattle.safety.proofs.RingsKeep.CommandRing.{due_has_ring}
+pub use Rattle.safety.proofs.DevicesKeep.DeviceFrames.{entry_same}
+pub use Rattle.safety.proofs.DevicesKeep.DevicesWritten.{and_then_parts, contains_first, written_devices}
 pub use Rattle.safety.proofs.DriverRings.{rings_of}
-pub use Rattle.safety.proofs.DriverRows.{ring_elsewhere}
-pub use Rattle.safety.proofs.EndpointPut.{at_number}
-pub use Rattle.safety.proofs.EventBehind.{event_behind}
-pub use Rattle.safety.proofs.FinishDequeue.{may_move}
-pub use Rattle.safety.proofs.FloorsGrow.{floors_grow, may_change}
-pub use Rattle.safety.proofs.GivenUp.{floor_behind}
-pub use Rattle.safety.proofs.Headers.{found_in, ring_shape, transfer_driver, transfer_not_command}
-pub use Rattle.safety.proofs.KeptClean.{taking}
-pub use Rattle.safety.proofs.KeptRegisters.{registered}
-pub use Rattle.safety.proofs.KeptRings.{completion_facts, next_at_floor, still_of}
-pub use Rattle.safety.proofs.Placings.{Ready, ReadyAt, address_ready, all_ready, dropped, ready_next, ring_at}
+pub use Rattle.safety.proofs.RingsKeep.DriverRows.{ring_elsewhere}
+pub use Rattle.safety.proofs.StatesKeep.EndpointPut.{at_number}
+pub use Rattle.safety.proofs.Behind.EventBehind.{event_behind}
+pub use Rattle.safety.proofs.Finishes.FinishDequeue.{may_move}
+pub use Rattle.safety.proofs.Behind.FloorsGrow.{floors_grow, may_change}
+pub use Rattle.safety.proofs.ResetRuns.GivenUp.{floor_behind}
+pub use Rattle.safety.proofs.HeaderRings.Headers.{found_in, ring_shape, transfer_driver, transfer_not_command}
+pub use Rattle.safety.proofs.RunKeeps.KeptClean.{taking}
+pub use Rattle.safety.proofs.RunKeeps.KeptRegisters.{registered}
+pub use Rattle.safety.proofs.RingsKeep.KeptRings.{completion_facts, next_at_floor, still_of}
+pub use Rattle.safety.proofs.Targets.Placings.{Ready, ReadyAt, address_ready, all_ready, dropped, ready_next, ring_at}
 pub use Rattle.safety.proofs.RingChanges.ListedRings.{none_found}
 pub use Rattle.safety.proofs.RingChanges.NewRings.{found_before, found_new}
 pub use Rattle.safety.proofs.RingChanges.OtherRings.{OtherRings}
 pub use Rattle.safety.proofs.RingChanges.RingRuns.{bad_same, f_keeps, fresh}
 pub use Rattle.safety.proofs.RingChanges.Segments.{segment_some}
 pub use Rattle.safety.proofs.RingChanges.Squares.{cleared, cleared_apart}
-pub use Rattle.safety.proofs.RingIds.{having_transfer, transfer_driver as transfer_is_driver}
-pub use Rattle.safety.proofs.RowFrames.{bell_leaves, declaration_leaves, register_leaves, status_leaves, write_leaves}
-pub use Rattle.safety.proofs.SafeContext.{command_is_ring, named_if_taken}
-pub use Rattle.safety.proofs.SameDriver.{SameDriver, event_same, view_after}
-pub use Rattle.safety.proofs.StandingTargets.{target_here, target_placed}
-pub use Rattle.safety.proofs.TestsPassed.{any_of_map, each_fails, tests_fail}
+pub use Rattle.safety.proofs.HeaderRings.RingIds.{having_transfer, transfer_driver as transfer_is_driver}
+pub use Rattle.safety.proofs.Rows.RowFrames.{bell_leaves, declaration_leaves, register_leaves, status_leaves, write_leaves}
+pub use Rattle.safety.proofs.NoHarm.SafeContext.{command_is_ring, named_if_taken}
+pub use Rattle.safety.proofs.Rows.SameDriver.{SameDriver, event_same, view_after}
+pub use Rattle.safety.proofs.Targets.StandingTargets.{target_here, target_placed}
+pub use Rattle.safety.proofs.RingsKeep.TestsPassed.{any_of_map, each_fails, tests_fail}
 pub use Rattle.safety.proofs.Words.{AddressDevice, All-head, All-tail, Bell, BlockKind, Change, Cmd, Command, CommandCompletion, ConfigureEndpoint, DeviceLeft, DisableSlot, Disables, DriverKeeps, EndpointState, Erstba, Erstsz, Evt, Header, Holds, IsDriverRing, IsHeader, IsIn, Known, MayChangeAll, Places, Reaches, Read, Reg, RegRead, Ring, RingChange, RingKind, RingSpot, RingView, Row, SetTrDequeue, Shape, SlotGoesOn, Spot, Stopped, Sub, TransferEvent, Usbcmd, Write, Writes, Xfer, address_inside, address_of, after, any_of, cases_Bool, changed, code, command_of, cond-false, cond-true, cond_both, device_context_bytes, drop_all, false_from_ne_true, false≢true, flat_map, floor_number, from_filter, fun_ext, given_count, gives, gives_crossing, gives_crossing_is, gives_is, id_of, id_or_none, in_filter, input_context_bytes, is_bad_segment, is_command_completion, is_command_kind, is_crossing, is_done, is_driver_kind, is_dropped, is_in_run, is_inside, is_off, is_restored, is_ring, is_stopping, is_success, is_transfer_event, is_transfer_kind, is_value, kind, link_address, link_address_inside, list_any, list_any-append, named_context, none-some, number, or_parts, place_count, placed_by_context, position_given_is, put, range_with_len, register_or_zero, ring_with, same_Some, shape_or, slice_get_within, slot, target_ahead}
 unfoldable pub use Rattle.safety.proofs.Words.{added_endpoints, bound_to, ceiling, changed_by, changed_by_all, changes, command_at, command_given, command_id, command_ring, completed, context_ranges, crossings_given, device_ranges, disabled, driver_rings, due_positions, entry_of, entry_ranges, event_at, event_size, finished, given_by, given_of, goes_badly, held_at_ceiling, in_state, is_bad_kind, is_unwritten, learned, lenient_tests, moved, moved_to, next_command, nothing, on_ring, open_leases, open_on, open_ranges, pointed, positions_given, range_of_command, range_of_context, range_of_device, range_of_entry, ring_having, segment_ranges, set_to, shape_of, slots, stop_ended, succeeded, table_range, taken_device, target, unfinished_positions, with_device, with_word, written}
-pub use Rattle.safety.proofs.WriteBeside.{rules_of}
-pub use Rattle.safety.proofs.WrittenKnown.{after_write, taken, written_device, written_device_none}
+pub use Rattle.safety.proofs.CommandsKeep.WriteBeside.{rules_of}
+pub use Rattle.safety.proofs.Rows.WrittenKnown.{after_write, taken, written_device, written_device_none}
 pub use Rattle.safety.specs.Keeps.{IsTransferRing}
 pub use Rattle.safety.specs.Placings.{StillHolds}
 pub use Rattle.segments.proofs.Giving.{GivesCrossing, due_is}
@@ -102,7 +102,7 @@ pub use Rattle.segments.proofs.Search.{cases_option}
 pub use Rattle.segments.proofs.SpotOrder.{data_not_link}
 pub use Rattle.segments.proofs.Words.{IsRestored, Restores, RingKeeps, Withdraws, is_handed_over, is_in, not-true, option_map, or_cases, pointer, position_or_len, take_more, touches}
 unfoldable pub use Rattle.segments.proofs.Words.{due_crossings, leased_crossings, leased_positions, length_from, link_of, named, unrestored}
-pub use Rattle.segments.specs.Places.{overlap}
+pub use Rattle.segments.specs.Places.{overlap, place_of}
 pub use Rattle.segments.specs.Shape.{are_apart, segments_overlap}
 pub use Rattle.std.proofs.Common.{All, Bool, Err, List, None, Ok, OnOk, Option, Result, Some, [], ap, append-nil, append_assoc, arith, cond, drop, drop-cons, eq-eqb, eqb-true, false, filter, get_or, if◌then◌else◌, inl, inr, insert, is_some, le-leb, leb-true, length, lt-ltb, ltb-false, ltb-true, map, max, nat_le, nat_lt, ne_eqb, not, option_and_then, refl, reverse, rules, slice_get, slice_set, subst, suc, sym, take, take_all, true, unwrap_or, vec_len, zero, ℕ, ◌%◌, ◌&&◌, ◌*◌, ◌++◌, ◌+◌, ◌-◌, ◌<◌, ◌==◌, ◌^◌, ◌||◌, ◌↔◌, ◌∙◌, ◌∷◌, ◌≡◌, ◌≢◌, ◌≤◌, ◌⊎◌}
 pub use Rattle.std.proofs.lemmas.Bool.{eqb-false, le-ltb, or_from}

@@ -1,5 +1,5 @@
 -- What the answers cite: the words, and this crate's lemmas
-pub use Rattle.leases.proofs.BaseWords.{AreLent, AreOpen, Begins, Block, Bool, CertificateLog, Cmd, Command, DeviceContext, DriverKeeps, EntriesFit, EntryFits, Erstba, EventSegment, Evt, FollowedList, FollowsCertificate, FollowsList, FollowsRing, FollowsTrace, Header, HoldsAll, HoldsLents, InputContext, IsFound, IsInStep, IsNextRow, IsOtherRow, IsPlaced, IsShape, Known, Lease, LeaseBook, Leased, Lent, Link, List, MovesOn, None, Option, Range, Reg, Register, Row, SegmentTable, Shape, SlotEntry, SlotIsFree, Some, StandFrom, StandsAt, Usbcmd, Xfer, [], among_at, ap, arith, base_address, cases_Bool, cases_option, code, command_found, command_id_is, command_place, crossing_positive, driven, endpoint, eqb-true, event_here, false, false≢true, floor_number, get_or, given_count, index_at, index_in, inl, inr, is_command_kind, is_crossing, is_driver_kind, is_event_kind, is_input_context, is_of_ring, is_of_slot, is_passed, is_some, length, link_crossed, map, named, next_command, no_command_ring, none_here, not_found, number, place_count, refl, ring_here, same_leased, segments_in_turn, shape_allowed, shape_there, share_a_place, slice_get, slot_let_go, slot_ranges, subst, sym, take, take_all, target, touches, true, unwrap_or, ℕ, ◌%◌, ◌+◌, ◌<◌, ◌==◌, ◌^◌, ◌||◌, ◌∙◌, ◌∷◌, ◌≡◌, ◌≤◌}
+pub use Rattle.leases.proofs.BaseWords.{AreLent, AreOpen, Begins, Block, Bool, CertificateLog, Cmd, Command, DeviceContext, DriverKeeps, EntriesFit, EntryFits, Erstba, EventSegment, Evt, FollowedList, FollowsCertificate, FollowsList, FollowsRing, FollowsTrace, Header, HoldsAll, HoldsLents, InputContext, IsFound, IsInStep, IsNextRow, IsOtherRow, IsPlaced, IsShape, Known, Lease, LeaseBook, Leased, Lent, Link, List, MovesOn, None, Option, Range, Reg, Register, Row, SegmentTable, Shape, SlotEntry, SlotIsFree, Some, StandFrom, StandsAt, Usbcmd, Xfer, [], among_at, ap, arith, base_address, cases_Bool, cases_option, code, command_found, command_id_is, command_place, crossing_positive, driven, endpoint, eqb-true, event_here, false, false≢true, floor_number, get_or, given_count, index_at, index_in, inl, inr, is_command_kind, is_crossing, is_driver_kind, is_event_kind, is_input_context, is_of_ring, is_of_slot, is_passed, is_some, length, link_crossed, map, named, next_command, no_command_ring, none_here, not_found, number, place_count, place_of, refl, ring_here, same_leased, segments_in_turn, shape_allowed, shape_there, share_a_place, slice_get, slot_let_go, slot_ranges, subst, sym, take, take_all, target, touches, true, unwrap_or, ℕ, ◌%◌, ◌+◌, ◌<◌, ◌==◌, ◌^◌, ◌||◌, ◌∙◌, ◌∷◌, ◌≡◌, ◌≤◌}
 unfoldable pub use Rattle.leases.proofs.BaseWords.{code_told, come_to, comes_before, command_at, command_id, context_ranges, device_named, ended_at, ended_where, entry_of, event_shape, grown, in_turn, is_among, is_use_free, link_of, open_leases, passed_on, range_of_command, segment_ranges, shape_of, table_range, taken_device, with_begun, with_ring}
 pub use Rattle.leases.proofs.CertificateLogs.Beginning.{HasBegun, next_begins, nothing_begun}
 pub use Rattle.leases.proofs.CertificateLogs.EndingOne.{another_numbered, another_there, none_numbered, this_numbered, this_there}

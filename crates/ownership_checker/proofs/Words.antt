@@ -75,30 +75,30 @@ unfoldable pub use Rattle.ring_knowledge.specs.Rings.{command_at, on_ring}
 pub use Rattle.ring_knowledge.specs.Transfers.{transfer_read}
 pub use Rattle.ring_knowledge.specs.declared.lease.Lease.{Lease}
 pub use Rattle.ring_knowledge.specs.declared.ring_record.RingRecord.{RingRecord}
-pub use Rattle.safety.proofs.AreaFacts.{area_parts}
-pub use Rattle.safety.proofs.CommandRing.{no_places}
+pub use Rattle.safety.proofs.DevicesKeep.AreaFacts.{area_parts}
+pub use Rattle.safety.proofs.RingsKeep.CommandRing.{no_places}
 pub use Rattle.safety.proofs.DriverHistories.{kept_driver}
 pub use Rattle.safety.proofs.DriverRings.{endpoints_of, rings_of}
-pub use Rattle.safety.proofs.DriverRows.{nothing_keeps}
-pub use Rattle.safety.proofs.Headers.{command_named, ring_shape}
-pub use Rattle.safety.proofs.KeptRings.{still_of}
-pub use Rattle.safety.proofs.Lenient.{lenient_row}
-pub use Rattle.safety.proofs.NamesRing.{command_driver}
-pub use Rattle.safety.proofs.NothingFree.{free_same}
+pub use Rattle.safety.proofs.RingsKeep.DriverRows.{nothing_keeps}
+pub use Rattle.safety.proofs.HeaderRings.Headers.{command_named, ring_shape}
+pub use Rattle.safety.proofs.RingsKeep.KeptRings.{still_of}
+pub use Rattle.safety.proofs.HeaderRings.Lenient.{lenient_row}
+pub use Rattle.safety.proofs.RunKeeps.NamesRing.{command_driver}
+pub use Rattle.safety.proofs.RingsKeep.NothingFree.{free_same}
 pub use Rattle.safety.proofs.NothingKept.{nothing_kept}
-pub use Rattle.safety.proofs.ResetKeeps.{reset_keeps}
+pub use Rattle.safety.proofs.ResetRuns.ResetKeeps.{reset_keeps}
 pub use Rattle.safety.proofs.RingChanges.ComingGoing.{coming_keeps, going_keeps}
 pub use Rattle.safety.proofs.RingChanges.Headline.{headline}
 pub use Rattle.safety.proofs.RingChanges.KeptRings.{kept_coming, kept_going, kept_withdrawing}
 pub use Rattle.safety.proofs.RingChanges.LiveHeadline.{now_keeps}
 pub use Rattle.safety.proofs.RingChanges.Restored.{row_comes, row_keeps, row_keeps as restored_keeps, stopped_still}
 pub use Rattle.safety.proofs.RingChanges.Withdrawn.{stopped_with, withdraw_keeps}
-pub use Rattle.safety.proofs.RingIds.{none_has_256}
-pub use Rattle.safety.proofs.RingsOfHeader.{HasRing, has_ring}
-pub use Rattle.safety.proofs.SameDriver.{event_same}
-pub use Rattle.safety.proofs.StillPlacing.{still_reads}
-pub use Rattle.safety.proofs.TestsPassed.{AllFail, clean_tests, tests_fail}
-pub use Rattle.safety.proofs.UnfinishedBehind.{listed_unfinished}
+pub use Rattle.safety.proofs.HeaderRings.RingIds.{none_has_256}
+pub use Rattle.safety.proofs.HeaderRings.RingsOfHeader.{HasRing, has_ring}
+pub use Rattle.safety.proofs.Rows.SameDriver.{event_same}
+pub use Rattle.safety.proofs.RingsKeep.StillPlacing.{still_reads}
+pub use Rattle.safety.proofs.RingsKeep.TestsPassed.{AllFail, clean_tests, tests_fail}
+pub use Rattle.safety.proofs.Behind.UnfinishedBehind.{listed_unfinished}
 pub use Rattle.safety.proofs.Words.{no_flips}
 pub use Rattle.safety.specs.Harmless.{DoNoHarm}
 pub use Rattle.safety.specs.Keeps.{DriverKeeps, IsDriverRing, IsTransferRing}

@@ -66,7 +66,7 @@ use_is a b h = grind (arith, false≢true, eqb-true)
 pub leased_is : (a b : Leased) → same_leased a b ≡ true → a ≡ b
 leased_is a b h = grind (arith, number_is, false≢true, and_parts, use_is)
 
-same_number : (n : ℕ) → (n == n) ≡ true
+pub same_number : (n : ℕ) → (n == n) ≡ true
 same_number n = eq-eqb n n refl
 
 use_itself : (a : Use) → same_use a a ≡ true

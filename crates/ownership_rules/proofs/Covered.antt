@@ -13,12 +13,12 @@ unfolding with_lease
 inserted p l [] = refl
 inserted p l (m ∷ rest) = grind (arith, cases_Bool, or_swap, inserted p l rest)
 
-sorted : (p : Lease → Bool) (ls : List Lease) → list_any p (in_order ls) ≡ list_any p ls
+pub sorted : (p : Lease → Bool) (ls : List Lease) → list_any p (in_order ls) ≡ list_any p ls
 unfolding in_order
 sorted p [] = refl
 sorted p (l ∷ ls) = inserted p l (in_order ls) ∙ ap (λ b. p l || b) (sorted p ls)
 
-mapped : {X Y : Type 0} (p : Y → Bool) (f : X → Y) (xs : List X) → list_any p (map f xs) ≡ list_any (λ x. p (f x)) xs
+pub mapped : {X Y : Type 0} (p : Y → Bool) (f : X → Y) (xs : List X) → list_any p (map f xs) ≡ list_any (λ x. p (f x)) xs
 mapped p f [] = refl
 mapped p f (x ∷ xs) = ap (λ b. p (f x) || b) (mapped p f xs)
 
@@ -32,11 +32,11 @@ words_are : (h : Header) (a from to : ℕ) (l : Leased) → IsProper l → overl
 unfolding words_from words_bytes as_lease covers lease_start lease_bytes
 words_are h a from to l proper = grind arith
 
-from_is : (from to : ℕ) (l : Leased) → (as_lease from to l).from ≡ from
+pub from_is : (from to : ℕ) (l : Leased) → (as_lease from to l).from ≡ from
 unfolding as_lease
 from_is from to l = grind arith
 
-to_is : (from to : ℕ) (l : Leased) → (as_lease from to l).to ≡ to
+pub to_is : (from to : ℕ) (l : Leased) → (as_lease from to l).to ≡ to
 unfolding as_lease
 to_is from to l = grind arith
 
@@ -161,11 +161,11 @@ module _ (a : ℕ) where
         turn false g' o = refl
 
 module _ (h : Header) where
-  headers_alike : (past rows : List Row) → header_behind (header_now h past) rows ≡ header_now h (reverse_aux rows past)
+  pub headers_alike : (past rows : List Row) → header_behind (header_now h past) rows ≡ header_now h (reverse_aux rows past)
   headers_alike past [] = refl
   headers_alike past (row ∷ rows) = headers_alike (row ∷ past) rows
 
-  known_alike : (past rows : List Row) → known_behind (header_now h past) (known_now h past) rows ≡ known_now h (reverse_aux rows past)
+  pub known_alike : (past rows : List Row) → known_behind (header_now h past) (known_now h past) rows ≡ known_now h (reverse_aux rows past)
   known_alike past [] = refl
   known_alike past (row ∷ rows) = known_alike (row ∷ past) rows
 

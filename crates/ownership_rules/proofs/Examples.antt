@@ -3,7 +3,7 @@ use Rattle.ownership_rules.proofs.Words.{◌≡◌, ℕ, ◌+◌, List, [], ◌�
 
 -- a transfer ring of two segments, of 3 blocks at 0x30000 and of 2 blocks at 0x31000
 abbrev two_segments : Version → Header
-two_segments version = record { version = version; context_size = Bytes32; rings = record { id = 2; shape = record { kind = Xfer; segments = record { base = 0x30000; count = 3 } ∷ record { base = 0x31000; count = 2 } ∷ [] } } ∷ [] }
+two_segments version = record { version = version; context_size = Bytes32; rings = record { id = 2; shape = record { kind = Xfer; segments = record { base = 0x30000; count = 3 } ∷ record { base = 0x31000; count = 2 } ∷ []; offset = 0 } } ∷ [] }
 
 -- the two rows that give a Link: its pointer, then its control word
 abbrev link : ℕ → ℕ → ℕ → List Row
@@ -106,7 +106,7 @@ link_changed = refl
 
 -- a word of an event segment may not be written at all: here it is 0
 abbrev with_events : Header
-with_events = record { version = Three; context_size = Bytes32; rings = record { id = 1; shape = record { kind = Evt; segments = record { base = 0x20000; count = 16 } ∷ [] } } ∷ [] }
+with_events = record { version = Three; context_size = Bytes32; rings = record { id = 1; shape = record { kind = Evt; segments = record { base = 0x20000; count = 16 } ∷ []; offset = 0 } } ∷ [] }
 
 pub event_word_stored : verdict_from with_events nothing 4 (Write 0x20004 0 ∷ []) ≡ Some (4, WriteToOwned)
 unfolding rules_on_literals

@@ -2,7 +2,7 @@
 use Rattle.ownership_rules.proofs.Words.{◌≡◌, List, [], ◌∷◌, Some, None, refl, Cmd, Evt, Xfer, Bytes32, Version, One, Three, Header, Row, Sub, Write, Reg, Bell, Read, Usbcmd, Crcr, Dcbaap, Config, Erstsz, Erstba, Erdp, nothing, WriteToOwned, NotDeclared, NotWhole, RingFull, Busy, BadErdp, verdict_from, rules_on_literals}
 
 abbrev pub control_transfer_header : Header
-control_transfer_header = record { version = One; context_size = Bytes32; rings = record { id = 0; shape = record { kind = Cmd; segments = record { base = 65536; count = 16 } ∷ [] } } ∷ record { id = 1; shape = record { kind = Evt; segments = record { base = 131072; count = 16 } ∷ [] } } ∷ record { id = 2; shape = record { kind = Xfer; segments = record { base = 196608; count = 8 } ∷ [] } } ∷ [] }
+control_transfer_header = record { version = One; context_size = Bytes32; rings = record { id = 0; shape = record { kind = Cmd; segments = record { base = 65536; count = 16 } ∷ []; offset = 0 } } ∷ record { id = 1; shape = record { kind = Evt; segments = record { base = 131072; count = 16 } ∷ []; offset = 0 } } ∷ record { id = 2; shape = record { kind = Xfer; segments = record { base = 196608; count = 8 } ∷ []; offset = 0 } } ∷ [] }
 
 abbrev pub control_transfer_rows : List Row
 control_transfer_rows =
@@ -48,7 +48,7 @@ unfolding rules_on_literals
 control_transfer = refl
 
 abbrev pub dequeue_pointer_past_the_reads_header : Header
-dequeue_pointer_past_the_reads_header = record { version = One; context_size = Bytes32; rings = record { id = 0; shape = record { kind = Cmd; segments = record { base = 65536; count = 16 } ∷ [] } } ∷ record { id = 1; shape = record { kind = Evt; segments = record { base = 131072; count = 16 } ∷ [] } } ∷ record { id = 2; shape = record { kind = Xfer; segments = record { base = 196608; count = 4 } ∷ [] } } ∷ [] }
+dequeue_pointer_past_the_reads_header = record { version = One; context_size = Bytes32; rings = record { id = 0; shape = record { kind = Cmd; segments = record { base = 65536; count = 16 } ∷ []; offset = 0 } } ∷ record { id = 1; shape = record { kind = Evt; segments = record { base = 131072; count = 16 } ∷ []; offset = 0 } } ∷ record { id = 2; shape = record { kind = Xfer; segments = record { base = 196608; count = 4 } ∷ []; offset = 0 } } ∷ [] }
 
 abbrev pub dequeue_pointer_past_the_reads_rows : List Row
 dequeue_pointer_past_the_reads_rows =
@@ -69,7 +69,7 @@ unfolding rules_on_literals
 dequeue_pointer_past_the_reads = refl
 
 abbrev pub first_block_given_first_header : Header
-first_block_given_first_header = record { version = One; context_size = Bytes32; rings = record { id = 2; shape = record { kind = Xfer; segments = record { base = 196608; count = 4 } ∷ [] } } ∷ [] }
+first_block_given_first_header = record { version = One; context_size = Bytes32; rings = record { id = 2; shape = record { kind = Xfer; segments = record { base = 196608; count = 4 } ∷ []; offset = 0 } } ∷ [] }
 
 abbrev pub first_block_given_first_rows : List Row
 first_block_given_first_rows =
@@ -82,7 +82,7 @@ unfolding rules_on_literals
 first_block_given_first = refl
 
 abbrev pub ring_full_header : Header
-ring_full_header = record { version = One; context_size = Bytes32; rings = record { id = 2; shape = record { kind = Xfer; segments = record { base = 196608; count = 4 } ∷ [] } } ∷ [] }
+ring_full_header = record { version = One; context_size = Bytes32; rings = record { id = 2; shape = record { kind = Xfer; segments = record { base = 196608; count = 4 } ∷ []; offset = 0 } } ∷ [] }
 
 abbrev pub ring_full_rows : List Row
 ring_full_rows =
@@ -98,7 +98,7 @@ unfolding rules_on_literals
 ring_full = refl
 
 abbrev pub ring_wraps_header : Header
-ring_wraps_header = record { version = One; context_size = Bytes32; rings = record { id = 0; shape = record { kind = Cmd; segments = record { base = 65536; count = 16 } ∷ [] } } ∷ record { id = 1; shape = record { kind = Evt; segments = record { base = 131072; count = 16 } ∷ [] } } ∷ record { id = 2; shape = record { kind = Xfer; segments = record { base = 196608; count = 4 } ∷ [] } } ∷ [] }
+ring_wraps_header = record { version = One; context_size = Bytes32; rings = record { id = 0; shape = record { kind = Cmd; segments = record { base = 65536; count = 16 } ∷ []; offset = 0 } } ∷ record { id = 1; shape = record { kind = Evt; segments = record { base = 131072; count = 16 } ∷ []; offset = 0 } } ∷ record { id = 2; shape = record { kind = Xfer; segments = record { base = 196608; count = 4 } ∷ []; offset = 0 } } ∷ [] }
 
 abbrev pub ring_wraps_rows : List Row
 ring_wraps_rows =
@@ -147,7 +147,7 @@ unfolding rules_on_literals
 ring_wraps = refl
 
 abbrev pub stall_and_move_header : Header
-stall_and_move_header = record { version = One; context_size = Bytes32; rings = record { id = 0; shape = record { kind = Cmd; segments = record { base = 65536; count = 16 } ∷ [] } } ∷ record { id = 1; shape = record { kind = Evt; segments = record { base = 131072; count = 16 } ∷ [] } } ∷ record { id = 2; shape = record { kind = Xfer; segments = record { base = 196608; count = 8 } ∷ [] } } ∷ [] }
+stall_and_move_header = record { version = One; context_size = Bytes32; rings = record { id = 0; shape = record { kind = Cmd; segments = record { base = 65536; count = 16 } ∷ []; offset = 0 } } ∷ record { id = 1; shape = record { kind = Evt; segments = record { base = 131072; count = 16 } ∷ []; offset = 0 } } ∷ record { id = 2; shape = record { kind = Xfer; segments = record { base = 196608; count = 8 } ∷ []; offset = 0 } } ∷ [] }
 
 abbrev pub stall_and_move_rows : List Row
 stall_and_move_rows =
@@ -198,7 +198,7 @@ unfolding rules_on_literals
 stall_and_move = refl
 
 abbrev pub two_descriptors_header : Header
-two_descriptors_header = record { version = One; context_size = Bytes32; rings = record { id = 2; shape = record { kind = Xfer; segments = record { base = 196608; count = 4 } ∷ [] } } ∷ [] }
+two_descriptors_header = record { version = One; context_size = Bytes32; rings = record { id = 2; shape = record { kind = Xfer; segments = record { base = 196608; count = 4 } ∷ []; offset = 0 } } ∷ [] }
 
 abbrev pub two_descriptors_rows : List Row
 two_descriptors_rows =
@@ -213,7 +213,7 @@ unfolding rules_on_literals
 two_descriptors = refl
 
 abbrev pub undeclared_giving_header : Header
-undeclared_giving_header = record { version = One; context_size = Bytes32; rings = record { id = 2; shape = record { kind = Xfer; segments = record { base = 196608; count = 4 } ∷ [] } } ∷ [] }
+undeclared_giving_header = record { version = One; context_size = Bytes32; rings = record { id = 2; shape = record { kind = Xfer; segments = record { base = 196608; count = 4 } ∷ []; offset = 0 } } ∷ [] }
 
 abbrev pub undeclared_giving_rows : List Row
 undeclared_giving_rows =
@@ -225,7 +225,7 @@ unfolding rules_on_literals
 undeclared_giving = refl
 
 abbrev pub write_to_a_given_block_header : Header
-write_to_a_given_block_header = record { version = One; context_size = Bytes32; rings = record { id = 2; shape = record { kind = Xfer; segments = record { base = 196608; count = 4 } ∷ [] } } ∷ [] }
+write_to_a_given_block_header = record { version = One; context_size = Bytes32; rings = record { id = 2; shape = record { kind = Xfer; segments = record { base = 196608; count = 4 } ∷ []; offset = 0 } } ∷ [] }
 
 abbrev pub write_to_a_given_block_rows : List Row
 write_to_a_given_block_rows =
@@ -240,7 +240,7 @@ write_to_a_given_block = refl
 
 -- two endpoints of one slot are stopped, and the second Stop Endpoint is given before the first is done
 abbrev pub endpoints_stopped_together_header : Version → Header
-endpoints_stopped_together_header version = record { version = version; context_size = Bytes32; rings = record { id = 0; shape = record { kind = Cmd; segments = record { base = 65536; count = 16 } ∷ [] } } ∷ record { id = 1; shape = record { kind = Evt; segments = record { base = 131072; count = 16 } ∷ [] } } ∷ record { id = 2; shape = record { kind = Xfer; segments = record { base = 196608; count = 4 } ∷ [] } } ∷ record { id = 3; shape = record { kind = Xfer; segments = record { base = 200704; count = 4 } ∷ [] } } ∷ [] }
+endpoints_stopped_together_header version = record { version = version; context_size = Bytes32; rings = record { id = 0; shape = record { kind = Cmd; segments = record { base = 65536; count = 16 } ∷ []; offset = 0 } } ∷ record { id = 1; shape = record { kind = Evt; segments = record { base = 131072; count = 16 } ∷ []; offset = 0 } } ∷ record { id = 2; shape = record { kind = Xfer; segments = record { base = 196608; count = 4 } ∷ []; offset = 0 } } ∷ record { id = 3; shape = record { kind = Xfer; segments = record { base = 200704; count = 4 } ∷ []; offset = 0 } } ∷ [] }
 
 abbrev pub endpoints_stopped_together_rows : List Row
 endpoints_stopped_together_rows =

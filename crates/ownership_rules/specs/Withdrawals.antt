@@ -24,6 +24,14 @@ may_be_told shape v q = nat_le (floor_number v) q && nat_lt q (ceiling shape v) 
 unfoldable pub may_tell_value : Shape → RingView → ℕ → Bool
 may_tell_value shape v p = list_any (may_be_told shape v) (range_with_len p (descriptor_length v p))
 
+-- no descriptor begins at p, or one of its blocks was withdrawn before
+unfoldable pub is_no_descriptor : RingView → ℕ → Bool
+is_no_descriptor v p = descriptor_length v p == 0 || list_any v.withdrawn (range_with_len p (descriptor_length v p))
+
+-- none begins at p that may be withdrawn: no descriptor does, or one of its blocks was withdrawn before, or an event may tell a value of it
+unfoldable pub is_unfit : Shape → RingView → ℕ → Bool
+is_unfit shape v p = is_no_descriptor v p || may_tell_value shape v p
+
 module _ (h : Header) where
   -- the endpoint has the ring, is Stopped, and no unfinished command touches it
   unfoldable pub rests_with : Known → ℕ → ℕ → ℕ → Bool
@@ -32,11 +40,9 @@ module _ (h : Header) where
   unfoldable pub has_stopped : Known → ℕ → Bool
   has_stopped k r = list_any (λ s. list_any (λ i. rests_with k r s i) (range_with_len 1 31)) (range_with_len 1 255)
 
-  -- no endpoint that has the ring has stopped, or no descriptor begins at p, or one of its blocks was withdrawn before, or an event may tell a value of it
+  -- no endpoint that has the ring has stopped, or no descriptor begins at p that may be withdrawn
   unfoldable pub is_bad_withdraw : Known → ℕ → ℕ → Bool
-  is_bad_withdraw k r p =
-      not (has_stopped k r) || (descriptor_length (k.ring r) p == 0
-      || (list_any (k.ring r).withdrawn (range_with_len p (descriptor_length (k.ring r) p)) || may_tell_value (shape_of h r) (k.ring r) p))
+  is_bad_withdraw k r p = not (has_stopped k r) || is_unfit (shape_of h r) (k.ring r) p
 
   -- what the trace's version refuses besides: versions 1 and 2 a descriptor below the ceiling, version 3 one that the floor has come into, and
   -- version 4 one that the floor has passed whole: of one inside which the controller stopped the rest is taken back too (xHCI 4.6.9)

@@ -67,24 +67,24 @@ unfoldable pub use Rattle.ring_knowledge.specs.Resets.{behind_blocks}
 pub use Rattle.ring_knowledge.specs.RingRecords.{FollowsRing}
 unfoldable pub use Rattle.ring_knowledge.specs.Rings.{code_told, command_at, event_at, next_command}
 pub use Rattle.ring_knowledge.specs.declared.ring_record.RingRecord.{RingRecord}
-pub use Rattle.safety.proofs.CleanRows.{event_facts}
+pub use Rattle.safety.proofs.Rows.CleanRows.{event_facts}
 pub use Rattle.safety.proofs.DriverRings.{endpoints_of, rings_of, transfer_ring}
-pub use Rattle.safety.proofs.Endpoints.{change_keeps}
-pub use Rattle.safety.proofs.Headers.{header_parts}
-pub use Rattle.safety.proofs.KeptRings.{CompletionFacts, by_completion, command_holds, next_unfinished}
+pub use Rattle.safety.proofs.StatesKeep.Endpoints.{change_keeps}
+pub use Rattle.safety.proofs.HeaderRings.Headers.{header_parts}
+pub use Rattle.safety.proofs.RingsKeep.KeptRings.{CompletionFacts, by_completion, command_holds, next_unfinished}
 pub use Rattle.safety.proofs.LazyRuns.Induction.{kept_on, later_kept, one_more}
 pub use Rattle.safety.proofs.LazyRuns.LazySteps.{lazy_steps_are}
 pub use Rattle.safety.proofs.LazyRuns.StepsCounted.{few_steps}
 pub use Rattle.safety.proofs.LazyRuns.TransferFacts.{stopping_taken, transfer_facts}
 pub use Rattle.safety.proofs.LazyRuns.WholeRuns.{all_are_read, lazy_law}
-pub use Rattle.safety.proofs.Placings.{ReadyAt, all_ready, dropped, map_map, ready_next, ring_at}
+pub use Rattle.safety.proofs.Targets.Placings.{ReadyAt, all_ready, dropped, map_map, ready_next, ring_at}
 pub use Rattle.safety.proofs.RingChanges.Headline.{headline}
 pub use Rattle.safety.proofs.RingChanges.KeptRings.{kept_coming, kept_going}
 pub use Rattle.safety.proofs.RingChanges.LiveHeadline.{now_keeps}
-pub use Rattle.safety.proofs.RingIds.{having_transfer, none_has_256}
-pub use Rattle.safety.proofs.SafeContext.{command_is_ring, named_if_taken, next_is}
-pub use Rattle.safety.proofs.StatesPlaced.{is_off_of, on_is}
-pub use Rattle.safety.proofs.TestsPassed.{any_of_map, each_fails}
+pub use Rattle.safety.proofs.HeaderRings.RingIds.{having_transfer, none_has_256}
+pub use Rattle.safety.proofs.NoHarm.SafeContext.{command_is_ring, named_if_taken, next_is}
+pub use Rattle.safety.proofs.StatesKeep.StatesPlaced.{is_off_of, on_is}
+pub use Rattle.safety.proofs.RingsKeep.TestsPassed.{any_of_map, each_fails}
 pub use Rattle.safety.proofs.Words.{Change, Data, Link, Look, NextRow, RingSpot, Shape, Spot, Step, Xfer, cases_Bool, drop_all, false≢true, flat_map, fun_ext, is_command_completion, is_crossing, is_ring, is_success, is_transfer_event, list_any, list_any-append, ltb-true, number, put, rank, reverse-append, shape_or}
 unfoldable pub use Rattle.safety.proofs.Words.{changed_by}
 pub use Rattle.safety.specs.EndpointsKeep.{EndpointsKeep}

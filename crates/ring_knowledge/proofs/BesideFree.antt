@@ -59,12 +59,9 @@ module _ (shape : Shape) (v : RingView) (r : RingRecord) (follows : FollowsMarks
       let due = due_crossing shape follows.allowed (floor_number v) j (place_at-Link shape follows.allowed a j 3 at).0 in
       sym (ap (λ b. b && is_beside_free v due.0) clear) ∙ beside_at j due.0 at due.1 due.2 due.3
 
-  -- one that is, behind position p
-  pub marked_beside : (j p : ℕ) → place_at shape a ≡ Some (AtLink j 3) → get_or r.crossed.items j false ≡ true → max (number r.floor) 1 ≤ p + 1 → p + 1 < max (number r.floor) 1 + place_count shape →
-      link_crossed shape (p + 1) ≡ Some j → (is_unrestored v p || is_unrestored v (p + 1)) ≡ stands_beside_free shape v a
-  marked_beside j p at marked low high over =
+  -- one that is, on the way to q
+  pub marked_beside : (j q : ℕ) → place_at shape a ≡ Some (AtLink j 3) → get_or r.crossed.items j false ≡ true → max (number r.floor) 1 ≤ q → q < max (number r.floor) 1 + place_count shape →
+      link_crossed shape q ≡ Some j → (is_unrestored v (q - 1) || is_unrestored v q) ≡ stands_beside_free shape v a
+  marked_beside j q at marked low high over =
       let floor = ap number follows.floor in
-      let before : p + 1 - 1 ≡ p = omega arith in
-      ap (λ n. is_unrestored v n || is_unrestored v (p + 1)) (sym before)
-      ∙ sym (ap (λ b. b && is_beside_free v (p + 1)) marked)
-      ∙ beside_at j (p + 1) at (omega (arith, floor, low)) (omega (arith, floor, high)) over
+      sym (ap (λ b. b && is_beside_free v q) marked) ∙ beside_at j q at (omega (arith, floor, low)) (omega (arith, floor, high)) over

@@ -1,5 +1,5 @@
 -- Marks that are cleared in turn
-use Rattle.ring_knowledge.proofs.Words.{◌≡◌, ◌+◌, ◌%◌, ◌≤◌, ◌∷◌, ℕ, suc, zero, List, [], Bool, false, refl, arith, get_or, set, get_or-set_other, length-set, cases_lt, AreCleared, rules}
+use Rattle.ring_knowledge.proofs.Words.{◌≡◌, ◌+◌, ◌≤◌, ◌∷◌, ℕ, suc, zero, List, [], Bool, false, refl, arith, get_or, set, get_or-set_other, length-set, cases_lt, AreCleared, rules}
 
 -- a cleared mark
 cleared_at : (marks : List Bool) (j : ℕ) → get_or (set marks j false) j false ≡ false
@@ -25,9 +25,5 @@ module _ (R : ℕ → ℕ → Type 0) (old : List Bool) (from : ℕ) where
   none_here marks k so_far never = search (rules, cases_lt)
 
 -- the same with equal numbers
-pub same_places : (old new : List Bool) (count count' from from' to to' : ℕ) → count ≡ count' → from ≡ from' → to ≡ to' →
-    AreCleared (λ p i. p % count ≡ i) old new from to → AreCleared (λ p i. p % count' ≡ i) old new from' to'
-same_places old new count count' from from' to to' e f g cleared = rw (← e, ← f, ← g) cleared
-
 pub same_numbers : (R : ℕ → ℕ → Type 0) (old new : List Bool) (from from' to to' : ℕ) → from ≡ from' → to ≡ to' → AreCleared R old new from to → AreCleared R old new from' to'
 same_numbers R old new from from' to to' f g cleared = rw (← f, ← g) cleared

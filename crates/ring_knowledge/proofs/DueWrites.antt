@@ -1,5 +1,5 @@
 -- What a write would give of a ring, by the place of its address: xHCI 4.9.2
-use Rattle.ring_knowledge.proofs.MiddleLaws.{none-some, ◌≡◌, ◌≢◌, ◌+◌, ◌-◌, ◌*◌, ◌%◌, ◌<◌, ◌≤◌, ◌∙◌, ◌==◌, ◌&&◌, ◌||◌, ℕ, Bool, true, false, Some, None, refl, ap, sym, arith, inl, inr, max, nat_lt, nat_le, lt-ltb, le-ltb, le-leb, eq-eqb, ne_eqb, eqb-true, ltb-true, leb-true, cases_lt, cases_eq, and_parts, or_cases, and_from, Place, AtData, AtLink, Spot, Shape, IsShape, place_count, address_of, cycle_of, link_crossed, is_crossing, link_address, place_at, number, is_due, is_crossing_due, gives, gives_crossing, place_count_pos, address_of-mod, place_at-Data, place_at-Link, place_at-address_of, place_at-link_address, crossed_link, crossing_positive, is_crossing-from, link_address_is, is_the, rules, false_unless, same_due, same_due_crossing}
+use Rattle.ring_knowledge.proofs.MiddleLaws.{none-some, ◌≡◌, ◌≢◌, ◌+◌, ◌-◌, ◌*◌, ◌%◌, ◌<◌, ◌≤◌, ◌∙◌, ◌==◌, ◌&&◌, ◌||◌, ℕ, Bool, true, false, Some, None, refl, ap, sym, arith, inl, inr, max, nat_lt, nat_le, lt-ltb, le-ltb, le-leb, eq-eqb, ne_eqb, eqb-true, ltb-true, leb-true, cases_lt, cases_eq, and_parts, or_cases, and_from, Place, AtData, AtLink, Spot, Shape, IsShape, place_count, place_of, address_of, cycle_of, link_crossed, is_crossing, link_address, place_at, number, is_due, is_crossing_due, gives, gives_crossing, place_at-Link, place_at-address_of, place_at-link_address, crossed_link, crossing_positive, is_crossing-from, link_address_is, is_the, rules, false_unless, same_due, same_due_crossing, word_there}
 
 pub data_is : (i v j w : ℕ) → Some (AtData i v) ≡ Some (AtData j w) → (i ≡ j) × (v ≡ w)
 data_is i v j w e = (cc, cc)
@@ -19,7 +19,7 @@ module _ (shape : Shape) (allowed : IsShape shape) (floor : Spot) where
   pub record Gives (p a w : ℕ) : Type 0 where
     pub from : number floor ≤ p
     pub within : p < number floor + place_count shape
-    pub word_at : place_at shape a ≡ Some (AtData (p % place_count shape) 3)
+    pub word_at : place_at shape a ≡ Some (AtData (place_of shape p) 3)
     pub cycle_is : w % 2 ≡ cycle_of shape p
 
   pub gives-true : (p a w : ℕ) → gives shape floor p a w ≡ true → Gives p a w
@@ -72,15 +72,15 @@ module _ (shape : Shape) (allowed : IsShape shape) (floor : Spot) where
 
   -- a word of a data place: its due position, with its cycle, by the control word
   module _ (a w i v : ℕ) (at : place_at shape a ≡ Some (AtData i v)) where
-    pub gives-data : (q : ℕ) → v ≡ 3 → number floor ≤ q → q < number floor + place_count shape → q % place_count shape ≡ i → w % 2 ≡ cycle_of shape q →
+    pub gives-data : (q : ℕ) → v ≡ 3 → number floor ≤ q → q < number floor + place_count shape → place_of shape q ≡ i → w % 2 ≡ cycle_of shape q →
         (p : ℕ) → gives shape floor p a w ≡ is_the (Some q) p
     gives-data q third low high here cycle p = elim (cases_eq p q) [
-      | inl same ↦ grind (arith, place_at-Data, address_of-mod, eq-eqb, nat_le, le-leb, nat_lt, lt-ltb, and_from)
+      | inl same ↦ let word_is = word_there shape allowed a i v q at here in grind (arith, eq-eqb, nat_le, le-leb, nat_lt, lt-ltb, and_from)
       | inr other ↦
           false_unless (gives shape floor p a w) (λ h.
           let g : Gives p a w = gives-true p a w h in
-          let place_is = data_is i v (p % place_count shape) 3 (sym at ∙ g.word_at) in
-          other (same_due (number floor) (place_count shape) p q (place_count_pos shape allowed) g.from g.within low high (sym place_is.0 ∙ sym here)))
+          let place_is = data_is i v (place_of shape p) 3 (sym at ∙ g.word_at) in
+          other (same_due shape allowed (number floor) p q g.from g.within low high (sym place_is.0 ∙ sym here)))
           ∙ sym (ne_eqb p q other)
     ]
 
@@ -89,9 +89,9 @@ module _ (shape : Shape) (allowed : IsShape shape) (floor : Spot) where
     gives-other_word other p = grind (arith, false_unless, gives-true, data_is)
 
     -- nor does the control word with the other cycle
-    pub gives-other_cycle : (q : ℕ) → number floor ≤ q → q < number floor + place_count shape → q % place_count shape ≡ i → w % 2 ≢ cycle_of shape q →
+    pub gives-other_cycle : (q : ℕ) → number floor ≤ q → q < number floor + place_count shape → place_of shape q ≡ i → w % 2 ≢ cycle_of shape q →
         (p : ℕ) → gives shape floor p a w ≡ false
-    gives-other_cycle q low high here other p = search (rules, false_unless, gives-true, data_is, same_due, place_count_pos)
+    gives-other_cycle q low high here other p = search (rules, false_unless, gives-true, data_is, same_due)
 
     pub no_crossing_of_data : (q : ℕ) → gives_crossing shape floor q a w ≡ false
     no_crossing_of_data q = search (rules, false_unless, found, gives_crossing-true, data_no_link)

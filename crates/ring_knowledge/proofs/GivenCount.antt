@@ -1,5 +1,5 @@
 -- How many positions are given without a gap
-use Rattle.ring_knowledge.proofs.MiddleLaws.{◌≡◌, ◌+◌, ◌<◌, ◌≤◌, ◌%◌, ℕ, suc, zero, true, false, refl, sym, arith, cases_lt, cases_eq, false≢true, Shape, place_count, RingView, Writes, changed, new_ring, floor_number, is_step_given, is_way_given, first_not_given, given_count, RingRecord, FollowsMarks, FollowsRing, rules, noted_past, step_not_given}
+use Rattle.ring_knowledge.proofs.MiddleLaws.{◌≡◌, ◌+◌, ◌<◌, ◌≤◌, ℕ, suc, zero, true, false, refl, sym, arith, cases_lt, cases_eq, false≢true, Shape, place_count, RingView, Writes, changed, new_ring, floor_number, is_step_given, is_way_given, first_not_given, given_count, RingRecord, FollowsMarks, FollowsRing, rules, noted_past, step_not_given, place_of}
 
 -- the steps up to g are given, and that to g isn't
 counted : (shape : Shape) (v : RingView) (n q g : ℕ) → q ≤ g → g ≤ q + n → ((r : ℕ) → q ≤ r → r < g → is_step_given shape v r ≡ true) → is_step_given shape v g ≡ false →
@@ -11,7 +11,7 @@ counted shape v (suc n) q g low high steps stop = search (rules, cases_eq, first
 -- no step is given that is a lap from the floor
 pub past_not_given : (shape : Shape) (v : RingView) (r : RingRecord) → FollowsMarks shape v r → (q : ℕ) → floor_number v + place_count shape ≤ q → is_step_given shape v q ≡ false
 past_not_given shape v r follows q past =
-    sym (step_not_given shape v r follows q (noted_past (floor_number v) (place_count shape) r.given.items (q % place_count shape) q past))
+    sym (step_not_given shape v r follows q (noted_past (floor_number v) (place_count shape) r.given.items (place_of shape q) q past))
 
 pub count_is : (shape : Shape) (v : RingView) (r : RingRecord) → FollowsRing shape v r → r.count ≡ given_count shape v
 unfolding given_count

@@ -1,5 +1,5 @@
 -- What a reset does to a ring that a record follows, and which gaps it has
-use Rattle.ring_knowledge.proofs.Words.{◌≡◌, ◌≢◌, ◌+◌, ◌-◌, ◌%◌, ◌<◌, ◌≤◌, ◌∙◌, ◌&&◌, ◌||◌, ℕ, suc, zero, Bool, true, false, refl, ap, sym, arith, not, nat_le, le-leb, list_any, Data, Shape, place_count, is_crossing, after, RingView, floor_number, due_positions, is_way_given, is_step_given, given_count, is_reached, are_given, are_ways_given, RingRecord, is_noted, FollowsMarks, FollowsRing, least_crossing, cases_lt, cases_eq, false≢true, and_from, inl, inr, lt-leb, link_of, behind_blocks, first_free}
+use Rattle.ring_knowledge.proofs.Words.{◌≡◌, ◌≢◌, ◌+◌, ◌-◌, ◌<◌, ◌≤◌, ◌∙◌, ◌&&◌, ◌||◌, ℕ, suc, zero, Bool, true, false, refl, ap, sym, arith, not, nat_le, le-leb, list_any, Data, Shape, place_count, is_crossing, after, RingView, floor_number, due_positions, is_way_given, is_step_given, given_count, is_reached, are_given, are_ways_given, RingRecord, is_noted, FollowsMarks, FollowsRing, least_crossing, cases_lt, cases_eq, false≢true, and_from, inl, inr, lt-leb, link_of, behind_blocks, first_free, place_of}
 use Rattle.ring_knowledge.proofs.MiddleLaws.{any_at, any_none, noted_below}
 use Rattle.ring_knowledge.proofs.GivenCount.{count_is}
 use Rattle.ring_knowledge.proofs.PassedBlocks.{behind_reached}
@@ -51,7 +51,7 @@ module _ (shape : Shape) (v : RingView) (r : RingRecord) where
   step_below : FollowsMarks shape v r → (q : ℕ) → q < floor_number v → is_step_given shape v q ≡ true
   unfolding is_step_given is_way_given
   step_below marks q below =
-      and_from (v.given q) (is_way_given shape v q) (marks.given q ∙ noted_below (floor_number v) (place_count shape) r.given.items (q % place_count shape) q below)
+      and_from (v.given q) (is_way_given shape v q) (marks.given q ∙ noted_below (floor_number v) (place_count shape) r.given.items (place_of shape q) q below)
       (way_marked (is_crossing shape q) (v.crossed q) (is_noted (least_crossing v) (place_count shape) r.crossed.items (link_of shape q) q) (marks.crossed q)
       (noted_below (least_crossing v) (place_count shape) r.crossed.items (link_of shape q) q (omega arith)))
 
@@ -71,7 +71,7 @@ module _ (shape : Shape) (v : RingView) (r : RingRecord) where
         ap (λ t. is_reached shape v t) (sym (behind_block shape (suc p) (omega arith)) ∙ ap (λ q. after shape q) e) ∙ behind_reached shape v r known p (omega arith)
 
     -- one from the count on makes a gap
-    pub gap_at : (p : ℕ) → r.count ≤ p → p < floor_number v + place_count shape → is_noted (floor_number v) (place_count shape) r.given.items (p % place_count shape) p ≡ true →
+    pub gap_at : (p : ℕ) → r.count ≤ p → p < floor_number v + place_count shape → is_noted (floor_number v) (place_count shape) r.given.items (place_of shape p) p ≡ true →
         list_any (λ q. v.given q && nat_le (given_count shape v) q) (due_positions shape v) ≡ true
     unfolding due_positions
     gap_at p from within noted =
@@ -79,7 +79,7 @@ module _ (shape : Shape) (v : RingView) (r : RingRecord) where
         (and_from (v.given p) (nat_le (given_count shape v) p) (known.marks.given p ∙ noted) (le-leb (given_count shape v) p (omega (arith, count_is shape v r known))))
 
     -- and without one there is none
-    pub no_gap : ((p : ℕ) → r.count ≤ p → p < floor_number v + place_count shape → is_noted (floor_number v) (place_count shape) r.given.items (p % place_count shape) p ≡ false) →
+    pub no_gap : ((p : ℕ) → r.count ≤ p → p < floor_number v + place_count shape → is_noted (floor_number v) (place_count shape) r.given.items (place_of shape p) p ≡ false) →
         list_any (λ q. v.given q && nat_le (given_count shape v) q) (due_positions shape v) ≡ false
     unfolding due_positions
     no_gap none = any_none (λ q. v.given q && nat_le (given_count shape v) q) (floor_number v) (place_count shape) (λ p low high. elim (cases_lt p r.count) [

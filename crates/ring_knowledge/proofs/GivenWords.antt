@@ -1,10 +1,10 @@
 -- What a write gives of a ring that a record follows
-use Rattle.ring_knowledge.proofs.UpperLaws.{not-true, IsFromFloor, RingGiving, List, Contains, nat_le, nat_lt, leb-true, subst, gives_is, position_given_is, ◌≡◌, ◌+◌, ◌%◌, ◌<◌, ◌≤◌, ◌∷◌, ◌∙◌, ◌&&◌, ℕ, [], true, false, Option, None, Some, refl, ap, sym, arith, get_or, cond, not, max, option_map, IfSome, eq-eqb, ne_eqb, and_parts, AtData, AtLink, Shape, place_count, link_crossed, place_at, number, RingView, floor_number, gives, gives_crossing, due_positions, due_crossings, positions_given, crossings_given, link_of, is_crossing-from, RingRecord, is_noted, Position, Crossing, FollowsMarks, is_the, least_crossing, positions_of, crossings_of, rules, and_right, both_ways, noted_due, false_unless, filter_none, filter_only, link_of-crossed, data_is, link_is, Gives, gives-true, GivesCrossing, gives_crossing-true}
+use Rattle.ring_knowledge.proofs.UpperLaws.{not-true, IsFromFloor, RingGiving, List, Contains, nat_le, nat_lt, leb-true, subst, gives_is, position_given_is, ◌≡◌, ◌+◌, ◌<◌, ◌≤◌, ◌∷◌, ◌∙◌, ◌&&◌, ℕ, [], true, false, Option, None, Some, refl, ap, sym, arith, get_or, cond, not, max, option_map, IfSome, eq-eqb, ne_eqb, and_parts, AtData, AtLink, Shape, place_count, link_crossed, place_at, number, RingView, floor_number, gives, gives_crossing, due_positions, due_crossings, positions_given, crossings_given, link_of, is_crossing-from, RingRecord, is_noted, Position, Crossing, FollowsMarks, is_the, least_crossing, positions_of, crossings_of, rules, and_right, both_ways, noted_due, false_unless, filter_none, filter_only, link_of-crossed, data_is, link_is, Gives, gives-true, GivesCrossing, gives_crossing-true, place_of}
 
 module _ (shape : Shape) (v : RingView) (r : RingRecord) (follows : FollowsMarks shape v r) where
   -- the mark of a due position
-  pub given_due : (p : ℕ) → floor_number v ≤ p → p < floor_number v + place_count shape → v.given p ≡ get_or r.given.items (p % place_count shape) false
-  given_due p low high = follows.given p ∙ noted_due (floor_number v) (place_count shape) r.given.items (p % place_count shape) p low high
+  pub given_due : (p : ℕ) → floor_number v ≤ p → p < floor_number v + place_count shape → v.given p ≡ get_or r.given.items (place_of shape p) false
+  given_due p low high = follows.given p ∙ noted_due (floor_number v) (place_count shape) r.given.items (place_of shape p) p low high
 
   -- the mark of a due crossing
   pub crossed_due : (q j : ℕ) → least_crossing v ≤ q → q < least_crossing v + place_count shape → link_crossed shape q ≡ Some j → v.crossed q ≡ get_or r.crossed.items j false
@@ -28,7 +28,7 @@ module _ (shape : Shape) (v : RingView) (r : RingRecord) (follows : FollowsMarks
         (λ p low high. false_unless (not (v.given p) && gives shape v.floor p a w) (λ h.
         let parts = and_parts (not (v.given p)) (gives shape v.floor p a w) h in
         let g : Gives shape follows.allowed v.floor p a w = gives-true shape follows.allowed v.floor p a w parts.1 in
-        let here = (data_is (p % place_count shape) 3 i u (sym g.word_at ∙ at)).0 in
+        let here = (data_is (place_of shape p) 3 i u (sym g.word_at ∙ at)).0 in
         both_ways (v.given p) (not-true (v.given p) parts.0) (given_due p low high ∙ ap (λ n. get_or r.given.items n false) here ∙ marked)))
 
     pub crossings_marked : (j u : ℕ) → place_at shape a ≡ Some (AtLink j u) → get_or r.crossed.items j false ≡ true → crossings_given shape v a w ≡ []
@@ -44,7 +44,7 @@ module _ (shape : Shape) (v : RingView) (r : RingRecord) (follows : FollowsMarks
         both_ways (v.crossed q) (not-true (v.crossed q) parts.0) (crossed_due q i g.from g.within g.over ∙ ap (λ n. get_or r.crossed.items n false) here ∙ marked)))
 
     -- a position that isn't given yet
-    pub positions_one : (i q : ℕ) → get_or r.given.items i false ≡ false → number r.floor ≤ q → q < number r.floor + place_count shape → q % place_count shape ≡ i →
+    pub positions_one : (i q : ℕ) → get_or r.given.items i false ≡ false → number r.floor ≤ q → q < number r.floor + place_count shape → place_of shape q ≡ i →
         ((p : ℕ) → gives shape r.floor p a w ≡ is_the (Some q) p) → positions_given shape v a w ≡ q ∷ []
     unfolding positions_given due_positions
     positions_one i q free low high here gives_it =
@@ -75,7 +75,7 @@ module _ (shape : Shape) (v : RingView) (r : RingRecord) (follows : FollowsMarks
 
     -- what is given of a place that isn't given yet: o is what the write would give
     pub positions_found : (i : ℕ) (o : Option ℕ) → get_or r.given.items i false ≡ false → ((p : ℕ) → gives shape r.floor p a w ≡ is_the o p) →
-        IfSome o (λ q. (number r.floor ≤ q) × (q < number r.floor + place_count shape) × (q % place_count shape ≡ i)) → positions_given shape v a w ≡ positions_of (option_map Position o)
+        IfSome o (λ q. (number r.floor ≤ q) × (q < number r.floor + place_count shape) × (place_of shape q ≡ i)) → positions_given shape v a w ≡ positions_of (option_map Position o)
     positions_found i None free gives_it due = positions_none gives_it
     positions_found i (Some q) free gives_it due = positions_one i q free due.0 due.1 due.2 gives_it
 

@@ -1,5 +1,5 @@
 -- A record with the mark of what a write gives follows what is known after the write
-use Rattle.ring_knowledge.proofs.UpperLaws.{none-some, ◌≡◌, ◌+◌, ◌%◌, ◌<◌, ◌≤◌, ◌∷◌, ◌∙◌, ◌==◌, ◌&&◌, ◌||◌, ℕ, List, [], Bool, true, false, None, Some, refl, get_or, ap, sym, arith, inl, inr, length, set, subst, Contains, eq-eqb, ne_eqb, length-set, mod-lt, cases_Bool, false≢true, Shape, place_count, links, link_crossed, is_crossing, RingView, Writes, changed, floor_number, gives, gives_crossing, positions_given, crossings_given, is_step_given, is_way_given, link_of, place_count_pos, crossed_link, is_crossing-from, gives_is, position_given, position_given_is, crossing_given, crossing_given_is, RingRecord, is_noted, FollowsMarks, FollowsRing, least_crossing, or_left, rules, false_unless, noted_more, same_due, same_due_crossing, link_of-crossed, GivesCrossing, gives_crossing-true}
+use Rattle.ring_knowledge.proofs.UpperLaws.{none-some, ◌≡◌, ◌+◌, ◌<◌, ◌≤◌, ◌∷◌, ◌∙◌, ◌==◌, ◌&&◌, ◌||◌, ℕ, List, [], Bool, true, false, None, Some, refl, get_or, ap, sym, arith, inl, inr, length, set, subst, Contains, eq-eqb, ne_eqb, length-set, cases_Bool, false≢true, Shape, place_count, links, link_crossed, is_crossing, RingView, Writes, changed, floor_number, gives, gives_crossing, positions_given, crossings_given, is_step_given, is_way_given, link_of, crossed_link, is_crossing-from, gives_is, position_given, position_given_is, crossing_given, crossing_given_is, RingRecord, is_noted, FollowsMarks, FollowsRing, least_crossing, or_left, rules, false_unless, noted_more, same_due, same_due_crossing, link_of-crossed, GivesCrossing, gives_crossing-true, place_of, place_below}
 
 none_in : (n : ℕ) → Contains [] n → ⊥
 none_in n c = omega (arith, c.1)
@@ -50,7 +50,7 @@ module _ (shape : Shape) (v : RingView) (a w : ℕ) where
   module _ (r : RingRecord) (follows : FollowsMarks shape v r) where
     -- marks that note what is given behind the write
     with_marks : (given crossed : List Bool) → length given ≡ length r.given.items → length crossed ≡ length r.crossed.items →
-        ((p : ℕ) → (v.given p || gives shape v.floor p a w) ≡ is_noted (floor_number v) (place_count shape) given (p % place_count shape) p) →
+        ((p : ℕ) → (v.given p || gives shape v.floor p a w) ≡ is_noted (floor_number v) (place_count shape) given (place_of shape p) p) →
         ((q : ℕ) → (v.crossed q || gives_crossing shape v.floor q a w) ≡ (is_crossing shape q && is_noted (least_crossing v) (place_count shape) crossed (link_of shape q) q)) →
         (n : RingRecord) → HasMarks r n given crossed → FollowsMarks shape (changed shape v (Writes a w)) n
     with_marks given crossed places segments positions crossings n has = grind (arith, or_left)
@@ -62,17 +62,17 @@ module _ (shape : Shape) (v : RingView) (a w : ℕ) where
 
     -- a write that gives position m
     pub position_noted : (m : ℕ) → positions_given shape v a w ≡ m ∷ [] → crossings_given shape v a w ≡ [] →
-        (n : RingRecord) → HasMarks r n (set r.given.items (m % place_count shape) true) r.crossed.items → FollowsMarks shape (changed shape v (Writes a w)) n
+        (n : RingRecord) → HasMarks r n (set r.given.items (place_of shape m) true) r.crossed.items → FollowsMarks shape (changed shape v (Writes a w)) n
     position_noted m one no_crossing n has =
         let is = gives_is shape v.floor m a w (position_gives m one) in
         let low = is.from in
         let high = is.within in
-        let some = place_count_pos shape follows.allowed in
-        with_marks (set r.given.items (m % place_count shape) true) r.crossed.items (length-set r.given.items (m % place_count shape) true) refl
+        let below = place_below shape follows.allowed m in
+        with_marks (set r.given.items (place_of shape m) true) r.crossed.items (length-set r.given.items (place_of shape m) true) refl
         (λ p. positions_more m one p ∙ ap (λ b. b || (p == m)) (follows.given p)
-        ∙ sym (noted_more (floor_number v) (place_count shape) r.given.items (p % place_count shape) (m % place_count shape) p m low high (omega (arith, follows.places, some, mod-lt m some))
-        (λ same. ap (λ k. k % place_count shape) same)
-        (λ l u same. same_due (floor_number v) (place_count shape) p m some l u low high same)))
+        ∙ sym (noted_more (floor_number v) (place_count shape) r.given.items (place_of shape p) (place_of shape m) p m low high (omega (arith, follows.places))
+        (λ same. ap (λ k. place_of shape k) same)
+        (λ l u same. same_due shape follows.allowed (floor_number v) p m l u low high same)))
         (λ q. crossings_still no_crossing q ∙ follows.crossed q)
         n has
 

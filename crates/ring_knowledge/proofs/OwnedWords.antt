@@ -1,5 +1,5 @@
 -- Which words of a ring its controller may own, by the place of the address
-use Rattle.ring_knowledge.proofs.UpperLaws.{none-some, ◌≡◌, ◌+◌, ◌/◌, ◌%◌, ◌<◌, ◌≤◌, ◌∙◌, ◌&&◌, ◌||◌, ℕ, Bool, true, false, Some, None, ap, sym, arith, length, slice_index, get_or, nat_lt, lt-ltb, ltb-true, list_any, range_with_len, and_parts, and_from, AtData, AtLink, Shape, place_count, address_of, links, link_crossed, is_crossing, link_address, overlap, place_at, RingView, floor_number, due_positions, due_crossings, leased_positions, leased_crossings, is_handed_over, contains, nat_cmp, not, link_of, place_count_pos, place_below, address_aligned, address_of-mod, link_aligned, crosses, crossed_link, crossing_positive, is_crossing-from, link_address_is, place_at-data, place_at-link, place_at-Data, place_at-Link, RingRecord, is_noted, FollowsMarks, least_crossing, rules, noted_due, noted_within, false_unless, any_filtered, any_none, any_only, or_false, IsDue, link_of-crossed, due_number, same_due, due_crossing, same_due_crossing, data_is, data_no_link, link_is}
+use Rattle.ring_knowledge.proofs.UpperLaws.{none-some, ◌≡◌, ◌+◌, ◌/◌, ◌%◌, ◌<◌, ◌≤◌, ◌∙◌, ◌&&◌, ◌||◌, ℕ, Bool, true, false, Some, None, ap, sym, arith, length, slice_index, get_or, nat_lt, lt-ltb, ltb-true, list_any, range_with_len, and_parts, and_from, AtData, AtLink, Shape, place_count, place_of, address_of, links, link_crossed, is_crossing, link_address, overlap, place_at, RingView, floor_number, due_positions, due_crossings, leased_positions, leased_crossings, is_handed_over, contains, nat_cmp, not, link_of, place_below, address_aligned, link_aligned, crosses, crossed_link, crossing_positive, is_crossing-from, link_address_is, place_at-data, place_at-link, place_at-Data, place_at-Link, RingRecord, is_noted, FollowsMarks, least_crossing, rules, noted_due, noted_within, false_unless, any_filtered, any_none, any_only, or_false, IsDue, link_of-crossed, due_number, same_due, word_there, due_crossing, same_due_crossing, data_is, data_no_link, link_is}
 
 -- a word and a block with a byte in common: the word is one of the block's
 word_inside : (a b : ℕ) → a % 4 ≡ 0 → b % 16 ≡ 0 → a < b + 16 → b < a + 4 → b ≤ a
@@ -10,7 +10,7 @@ and_true b = grind arith
 
 module _ (shape : Shape) (v : RingView) (r : RingRecord) (follows : FollowsMarks shape v r) (a : ℕ) (word : a % 4 ≡ 0) where
   -- a word with a byte of a position's block is a word of its place
-  of_place : (p : ℕ) → overlap a 4 (address_of shape p) 16 ≡ true → place_at shape a ≡ Some (AtData (p % place_count shape) (a % 16 / 4))
+  of_place : (p : ℕ) → overlap a 4 (address_of shape p) 16 ≡ true → place_at shape a ≡ Some (AtData (place_of shape p) (a % 16 / 4))
   of_place p h =
       let bytes = and_parts (nat_lt a (address_of shape p + 16)) (nat_lt (address_of shape p) (a + 4)) h in
       let near = ltb-true a (address_of shape p + 16) bytes.0 in
@@ -54,41 +54,39 @@ module _ (shape : Shape) (v : RingView) (r : RingRecord) (follows : FollowsMarks
       never found.0 (a % 16 / 4) (of_link q found.0 found.1 parts.1)))
 
   -- the words of a data place are its due position's
-  owned_due : (i w p : ℕ) → place_at shape a ≡ Some (AtData i w) → IsDue (floor_number v) (place_count shape) i p → is_handed_over v p
+  owned_due : (i w p : ℕ) → place_at shape a ≡ Some (AtData i w) → IsDue shape (floor_number v) i p → is_handed_over v p
       ≡ (list_any (λ p. overlap a 4 (address_of shape p) 16) (leased_positions shape v) || list_any (λ q. overlap a 4 (link_address shape q) 16) (leased_crossings shape v))
   owned_due i w p at due =
-      let where_ = place_at-Data shape follows.allowed a i w at in
-      let same = address_of-mod shape follows.allowed p in
-      let rest = ap (λ n. address_of shape n) due.rest_is in
+      let where_ = word_there shape follows.allowed a i w p at due.place_is in
       let here : overlap a 4 (address_of shape p) 16 ≡ true =
-      and_from (nat_lt a (address_of shape p + 16)) (nat_lt (address_of shape p) (a + 4)) (lt-ltb a (address_of shape p + 16) (omega (arith, where_.1, where_.2))) (lt-ltb (address_of shape p) (a + 4) (omega (arith, where_.2))) in
+      and_from (nat_lt a (address_of shape p + 16)) (nat_lt (address_of shape p) (a + 4)) (lt-ltb a (address_of shape p + 16) (omega arith)) (lt-ltb (address_of shape p) (a + 4) (omega arith)) in
       let only : list_any (λ n. overlap a 4 (address_of shape n) 16) (leased_positions shape v) ≡ is_handed_over v p =
       positions_are
       ∙ any_only (λ n. is_handed_over v n && overlap a 4 (address_of shape n) 16) (floor_number v) (place_count shape) p due.from due.within
       (λ n low high other. false_unless (is_handed_over v n && overlap a 4 (address_of shape n) 16)
-      (λ h. other (same_due (floor_number v) (place_count shape) n p (place_count_pos shape follows.allowed) low high due.from due.within
-      ((data_is (n % place_count shape) (a % 16 / 4) i w (sym (of_place n (and_parts (is_handed_over v n) (overlap a 4 (address_of shape n) 16) h).1) ∙ at)).0 ∙ sym due.rest_is))))
+      (λ h. other (same_due shape follows.allowed (floor_number v) n p low high due.from due.within
+      ((data_is (place_of shape n) (a % 16 / 4) i w (sym (of_place n (and_parts (is_handed_over v n) (overlap a 4 (address_of shape n) 16) h).1) ∙ at)).0 ∙ sym due.place_is))))
       ∙ ap (λ b. is_handed_over v p && b) here ∙ and_true (is_handed_over v p) in
       sym (ap (λ b. b || list_any (λ q. overlap a 4 (link_address shape q) 16) (leased_crossings shape v)) only
       ∙ ap (λ b. is_handed_over v p || b) (no_crossings (λ j u e. data_no_link i w j u (sym at ∙ e))) ∙ or_false (is_handed_over v p))
 
   -- it is given as its place's mark says
-  given_here : (i p : ℕ) → IsDue (floor_number v) (place_count shape) i p → v.given p ≡ get_or r.given.items i false
+  given_here : (i p : ℕ) → IsDue shape (floor_number v) i p → v.given p ≡ get_or r.given.items i false
   given_here i p due = grind (arith, noted_due)
 
   -- where its mark is set, they are owned unless it is free
   pub owned_data : (i w : ℕ) (kept : Bool) → place_at shape a ≡ Some (AtData i w) → get_or r.given.items i false ≡ true →
-      ((p : ℕ) → IsDue (floor_number v) (place_count shape) i p → kept ≡ not (contains nat_cmp r.free p)) → kept
+      ((p : ℕ) → IsDue shape (floor_number v) i p → kept ≡ not (contains nat_cmp r.free p)) → kept
       ≡ (list_any (λ p. overlap a 4 (address_of shape p) 16) (leased_positions shape v) || list_any (λ q. overlap a 4 (link_address shape q) 16) (leased_crossings shape v))
   owned_data i w kept at marked is =
-      let found = due_number (floor_number v) (place_count shape) i (place_at-Data shape follows.allowed a i w at).0 in
+      let found = due_number shape follows.allowed (floor_number v) i (place_at-Data shape follows.allowed a i w at).0 in
       is found.0 found.1 ∙ sym (ap (λ b. b && not (v.free found.0)) (given_here i found.0 found.1 ∙ marked) ∙ ap not (follows.free found.0)) ∙ owned_due i w found.0 at found.1
 
   -- else they aren't
   pub unowned_data : (i w : ℕ) → place_at shape a ≡ Some (AtData i w) → get_or r.given.items i false ≡ false → false
       ≡ (list_any (λ p. overlap a 4 (address_of shape p) 16) (leased_positions shape v) || list_any (λ q. overlap a 4 (link_address shape q) 16) (leased_crossings shape v))
   unowned_data i w at clear =
-      let found = due_number (floor_number v) (place_count shape) i (place_at-Data shape follows.allowed a i w at).0 in
+      let found = due_number shape follows.allowed (floor_number v) i (place_at-Data shape follows.allowed a i w at).0 in
       sym (ap (λ b. b && not (v.free found.0)) (given_here i found.0 found.1 ∙ clear)) ∙ owned_due i w found.0 at found.1
 
   -- at a word of a Link: its mark

@@ -1,5 +1,5 @@
--- Tests over a run of numbers of which at most one passes
-use Rattle.ring_knowledge.proofs.Words.{rules, ◌≡◌, ◌≢◌, ◌+◌, ◌<◌, ◌≤◌, ◌∷◌, ◌∙◌, ◌||◌, ◌&&◌, ℕ, suc, zero, List, [], Bool, true, false, refl, ap, arith, inl, inr, cond, filter, range_with_len, list_any, cases_eq, or_left, or_right, or_parts}
+-- Tests over a run of numbers
+use Rattle.ring_knowledge.proofs.Words.{rules, ◌≡◌, ◌≢◌, ◌+◌, ◌<◌, ◌≤◌, ◌∷◌, ◌∙◌, ◌||◌, ◌&&◌, ℕ, suc, zero, List, [], Bool, true, false, refl, ap, arith, inl, inr, cond, cond-true, cond-false, Some, None, filter, find, range_with_len, list_any, cases_eq, or_left, or_right, or_parts}
 
 -- no number passes
 pub any_none : (f : ℕ → Bool) (a n : ℕ) → ((p : ℕ) → a ≤ p → p < a + n → f p ≡ false) → list_any f (range_with_len a n) ≡ false
@@ -31,6 +31,16 @@ filter_only f a (suc n) j l u h = search (rules, cases_eq, filter, range_with_le
 pub none_each : (f : ℕ → Bool) (a n : ℕ) → list_any f (range_with_len a n) ≡ false → (p : ℕ) → a ≤ p → p < a + n → f p ≡ false
 none_each f a zero h p l u = absurd (omega arith)
 none_each f a (suc n) h p l u = search (rules, or_parts, list_any, range_with_len, cases_eq, none_each f (a + 1) n)
+
+-- where none passes, none is found
+pub find_none : (f : ℕ → Bool) (a n : ℕ) → ((p : ℕ) → a ≤ p → p < a + n → f p ≡ false) → find f (range_with_len a n) ≡ None
+find_none f a zero none = refl
+find_none f a (suc n) none = search (rules, find, range_with_len, cond-false, find_none f (a + 1) n)
+
+-- the first number that passes is found
+pub find_first : (f : ℕ → Bool) (a n p : ℕ) → a ≤ p → p < a + n → f p ≡ true → ((q : ℕ) → a ≤ q → q < p → f q ≡ false) → find f (range_with_len a n) ≡ Some p
+find_first f a zero p low high here before = absurd (omega arith)
+find_first f a (suc n) p low high here before = search (rules, cases_eq, find, range_with_len, cond-true, cond-false, find_first f (a + 1) n p)
 
 -- a test of what passes another test
 pub any_filtered : (f g : ℕ → Bool) (xs : List ℕ) → list_any f (filter g xs) ≡ list_any (λ x. g x && f x) xs

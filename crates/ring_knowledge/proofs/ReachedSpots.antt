@@ -1,5 +1,5 @@
 -- A record whose floor has moved on: the marks of what the controller has passed are cleared
-use Rattle.ring_knowledge.proofs.MiddleLaws.{in_range_all, drop, ◌≡◌, ◌+◌, ◌-◌, ◌%◌, ◌<◌, ◌≤◌, ◌∙◌, ◌&&◌, ◌||◌, ℕ, List, Bool, true, Some, ap, sym, arith, inl, inr, length, not, max, cases_lt, cases_Bool, and_parts, false≢true, add-mod_right, Spot, Data, Link, Shape, place_count, link_crossed, is_crossing, number, RingView, Reaches, changed, floor_number, is_way_given, is_reached, are_given, are_ways_given, link_of, place_count_pos, crossed_link, crossing_positive, is_crossing-from, link_crossed-lap, RingRecord, AreCleared, is_noted, FollowsMarks, least_crossing, rules, noted_below, noted_due, noted_past, same_due, same_due_crossing, link_of-crossed}
+use Rattle.ring_knowledge.proofs.MiddleLaws.{in_range_all, drop, ◌≡◌, ◌+◌, ◌-◌, ◌<◌, ◌≤◌, ◌∙◌, ◌&&◌, ◌||◌, ℕ, List, Bool, true, Some, ap, sym, arith, inl, inr, length, not, max, cases_lt, cases_Bool, and_parts, false≢true, Spot, Data, Link, Shape, place_count, link_crossed, is_crossing, number, RingView, Reaches, changed, floor_number, is_way_given, is_reached, are_given, are_ways_given, link_of, crossed_link, crossing_positive, is_crossing-from, link_crossed-lap, RingRecord, AreCleared, is_noted, FollowsMarks, least_crossing, rules, noted_below, noted_due, noted_past, same_due, same_due_crossing, link_of-crossed, place_of, place_of-lap}
 
 -- before a spot that is reached all positions are given
 pub reached_given : (shape : Shape) (v : RingView) (spot : Spot) → is_reached shape v spot ≡ true → (p : ℕ) → p < number spot → v.given p ≡ true
@@ -30,32 +30,32 @@ pub record HasFloor (r n : RingRecord) (spot : Spot) : Type 0 where
 
 module _ (shape : Shape) (v : RingView) (r : RingRecord) (follows : FollowsMarks shape v r) (spot : Spot) (later : floor_number v ≤ number spot) (reached : is_reached shape v spot ≡ true) where
   -- a position's note with the new floor and marks
-  given_now : (marks : List Bool) → AreCleared (λ p i. p % place_count shape ≡ i) r.given.items marks (floor_number v) (number spot) →
-      (p : ℕ) → v.given p ≡ is_noted (number spot) (place_count shape) marks (p % place_count shape) p
+  given_now : (marks : List Bool) → AreCleared (λ p i. place_of shape p ≡ i) r.given.items marks (floor_number v) (number spot) →
+      (p : ℕ) → v.given p ≡ is_noted (number spot) (place_count shape) marks (place_of shape p) p
   given_now marks cleared p = elim (cases_lt p (number spot)) [
-    | inl passed ↦ reached_given shape v spot reached p passed ∙ sym (noted_below (number spot) (place_count shape) marks (p % place_count shape) p passed)
+    | inl passed ↦ reached_given shape v spot reached p passed ∙ sym (noted_below (number spot) (place_count shape) marks (place_of shape p) p passed)
     | inr from ↦ elim (cases_lt p (number spot + place_count shape)) [
       | inr past ↦
-          follows.given p ∙ noted_past (floor_number v) (place_count shape) r.given.items (p % place_count shape) p (omega arith)
-          ∙ sym (noted_past (number spot) (place_count shape) marks (p % place_count shape) p past)
+          follows.given p ∙ noted_past (floor_number v) (place_count shape) r.given.items (place_of shape p) p (omega arith)
+          ∙ sym (noted_past (number spot) (place_count shape) marks (place_of shape p) p past)
       | inl within ↦
-          let now = noted_due (number spot) (place_count shape) marks (p % place_count shape) p from within in
+          let now = noted_due (number spot) (place_count shape) marks (place_of shape p) p from within in
           elim (cases_lt p (floor_number v + place_count shape)) [
             | inl due ↦
-                follows.given p ∙ noted_due (floor_number v) (place_count shape) r.given.items (p % place_count shape) p (omega arith) due
-                ∙ sym (cleared.kept (p % place_count shape) (λ q l u same.
-                let one : q ≡ p = same_due (floor_number v) (place_count shape) q p (place_count_pos shape follows.allowed) l (omega arith) (omega arith) due same in absurd (omega arith)))
+                follows.given p ∙ noted_due (floor_number v) (place_count shape) r.given.items (place_of shape p) p (omega arith) due
+                ∙ sym (cleared.kept (place_of shape p) (λ q l u same.
+                let one : q ≡ p = same_due shape follows.allowed (floor_number v) q p l (omega arith) (omega arith) due same in absurd (omega arith)))
                 ∙ sym now
             | inr next ↦
-                let lap : (p - place_count shape) % place_count shape ≡ p % place_count shape = lap_before p (place_count shape) (omega arith) in
-                follows.given p ∙ noted_past (floor_number v) (place_count shape) r.given.items (p % place_count shape) p next
-                ∙ sym (cleared.cleared (p - place_count shape) (p % place_count shape) (omega arith) (omega arith) lap) ∙ sym now
+                let lap : place_of shape (p - place_count shape) ≡ place_of shape p = lap_before p (omega arith) in
+                follows.given p ∙ noted_past (floor_number v) (place_count shape) r.given.items (place_of shape p) p next
+                ∙ sym (cleared.cleared (p - place_count shape) (place_of shape p) (omega arith) (omega arith) lap) ∙ sym now
           ]
     ]
   ]
     where
-      lap_before : (p n : ℕ) → n ≤ p → (p - n) % n ≡ p % n
-      lap_before p n h = let e : p - n + n ≡ p = omega arith in sym (add-mod_right (p - n) n) ∙ ap (λ x. x % n) e
+      lap_before : (p : ℕ) → place_count shape ≤ p → place_of shape (p - place_count shape) ≡ place_of shape p
+      lap_before p h = let e : p - place_count shape + place_count shape ≡ p = omega arith in sym (place_of-lap shape (p - place_count shape)) ∙ ap (λ q. place_of shape q) e
 
   -- and a crossing's
   crossed_now : (marks : List Bool) → AreCleared (λ q j. link_crossed shape q ≡ Some j) r.crossed.items marks (floor_number v) (number spot) →
@@ -106,6 +106,6 @@ module _ (shape : Shape) (v : RingView) (r : RingRecord) (follows : FollowsMarks
           ]
 
   -- the record with the new floor
-  pub reached_marks : (n : RingRecord) → HasFloor r n spot → AreCleared (λ p i. p % place_count shape ≡ i) r.given.items n.given.items (floor_number v) (number spot) →
+  pub reached_marks : (n : RingRecord) → HasFloor r n spot → AreCleared (λ p i. place_of shape p ≡ i) r.given.items n.given.items (floor_number v) (number spot) →
       AreCleared (λ q j. link_crossed shape q ≡ Some j) r.crossed.items n.crossed.items (floor_number v) (number spot) → FollowsMarks shape (changed shape v (Reaches spot)) n
   reached_marks n has given crossed = search (rules, drop, length, given_now, crossed_now)

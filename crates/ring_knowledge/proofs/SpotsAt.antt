@@ -1,5 +1,6 @@
 -- The first spot from another one on at an address, by the place of the address
-use Rattle.ring_knowledge.proofs.Words.{◌≡◌, ◌≢◌, ◌+◌, ◌%◌, ◌<◌, ◌≤◌, ◌∙◌, ℕ, Some, None, ap, sym, arith, inl, inr, slice_index, cases_lt, AtData, AtLink, Spot, Data, Link, Shape, IsShape, place_count, address_of, links, link_crossed, link_address, place_at, IsSpot, number, rank, spot_address, link_aligned, address_aligned, address_of-mod, same_position, place_at-Data, place_at-Link, place_at-None, place_at-None_link, crosses, crossed_link, crossing_positive, is_crossing-from, link_address_is, same_crossing_at, rank_least, rank_most, data_not_link, IsFirstAt, rules}
+use Rattle.ring_knowledge.proofs.Words.{◌≡◌, ◌≢◌, ◌+◌, ◌%◌, ◌<◌, ◌≤◌, ◌∙◌, ℕ, Some, None, ap, sym, arith, inl, inr, slice_index, cases_lt, AtData, AtLink, Spot, Data, Link, Shape, IsShape, place_count, place_of, address_of, links, link_crossed, link_address, place_at, IsSpot, number, rank, spot_address, link_aligned, address_aligned, same_position, place_at-Link, place_at-None, place_at-None_link, crosses, crossed_link, crossing_positive, is_crossing-from, link_address_is, same_crossing_at, rank_least, rank_most, data_not_link, IsFirstAt, rules}
+use Rattle.ring_knowledge.proofs.DueNumbers.{word_there}
 
 module _ (shape : Shape) (is : IsShape shape) (address : ℕ) where
   -- no spot lies off the boundaries of blocks
@@ -22,10 +23,11 @@ module _ (shape : Shape) (is : IsShape shape) (address : ℕ) where
   module _ (from : Spot) (boundary : address % 16 ≡ 0) where
     -- the position that is due at the place of an address
     pub first_position : (place word p : ℕ) → place_at shape address ≡ Some (AtData place word) → number from ≤ p → p < number from + place_count shape →
-        p % place_count shape ≡ place → IsFirstAt shape from address (Data p)
+        place_of shape p ≡ place → IsFirstAt shape from address (Data p)
     first_position place word p found low near rest =
-        let here = place_at-Data shape is address place word found in
-        grind (arith, address_aligned, address_of-mod, rank_most, data_not_link, cases_lt, same_position, rank_least)
+        let here = word_there shape is address place word p found rest in
+        let at : address_of shape p ≡ address = omega (arith, address_aligned shape is p) in
+        grind (arith, rank_most, data_not_link, cases_lt, same_position, rank_least)
 
     -- no spot at the address of a Link comes before its next crossing
     least_crossing_at : (passed q : ℕ) → ((r : ℕ) → 0 < r → rank from ≤ rank (Link r) → passed < r) → q ≤ passed + place_count shape → IsSpot shape (Link q) →

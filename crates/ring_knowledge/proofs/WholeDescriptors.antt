@@ -1,19 +1,19 @@
 -- Whether the further blocks of a descriptor are given, on a ring that a record follows
-use Rattle.ring_knowledge.proofs.LowerLaws.{rules, false≢true, in_range_all, all_in_range, ◌≡◌, ◌+◌, ◌-◌, ◌%◌, ◌<◌, ◌≤◌, ◌∙◌, ◌&&◌, ◌||◌, ℕ, List, Bool, true, false, Some, None, ap, sym, arith, slice_index, not, is_some, list_all, range_with_len, Shape, place_count, link_crossed, is_crossing, RingView, floor_number, is_step_given, is_way_given, is_not_whole, descriptor_length, link_of, is_crossing-from, RingRecord, is_noted, FollowsMarks, least_crossing, false_from_ne_true, link_of-crossed}
+use Rattle.ring_knowledge.proofs.LowerLaws.{rules, false≢true, in_range_all, all_in_range, ◌≡◌, ◌+◌, ◌-◌, ◌<◌, ◌≤◌, ◌∙◌, ◌&&◌, ◌||◌, ℕ, List, Bool, true, false, Some, None, ap, sym, arith, slice_index, not, is_some, list_all, range_with_len, Shape, place_count, link_crossed, is_crossing, RingView, floor_number, is_step_given, is_way_given, is_not_whole, descriptor_length, link_of, is_crossing-from, RingRecord, is_noted, FollowsMarks, least_crossing, false_from_ne_true, link_of-crossed, place_of}
 
 module _ (shape : Shape) (v : RingView) (r : RingRecord) (follows : FollowsMarks shape v r) where
   -- a position that isn't given
-  pub step_not_given : (q : ℕ) → is_noted (floor_number v) (place_count shape) r.given.items (q % place_count shape) q ≡ false → false ≡ is_step_given shape v q
+  pub step_not_given : (q : ℕ) → is_noted (floor_number v) (place_count shape) r.given.items (place_of shape q) q ≡ false → false ≡ is_step_given shape v q
   unfolding is_step_given
   step_not_given q none = sym (ap (λ b. b && is_way_given shape v q) (follows.given q ∙ none))
 
   -- one that is, with no Link on the way to it
-  pub step_without_link : (q : ℕ) → is_noted (floor_number v) (place_count shape) r.given.items (q % place_count shape) q ≡ true → link_crossed shape q ≡ None → true ≡ is_step_given shape v q
+  pub step_without_link : (q : ℕ) → is_noted (floor_number v) (place_count shape) r.given.items (place_of shape q) q ≡ true → link_crossed shape q ≡ None → true ≡ is_step_given shape v q
   unfolding is_step_given is_way_given
   step_without_link q given none = sym (ap (λ b. b && (not (is_crossing shape q) || v.crossed q)) (follows.given q ∙ given) ∙ ap (λ o. not (is_some o) || v.crossed q) none)
 
   -- and with the Link of a segment
-  pub step_with_link : (q j : ℕ) → is_noted (floor_number v) (place_count shape) r.given.items (q % place_count shape) q ≡ true → link_crossed shape q ≡ Some j →
+  pub step_with_link : (q j : ℕ) → is_noted (floor_number v) (place_count shape) r.given.items (place_of shape q) q ≡ true → link_crossed shape q ≡ Some j →
       is_noted (least_crossing v) (place_count shape) r.crossed.items j q ≡ is_step_given shape v q
   unfolding is_step_given is_way_given
   step_with_link q j given over = search (rules, not, is_crossing, is_crossing-from, is_noted, least_crossing, place_count, link_of, link_of-crossed)

@@ -1,5 +1,5 @@
 -- A record that follows a ring of which a descriptor is withdrawn, or what is free is restored
-use Rattle.ring_knowledge.proofs.MiddleLaws.{drop_no_ops, length-no_ops, split_sum, drop, ◌-◌, ◌≡◌, ◌+◌, ◌<◌, ◌≤◌, ◌∷◌, ◌++◌, ◌∙◌, ◌&&◌, ◌||◌, ℕ, suc, zero, List, [], Bool, true, false, refl, ap, sym, arith, inl, inr, length, slice_index, replicate, not, set, nat_le, nat_lt, if◌then◌else◌, cases_eq, cases_lt, cases_Bool, eq-eqb, ne_eqb, nat_tests, common_steps, and_parts, or_cases, Block, Shape, RingView, length_from, descriptor_length, no_ops, split_at, FollowsMarks, FollowsRing, RingRecord, ArePositive, ◌%◌, no_op, is_in, place_count, floor_number, is_step_given, is_way_given, changed, Withdraws, Restores, list_any, range_with_len, contains, nat_cmp, is_noted, false≢true, or_left, or_right, leb-true, ltb-true, rules, none_each, false_unless}
+use Rattle.ring_knowledge.proofs.MiddleLaws.{drop_no_ops, length-no_ops, split_sum, drop, ◌-◌, ◌≡◌, ◌+◌, ◌<◌, ◌≤◌, ◌∷◌, ◌++◌, ◌∙◌, ◌&&◌, ◌||◌, ℕ, suc, zero, List, [], Bool, true, false, refl, ap, sym, arith, inl, inr, length, slice_index, replicate, not, set, nat_le, nat_lt, if◌then◌else◌, cases_eq, cases_lt, cases_Bool, eq-eqb, ne_eqb, nat_tests, common_steps, and_parts, or_cases, Block, Shape, RingView, length_from, descriptor_length, no_ops, split_at, FollowsMarks, FollowsRing, RingRecord, ArePositive, no_op, is_in, place_count, floor_number, is_step_given, is_way_given, changed, Withdraws, Restores, list_any, range_with_len, contains, nat_cmp, is_noted, false≢true, or_left, or_right, leb-true, ltb-true, rules, none_each, false_unless, place_of}
 use Rattle.ring_knowledge.proofs.WholeBelow.{begins_from, ends_within}
 
 -- a descriptor's length, as the record has it
@@ -84,7 +84,7 @@ module _ (shape : Shape) (v : RingView) (r : RingRecord) (known : FollowsRing sh
         ((q : ℕ) → slice_index n.lengths.items q ≡ (if is_in q (p - r.forgotten) count then 1 else slice_index r.lengths.items q)) →
         n.given.items ≡ r.given.items → n.crossed.items ≡ r.crossed.items → n.floor ≡ r.floor → n.held ≡ r.held → n.count ≡ r.count →
         ((q : ℕ) → contains nat_cmp n.withdrawn q ≡ (contains nat_cmp r.withdrawn q || is_in q p count)) →
-        ((q : ℕ) → contains nat_cmp n.free q ≡ (contains nat_cmp r.free q || (is_in q p count && is_noted (floor_number v) (place_count shape) r.given.items (q % place_count shape) q))) →
+        ((q : ℕ) → contains nat_cmp n.free q ≡ (contains nat_cmp r.free q || (is_in q p count && is_noted (floor_number v) (place_count shape) r.given.items (place_of shape q) q))) →
         FollowsRing shape (changed shape v (Withdraws p)) n
     unfolding is_step_given is_way_given
     withdrawn_here n forgotten queue many begins given crossed floor held counted withdrawn free =

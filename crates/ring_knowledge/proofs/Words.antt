@@ -22,12 +22,12 @@ pub use Rattle.segments.proofs.MoveTargets.{between}
 pub use Rattle.segments.proofs.Named.{found_is}
 pub use Rattle.segments.proofs.NamedSpots.{IsNamed, named_spot-Some, named_spot-is}
 pub use Rattle.segments.proofs.PlaceAtLemmas.{place_at-Data, place_at-Link, place_at-None, place_at-None_link, place_at-address_of, place_at-data, place_at-link, place_at-link_address}
-pub use Rattle.segments.proofs.Positions.{address_aligned, address_of-mod, cycle_of_bit, place_below, place_count_pos, same_in_lap, same_position}
+pub use Rattle.segments.proofs.Positions.{address_aligned, cycle_of_bit, place_below, place_count_pos, place_of-ahead, place_of-ahead_lap, place_of-lap, same_in_lap_of, same_position}
 pub use Rattle.segments.proofs.Search.{cases_option}
 pub use Rattle.segments.proofs.SpotOrder.{after_is, data_not_link, rank_least, rank_most, same_spot}
 pub use Rattle.segments.proofs.StepFacts.{all_in_range, in_range_all, length_from-push}
 pub use Rattle.segments.proofs.Withdrawing.{length-no_ops, split_sum}
-pub use Rattle.segments.proofs.Words.{All-head, All-tail, All-weaker, Block, Declares, Holds, IsShape, IsSpot, Opens, Reaches, Restores, RingView, Shape, Withdraws, Writes, add-mod_right, address_of, after, and_from, and_parts, cases_Bool, cases_eq, cases_lt, changed, cond-false, cond-true, cycle_of, data_count, declared, ends, false_from_ne_true, false≢true, flat_map, floor_number, gives, gives_crossing, is_crossing, is_crossing_due, is_due, is_handed_over, is_in, is_spot, length-map, link_address, link_crossed, links, list_all, list_any, mod-lt, mod-mul-add, named_spot, nat_tests, new_ring, no_op, none-some, number, or_cases, or_left, or_right, overlap, place_at, place_count, range_with_len, rank, spot_address, spot_cycle, sum_by-cons}
+pub use Rattle.segments.proofs.Words.{All-head, All-tail, All-weaker, Block, Declares, Holds, IsShape, IsSpot, Opens, Reaches, Restores, RingView, Shape, Withdraws, Writes, address_of, after, and_from, and_parts, cases_Bool, cases_eq, cases_lt, changed, cond-false, cond-true, cycle_of, data_count, data_places, declared, ends, false_from_ne_true, false≢true, flat_map, floor_number, gives, gives_crossing, is_crossing, is_crossing_due, is_due, is_handed_over, is_in, is_spot, length-map, link_address, link_crossed, links, list_all, list_any, named_spot, nat_tests, new_ring, no_op, none-some, number, or_cases, or_left, or_right, overlap, place_at, place_count, place_of, range_with_len, rank, spot_address, spot_cycle, sum_by-cons}
 unfoldable pub use Rattle.segments.proofs.Words.{are_given, are_ways_given, ceiling, crossings_given, descriptor_length, due_crossings, due_positions, first_not_given, flips_passed, given_count, has_no_room, is_border, is_declared_as, is_move, is_not_restored, is_not_whole, is_reached, is_step_given, is_stop_spot, is_target, is_way_given, leased_crossings, leased_positions, length_from, link_of, may_move_to, named, no_ops, positions_given, split_at, spots_between, stopped_number, target, unrestored}
 unfoldable pub use Rattle.segments.specs.Ceiling.{data_at, is_open, named_data}
 unfoldable pub use Rattle.segments.specs.Moves.{is_placement}

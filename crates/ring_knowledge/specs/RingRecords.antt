@@ -1,10 +1,10 @@
 -- What a record of one command or transfer ring holds, in terms of what is known of the ring
-use Rattle.std.specs.Prelude.{◌≡◌, ℕ, ◌+◌, ◌-◌, ◌<◌, ◌≤◌, ◌%◌, ◌==◌, ◌&&◌, Bool, true, false, List, [], ◌∷◌, drop, length, slice_index, sum, max, Option, Some, None}
+use Rattle.std.specs.Prelude.{◌≡◌, ℕ, ◌+◌, ◌-◌, ◌<◌, ◌≤◌, ◌==◌, ◌&&◌, Bool, true, false, List, [], ◌∷◌, drop, length, slice_index, sum, max, Option, Some, None}
 use Rattle.std.specs.BTreeSet.{contains}
 use Rattle.std.specs.Ordering.{nat_cmp}
 use Rattle.segments.specs.Shape.{IsShape}
 use Rattle.segments.specs.ShapeValue.{Shape}
-use Rattle.segments.specs.Places.{place_count, links, is_crossing}
+use Rattle.segments.specs.Places.{place_count, place_of, links, is_crossing}
 use Rattle.segments.specs.RingView.{RingView, floor_number}
 use Rattle.segments.specs.Ceiling.{is_step_given}
 use Rattle.segments.specs.Descriptors.{length_from}
@@ -72,7 +72,7 @@ pub record FollowsMarks (shape : Shape) (v : RingView) (r : RingRecord) : Type 0
   pub room : length v.queue + 1 ≤ floor_number v + place_count shape
   -- a mark for each data place, and one for each Link
   pub places : length r.given.items ≡ place_count shape
-  pub given : (p : ℕ) → v.given p ≡ is_noted (floor_number v) (place_count shape) r.given.items (p % place_count shape) p
+  pub given : (p : ℕ) → v.given p ≡ is_noted (floor_number v) (place_count shape) r.given.items (place_of shape p) p
   pub segments : length (links shape) ≤ length r.crossed.items
   pub crossed : (q : ℕ) → v.crossed q ≡ (is_crossing shape q && is_noted (least_crossing v) (place_count shape) r.crossed.items (link_of shape q) q)
   -- what was withdrawn, and what of it is free: it was given

@@ -3,11 +3,11 @@ use Rattle.std.specs.Prelude.{ℕ, List, ◌++◌, ◌&&◌, if◌then◌else◌
 use Rattle.std.specs.List.{flat_map, filter_map}
 use Rattle.guest_memory.specs.Memory.{put}
 use Rattle.trb.specs.declared.block.Block.{Block}
-use Rattle.trb.specs.Block.{code, has_event_data, pointer, slot, endpoint}
+use Rattle.trb.specs.Block.{code, slot, endpoint}
 use Rattle.trb.specs.CompletionCode.{counted_code, is_of_service}
 use Rattle.segments.specs.declared.spot.Spot.{Spot}
 use Rattle.segments.specs.RingView.{RingChange, changed, due_positions, floor_number, positions_given, crossings_given}
-use Rattle.segments.specs.Ceiling.{named, named_data}
+use Rattle.segments.specs.Ceiling.{named_by}
 use Rattle.commands.specs.declared.command.Command.{Command}
 use Rattle.commands.specs.Command.{command_of}
 use Rattle.traces.specs.declared.header.Header.{Header}
@@ -38,9 +38,9 @@ module _ (h : Header) where
   unfoldable pub given_by : Known → ℕ → ℕ → List Given
   given_by k a w = flat_map (λ r. given_of k a w r.id) (driver_rings h)
 
-  -- the spot that a Transfer Event names on a ring: by ED that of the block with its value, else that at its address
+  -- the spot that a Transfer Event names on a ring
   unfoldable pub spot_named : Known → Block → ℕ → Option Spot
-  spot_named k b r = if has_event_data b then named_data (k.ring r) (pointer b) else named (shape_of h r) (k.ring r) (pointer b)
+  spot_named k b r = named_by (shape_of h r) (k.ring r) b
 
   -- the spot that it names, on the ring of its endpoint
   unfoldable pub spot_on : Known → Block → Option ℕ → Option RingSpot

@@ -3,7 +3,7 @@ ghost use Rattle.std.specs.List.{list_any};
 ghost use Rattle.trb.specs.Descriptor.{most_blocks};
 ghost use Rattle.segments.specs.Spots.{number};
 ghost use Rattle.segments.specs.ShapeValue.{Shape};
-ghost use Rattle.segments.specs.Places.{address_of, cycle_of, ends, link_address, link_crossed, links, overlap, place_count};
+ghost use Rattle.segments.specs.Places.{address_of, cycle_of, ends, link_address, link_crossed, links, overlap, place_count, place_of};
 ghost use Rattle.segments.specs.PlaceAt.{place_at};
 ghost use Rattle.segments.specs.Shape.{IsShape};
 ghost use Rattle.segments.specs.Ceiling.{ceiling, given_count, is_open, is_step_given};
@@ -22,6 +22,7 @@ mod withdrawals;
 use guest_memory::Addr;
 pub use moves::is_data_below;
 use segments::{Place, RingShape, Spot};
+use spots::crossing_behind;
 use std::alloc::{AllocError, Global};
 use std::collections::BTreeSet;
 use trb::Block;
@@ -210,6 +211,7 @@ impl RingRecord {
 
     /// The position that the write of a word of a data place would give, were it not given yet.
     #[inline(always)]
+    #[tactic(auto, using(segments::proofs::DataPlaces::place_count_most))]
     fn position_by(
         &self,
         shape: &RingShape,
@@ -218,15 +220,15 @@ impl RingRecord {
         index: u8,
         word: u32,
     ) -> Option<u64>
-        requires { place_at shape.now at ≡ Some (Place.Data place index) }
+        requires at { place_at shape.now at ≡ Some (Place.Data place index) }
+        requires allowed { IsShape shape.now }
         ensures gives { (p : ℕ) → gives shape.now self.now.floor p at word ≡ is_the result p }
-        ensures due { IfSome result (λ p. (number self.now.floor ≤ p) × (p < number self.now.floor + place_count shape.now) × (p % place_count shape.now ≡ place)) }
+        ensures due { IfSome result (λ p. (number self.now.floor ≤ p) × (p < number self.now.floor + place_count shape.now) × (place_of shape.now p ≡ place)) }
     {
-        let places = u64::from(shape.places());
         if index != 3 {
             return None;
         }
-        let position = next_with_rest(number(self.floor), places, u64::from(place));
+        let position = shape.next_at(number(self.floor), place);
         if has_cycle_of(shape, position, word) {
             Some(position)
         } else {
@@ -244,19 +246,18 @@ impl RingRecord {
         index: u8,
         word: u32,
     ) -> Option<u64>
-        requires { place_at shape.now at ≡ Some (Place.Link segment index) }
+        requires at { place_at shape.now at ≡ Some (Place.Link segment index) }
+        requires allowed { IsShape shape.now }
         ensures gives { (q : ℕ) → gives_crossing shape.now self.now.floor q at word ≡ is_the result q }
         ensures due { IfSome result (λ q. (max (number self.now.floor) 1 ≤ q) × (q < max (number self.now.floor) 1 + place_count shape.now)
             × (link_crossed shape.now q ≡ Some segment)) }
     {
-        let places = u64::from(shape.places());
         if index != 3 {
             return None;
         }
-        let passed = number(self.floor).saturating_sub(1);
-        let before = next_with_rest(passed, places, u64::from(place_before(shape, segment)));
-        if has_cycle_of(shape, before, word) {
-            Some(before + 1)
+        let crossing = crossing_behind(shape, number(self.floor).saturating_sub(1), segment);
+        if has_cycle_of(shape, crossing - 1, word) {
+            Some(crossing)
         } else {
             None
         }
@@ -316,7 +317,7 @@ impl RingRecord {
     {
         let places = u64::from(shape.places());
         let floor = number(self.floor);
-        if !is_noted(floor, places, &self.given, (q % places) as usize, q) {
+        if !is_noted(floor, places, &self.given, shape.place(q) as usize, q) {
             return false;
         }
         match shape.crossing(q) {
@@ -335,8 +336,7 @@ impl RingRecord {
         match giving {
             None => {}
             Some(RingGiving::Position(position)) => {
-                let place = position % u64::from(shape.places());
-                set_mark(&mut self.given, place as usize, true);
+                set_mark(&mut self.given, shape.place(position) as usize, true);
                 self.count = self.first_not_given(shape, self.count);
             }
             Some(RingGiving::Crossing(crossing)) => {
@@ -419,12 +419,11 @@ impl RingRecord {
         ensures { (v : RingView) → FollowsRing shape.now v self.old → floor_number v ≤ number spot → is_reached shape.now v spot ≡ true →
             FollowsRing shape.now (changed shape.now v (Reaches spot)) self.new }
     {
-        let places = u64::from(shape.places());
         let passed = number(self.floor);
-        clear_places(&mut self.given, places, passed, number(spot));
+        clear_places(&mut self.given, shape, passed, number(spot));
         clear_links(&mut self.crossed, shape, passed, number(spot));
         self.floor = spot;
-        self.forget_passed(places);
+        self.forget_passed(u64::from(shape.places()));
     }
 }
 
@@ -455,12 +454,11 @@ fn set_mark(marks: &mut Vec<bool>, at: usize, is_set: bool)
 }
 
 /// Clears the marks of the places of the positions from one to another.
-fn clear_places(marks: &mut Vec<bool>, places: u64, from: u64, to: u64)
-    requires { 0 < places }
-    ensures { from ≤ to → AreCleared (λ p i. p % places ≡ i) marks.old.items marks.new.items from to }
+fn clear_places(marks: &mut Vec<bool>, shape: &RingShape, from: u64, to: u64)
+    ensures { from ≤ to → AreCleared (λ p i. place_of shape.now p ≡ i) marks.old.items marks.new.items from to }
 {
     for position in from..to {
-        set_mark(marks, (position % places) as usize, false);
+        set_mark(marks, shape.place(position) as usize, false);
     }
 }
 
@@ -482,22 +480,6 @@ fn is_noted(least: u64, count: u64, marks: &[bool], at: usize, number: u64) -> b
     ensures { result ≡ is_noted least count marks.now at number }
 {
     number < least || number < least + count && is_marked(marks, at)
-}
-
-/// The least number from `least` on that leaves this rest when divided by `count`.
-fn next_with_rest(least: u64, count: u64, rest: u64) -> u64
-    requires rest { rest < count }
-    requires fits { least + count < 2 ^ 64 }
-    ensures from { least ≤ result }
-    ensures within { result < least + count }
-    ensures rest_is { result % count ≡ rest }
-{
-    let reached = least % count;
-    if rest < reached {
-        least + (count - reached) + rest
-    } else {
-        least + (rest - reached)
-    }
 }
 
 /// The data place before the Link of a segment.

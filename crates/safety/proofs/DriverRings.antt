@@ -1,6 +1,6 @@
 -- The rings and endpoints of what a driver keeps, as the laws of rings take them
 use Rattle.safety.proofs.Words.{◌≡◌, ◌∙◌, ℕ, true, Option, Some, None, refl, ap, false≢true, Header, Ring, ring_with, is_transfer_kind, Known, is_driver_ring, is_transfer_ring, DriverKeeps, IsDriverRing, IsTransferRing, StatesKeep}
-use Rattle.safety.proofs.RingsOfHeader.{driver_is}
+use Rattle.safety.proofs.HeaderRings.RingsOfHeader.{driver_is}
 use Rattle.safety.specs.RingsKeep as rings
 use Rattle.safety.specs.DriverRings as driver_rings
 use Rattle.safety.specs.EndpointsKeep as endpoints

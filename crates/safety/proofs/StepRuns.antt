@@ -3,10 +3,10 @@ use Rattle.safety.proofs.UpperLaws.{has_runs, agrees_once_counted, phase_agrees,
 use Rattle.std.proofs.Common.{option_map}
 use Rattle.safety.specs.Invariant.{Holds}
 use Rattle.safety.proofs.DriverHistories.{kept_driver, run_keeps}
-use Rattle.safety.proofs.ReadRow.{read_on}
-use Rattle.safety.proofs.RowRuns.{row_runs}
-use Rattle.safety.proofs.Squares.{square_law}
-use Rattle.safety.proofs.StillRings.{still_rings}
+use Rattle.safety.proofs.Rows.ReadRow.{read_on}
+use Rattle.safety.proofs.Beneath.RowRuns.{row_runs}
+use Rattle.safety.proofs.Beneath.Squares.{square_law}
+use Rattle.safety.proofs.Beneath.StillRings.{still_rings}
 use Rattle.world_state.specs.Finishes as finishes
 use Rattle.world_state.specs.Posts as posts
 use Rattle.world_state.specs.DriverRows as driver

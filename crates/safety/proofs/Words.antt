@@ -37,12 +37,12 @@ unfoldable pub use Rattle.ownership_rules.specs.Registers.{has_gap, is_bad_comma
 pub use Rattle.ownership_rules.specs.Rings.{is_transfer_ring}
 unfoldable pub use Rattle.ownership_rules.specs.Rings.{goes_badly, is_bad_free, is_bad_kind, is_bad_ring, is_bad_segment, is_had, is_in_use, shows_first_lap}
 unfoldable pub use Rattle.ownership_rules.specs.Rules.{broken, lenient_tests, tests}
-unfoldable pub use Rattle.ownership_rules.specs.Withdrawals.{has_stopped, is_bad_withdraw, is_left, may_be_told, may_tell_value, rests_with, some_flips}
+unfoldable pub use Rattle.ownership_rules.specs.Withdrawals.{has_stopped, is_bad_withdraw, is_left, is_no_descriptor, is_unfit, may_be_told, may_tell_value, rests_with, some_flips}
 pub use Rattle.ownership_rules.specs.Writes.{clears_chain}
 unfoldable pub use Rattle.ownership_rules.specs.Writes.{changes_owned, holds_of, is_link_control, on_crossing, on_position, some_command, some_crossed, some_given, unchains, write_tests}
 pub use Rattle.ownership_rules.specs.declared.refusal.Refusal.{Refusal}
 pub use Rattle.ownership_rules.specs.declared.refusal.Refusal.TheVariants.{AfterStop, BadErdp, BadRegister, NotDeclared, NotInProfile}
-pub use Rattle.ring_knowledge.proofs.Ranges.{none_each}
+pub use Rattle.ring_knowledge.proofs.Ranges.{find_first, none_each}
 pub use Rattle.ring_knowledge.proofs.StopSpots.{way_without}
 unfoldable pub use Rattle.ring_knowledge.specs.Completions.{bound_to, changed_by, changed_by as known_changed_by, changed_by_all, changed_by_all as known_changed_by_all, completed, disabled, disabled as known_disabled, finished, finished as known_finished, held_at_ceiling, in_state, in_state as known_in_state, moved, moved_to, pointed, set_to, stop_ended, succeeded, succeeded as known_succeeded, typed, typed as known_typed}
 pub use Rattle.ring_knowledge.specs.Histories.{header_now, known_after, known_now, restored}
@@ -73,7 +73,7 @@ unfoldable pub use Rattle.safety.specs.LazyRuns.OnLiterals.{lazy_on_literals}
 pub use Rattle.safety.specs.Matches.{Agrees, BoundRing, CommandMatches, EndpointRing, FreeRing, IsUnchanged, Matches, Newest, NotNamed, Rests, RingMatches, RingState, TakenCommand, UnderWayMatches, Unreported, state_of, take_at}
 pub use Rattle.safety.specs.Placings.{AreFree, MayChange, MayChangeAll, MayFinish, MayPoint, StillHolds}
 pub use Rattle.safety.specs.Restoring.{EndpointRestored, KeepsPassed, MayCome, MovesRestored}
-pub use Rattle.safety.specs.RingChanges.Histories.{AreKept, IsKept}
+pub use Rattle.safety.specs.RingChanges.Histories.{AreKept, IsKept, MayBegin}
 pub use Rattle.safety.specs.RingsKeep.{PassesNoMore, RingKept, RingsKeep, RingsKept}
 pub use Rattle.safety.specs.Stands.{EventsStand, Stands, touches_events}
 pub use Rattle.segments.proofs.Crossings.{crossed_link, crosses, crossing_positive, cycle_of-crossed, is_crossing-lap, link_address-lap, link_address_is, link_target-crossed}
@@ -92,7 +92,7 @@ pub use Rattle.segments.proofs.NamedSpots.{IsNamed, named_spot-Some, named_spot-
 pub use Rattle.segments.proofs.NewRing.{new_ring_keeps}
 pub use Rattle.segments.proofs.OneGiving.{gives_one, positions_given-one}
 pub use Rattle.segments.proofs.PlaceAtLemmas.{is_in-parts}
-pub use Rattle.segments.proofs.Positions.{address_aligned, address_ends, address_of-lap, address_of-mod, cycle_of-first, cycle_of_bit, cycle_of_flips, place_below, place_count_pos, same_in_lap, same_place_of}
+pub use Rattle.segments.proofs.Positions.{address_aligned, address_ends, address_of-lap, address_of-place, cycle_of-first, cycle_of_bit, cycle_of_flips, place_below, place_count_pos, place_of-parts, same_in_lap, same_in_lap_of, same_place_of}
 pub use Rattle.segments.proofs.ReachedSpots.{after_reached, data_reached, move_reached, number-after, stop_spot_reached, stopped_within}
 pub use Rattle.segments.proofs.Reaching.{crossed_due, floor_given, given_count_declared, given_count_near, holds_and_reaches_keeps, holds_keeps, kept_cycle, moved_keeps, opens_keeps, reached_given, reaches_and_holds_keeps, reaches_keeps}
 pub use Rattle.segments.proofs.Search.{cases_option, position-None}
@@ -101,13 +101,14 @@ pub use Rattle.segments.proofs.SpotOrder.{data_not_link, next_is_spot, next_late
 pub use Rattle.segments.proofs.StepFacts.{GivesMore, step_is, step_more, whole_is, whole_more}
 pub use Rattle.segments.proofs.Withdrawing.{length-no_ops, restores_keeps, split_border, withdraws_keeps}
 pub use Rattle.segments.proofs.Writing.{given_count-writes, writes_keeps, writes_more}
+pub use Rattle.segments.specs.Ceiling.{named_by}
 unfoldable pub use Rattle.segments.specs.Ceiling.{ceiling, data_at, given_count, is_data_below, is_open, is_step_given, is_stop_spot, is_way_given, named, named_data, stopped_number}
 pub use Rattle.segments.specs.Descriptors.{DeclaredBlock, no_ops, split_at}
 unfoldable pub use Rattle.segments.specs.Descriptors.{declared_at, is_border, length_from}
 pub use Rattle.segments.specs.Givings.{same}
 unfoldable pub use Rattle.segments.specs.Givings.{descriptor_length, flips_passed, has_no_room, interrupts, is_declared_as, is_not_declared, is_not_restored, is_not_whole, is_other_than_declared, is_wrong_link, leads_wrong, unrestored}
 unfoldable pub use Rattle.segments.specs.Moves.{is_move, is_placement, is_reached, is_target, may_move_to, spots_between, target}
-pub use Rattle.segments.specs.Places.{address_of, cycle_of, data_places, is_crossing, is_in, is_inside, link_address, link_crossed, link_target, links, overlap, place_count, segment_has, toggles, touches}
+pub use Rattle.segments.specs.Places.{address_of, cycle_of, data_places, is_crossing, is_in, is_inside, link_address, link_crossed, link_target, links, overlap, place_count, place_of, segment_has, toggles, touches}
 pub use Rattle.segments.specs.RingKeeps.{IsRestored, IsShownTo, MayDeclare, MayReach, MayWrite, RingKeeps}
 pub use Rattle.segments.specs.RingView.{Declares, Holds, Opens, Reaches, Restores, RingChange, RingView, Withdraws, Withdraws as RingWithdraws, Writes, changed, declared, floor_number, gives, gives_crossing, is_crossing_due, is_due, is_handed_over, new_ring}
 unfoldable pub use Rattle.segments.specs.RingView.{crossings_given, due_crossings, due_positions, leased_crossings, leased_positions, positions_given}
@@ -131,7 +132,7 @@ pub use Rattle.std.proofs.lemmas.Nat.{mod_below}
 pub use Rattle.std.proofs.lemmas.Option.{cond_some, get_or_from_slice_get, none-some, same_Some, slice_get-get_or, slice_get_past, slice_get_within}
 pub use Rattle.std.specs.List.{cons_option, filter_map, flat_map, list_all, list_any, range_with_len}
 pub use Rattle.std.specs.Option.{option_map, option_or}
-pub use Rattle.traces.specs.AllowedHeaders.{IsHeader, clash, may_stand_together}
+pub use Rattle.traces.specs.AllowedHeaders.{AreUnmoved, IsHeader, clash, may_stand_together}
 pub use Rattle.traces.specs.Halts.{is_asked, is_done, seen, told}
 pub use Rattle.traces.specs.Header.{id_of, id_or_none, is_command_kind, is_driver_kind, is_event_kind, is_ring, is_transfer_kind, no_id, ring_with, shape_or}
 unfoldable pub use Rattle.traces.specs.Header.{command_id, command_ring, driver_rings, event_id, event_ring, event_shape, event_size, ring_having, shape_of, touches_ring}

@@ -2,7 +2,7 @@
 use Rattle.std.specs.Prelude.{List, All, reverse}
 use Rattle.traces.specs.declared.header.Header.{Header}
 use Rattle.traces.specs.declared.row.Row.{Row}
-use Rattle.traces.specs.AllowedHeaders.{IsHeader}
+use Rattle.traces.specs.AllowedHeaders.{AreUnmoved, IsHeader}
 use Rattle.safety.specs.Harmless.{DoNoHarm}
 use Rattle.safety.specs.RingChanges.Histories.{AreKept}
 use Rattle.traces.specs.Rows.{IsRow}
@@ -12,4 +12,4 @@ use Rattle.traces.specs.Rows.{IsRow}
 -- word; it looks only inside the ring's segments, posts no event over an unread one, and the input context of the command under way hasn't
 -- changed since that command's control word was last written
 abbrev pub Headline : Header → Type 0
-Headline h = (rows : List Row) → IsHeader h → All IsRow rows → AreKept h (reverse rows) → DoNoHarm h rows
+Headline h = (rows : List Row) → IsHeader h → AreUnmoved h.rings → All IsRow rows → AreKept h (reverse rows) → DoNoHarm h rows

@@ -53,11 +53,11 @@ module _ (h : Header) where
     pub kind : is_transfer_kind ring.shape.kind ≡ true
 
   -- the command ring holds commands, each alone in its descriptor; it is open from its first doorbell on, and before that no
-  -- completion was read
+  -- completion was read, and it hasn't grown behind its first lap
   pub record CommandRingKeeps (k : Known) : Type 0 where
     pub commands : (p : ℕ) (d : Block) → slice_get (k.ring (command_id h)).queue p ≡ Some d → is_some (command_of d) ≡ true
     pub alone : All (λ n. n ≡ 1) (k.ring (command_id h)).lengths
-    pub held : ((k.ring (command_id h)).held ≡ None) ⊎ (((k.ring (command_id h)).held ≡ Some 0) × ((k.ring (command_id h)).floor ≡ Data 0))
+    pub held : ((k.ring (command_id h)).held ≡ None) ⊎ (((k.ring (command_id h)).held ≡ Some 0) × ((k.ring (command_id h)).floor ≡ Data 0) × ((shape_of h (command_id h)).offset ≡ 0))
 
   pub record StatesKeep (k : Known) : Type 0 where
     pub no_slot : k.slot_state 0 ≡ Disabled

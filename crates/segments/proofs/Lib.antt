@@ -9,9 +9,15 @@ pub mod Pairs
 pub mod Lookups
 pub mod IndexSearch
 pub mod Touching
+pub mod PutIn
+pub mod Apart
+pub mod Grown
+pub mod GrownPositions
+pub mod GrownCrossings
 pub mod SpotOrder
 pub mod NamedSpots
 mod Examples
+mod GrowthExamples
 pub mod InsideLemmas
 pub mod GivenCount
 pub mod Giving

@@ -1,5 +1,5 @@
 -- What is looked up on a ring once the segment is found. The look-ups see the segments as a list of their own
-use Rattle.segments.proofs.MiddleLaws.{IsIndex, SegmentIndex, get_or, get_or_read, mod-lt, add-mod-mod, add-mul-mod_self_left, mod-add-div, mul_assoc, AreMultiples, IsLastStart, IsNear, IsSegmentOf, ◌≡◌, ◌≢◌, ◌+◌, ◌-◌, ◌*◌, ◌/◌, ◌%◌, ◌<◌, ◌≤◌, if◌then◌else◌, ◌∙◌, ℕ, suc, zero, nat_lt, true, false, List, length, Option, Some, None, arith, mod-eq_of_lt, refl, sym, ap, inl, inr, false≢true, false_from_ne_true, cases_lt, RingKind, Evt, Segment, Shape, data_count, place_count, address_of, links, link_crossed, is_in, place_at, IsShape, rules, segment_at, places_of, before, before-next, before-all, before-zero, before_within, block_lies, same_segment, link_is, length-links, end_is, crosses, crosses-from, cases_option, before_rises, shape_facts}
+use Rattle.segments.proofs.MiddleLaws.{IsIndex, SegmentIndex, get_or, get_or_read, add-mod-mod, add-mul-mod_self_left, mod-add-div, mul_assoc, AreMultiples, IsLastStart, IsNear, IsSegmentOf, ◌≡◌, ◌≢◌, ◌+◌, ◌-◌, ◌*◌, ◌/◌, ◌%◌, ◌<◌, ◌≤◌, if◌then◌else◌, ◌∙◌, ℕ, suc, zero, nat_lt, true, false, List, length, Option, Some, None, arith, mod-eq_of_lt, refl, sym, ap, inl, inr, false≢true, false_from_ne_true, cases_lt, RingKind, Evt, Segment, Shape, data_count, place_count, place_of, place_of-unmoved, address_of, links, link_crossed, is_in, place_at, IsShape, rules, segment_at, places_of, before, before-next, before-all, before-zero, before_within, block_lies, same_segment, link_is, length-links, end_is, crosses, crosses-from, cases_option, before_rises, shape_facts}
 use Rattle.segments.specs.declared.place.Place.TheVariants.{Data, Link}
 use Rattle.segments.proofs.PlaceAtLemmas.{is_in-true, is_in-parts, place_at-block, place_at-outside}
 
@@ -9,20 +9,20 @@ pub record Sees (shape : Shape) (kind : RingKind) (segments : List Segment) (pla
   pub segments_are : shape.segments ≡ segments
   pub places_are : places ≡ place_count shape
 
-pub sees_from : (shape : Shape) (kind : RingKind) (inside segments : List Segment) (places : ℕ) →
-    ◌≡◌ {A = Shape} (record { kind = kind; segments = inside }) shape → segments ≡ inside →
-    places ≡ place_count (record { kind = kind; segments = inside }) → Sees shape kind segments places
-sees_from shape kind inside segments places view_is same count = search rules
+pub sees_from : (shape : Shape) (kind : RingKind) (segments : List Segment) (offset places : ℕ) →
+    ◌≡◌ {A = Shape} (record { kind = kind; segments = segments; offset = offset }) shape →
+    places ≡ place_count (record { kind = kind; segments = segments; offset = offset }) → Sees shape kind segments places
+sees_from shape kind segments offset places view_is count = search rules
 
 -- block k behind the data places before segment j is data place i
 abbrev pub IsAhead : RingKind → List Segment → ℕ → ℕ → ℕ → Type 0
 IsAhead kind segments j k i = before kind segments j + k ≡ i
 
 pub ahead_here : (shape : Shape) (kind : RingKind) (segments : List Segment) (places j k n p : ℕ) → Sees shape kind segments places →
-    j < length segments → IsAhead kind segments j k (p % places) → n ≡ data_count kind (segment_at segments j) → k < n →
+    j < length segments → IsAhead kind segments j k (place_of shape p) → n ≡ data_count kind (segment_at segments j) → k < n →
     (segment_at segments j).base + 16 * k ≡ address_of shape p
 ahead_here shape kind segments places j k n p sees h ahead e l =
-    sym (rw (← sees.places_are, sees.kind_is, sees.segments_are, ← ahead) (block_lies kind segments j k h (omega arith)).1.address)
+    sym (rw (← ahead, sees.kind_is, sees.segments_are) (block_lies kind segments j k h (omega arith)).1.address)
 
 -- ---- the Link on the way to a position
 
@@ -39,14 +39,14 @@ count_within shape kind segments places j count n sees h counted e =
     omega (arith, before-next kind segments j h, before_within kind segments (j + 1))
 
 pub crossed_here : (shape : Shape) → IsShape shape → (kind : RingKind) (segments : List Segment) (places j end n q : ℕ) → Sees shape kind segments places →
-    (kind ≡ Evt → ⊥) → q ≢ 0 → j < length segments → IsPast kind segments j end ((q - 1) % places + 1) → n ≡ data_count kind (segment_at segments j) →
-    end + n ≡ (q - 1) % places + 1 → link_crossed shape q ≡ Some j
+    (kind ≡ Evt → ⊥) → q ≢ 0 → j < length segments → IsPast kind segments j end (place_of shape (q - 1) + 1) → n ≡ data_count kind (segment_at segments j) →
+    end + n ≡ place_of shape (q - 1) + 1 → link_crossed shape q ≡ Some j
 crossed_here shape is kind segments places j end n q sees other some h past e here =
     let link : j < length (links shape) = omega (arith, length-links shape (λ event. other (sym sees.kind_is ∙ event)), ap length sees.segments_are) in
     search (rules, end_is shape j link, link, before, before-next, crosses-from)
 
 pub crossed_nowhere : (shape : Shape) → IsShape shape → (kind : RingKind) (segments : List Segment) (places j end q : ℕ) → Sees shape kind segments places →
-    q ≢ 0 → length segments ≤ j → IsPast kind segments j end ((q - 1) % places + 1) → link_crossed shape q ≡ None
+    q ≢ 0 → length segments ≤ j → IsPast kind segments j end (place_of shape (q - 1) + 1) → link_crossed shape q ≡ None
 crossed_nowhere shape is kind segments places j end q sees some all past = elim (cases_option (link_crossed shape q)) [
   | inl none ↦ none
   | inr found ↦
@@ -74,10 +74,10 @@ place_nowhere shape is kind segments places j count address sees all outside = s
 
 -- ---- what a search finds
 
--- the place that a position has in its lap comes before the end of the segments
-pub lap_place : (kind : RingKind) (segments : List Segment) (places p : ℕ) → IsShape (record { kind = kind; segments = segments }) → places ≡ place_count (record { kind = kind; segments = segments }) →
-    p % places < before kind segments (length segments)
-lap_place kind segments places p is count = search (rules, shape_facts, mod-lt, before-all)
+-- a data place comes before the end of the segments
+pub place_within : (shape : Shape) (kind : RingKind) (segments : List Segment) (places i : ℕ) → Sees shape kind segments places → i < place_count shape →
+    i < before kind segments (length segments)
+place_within shape kind segments places i sees h = rw (before-all kind segments, ← sees.kind_is, ← sees.segments_are) h
 
 -- what the index has of segment j: how many data places lie before it
 pub first_is : (kind : RingKind) (segments : List Segment) (index : SegmentIndex) → IsIndex kind segments index → (j n : ℕ) → j < length segments →
@@ -97,11 +97,11 @@ pub past_all : (kind : RingKind) (segments : List Segment) (last j : ℕ) → Is
 past_all kind segments last j of other = search (rules, length, cases_lt, before_rises)
 
 -- the last segment to start at or before an address is the one that may have it
-pub near_from_last : (kind : RingKind) (segments : List Segment) → IsShape (record { kind = kind; segments = segments }) → (address : ℕ) (o : Option ℕ) →
+pub near_from_last : (kind : RingKind) (segments : List Segment) → IsShape (record { kind = kind; segments = segments; offset = 0 }) → (address : ℕ) (o : Option ℕ) →
     IsLastStart segments address o → IsNear segments address o
 near_from_last kind segments is address None above = search (rules, false_from_ne_true, is_in-parts, segment_at)
 near_from_last kind segments is address (Some j) of =
-    let facts = shape_facts (record { kind = kind; segments = segments }) is in (
+    let facts = shape_facts (record { kind = kind; segments = segments; offset = 0 }) is in (
       of.number,
       λ k l has. search (rules, is_in-parts address (segment_at segments k).base (16 * (segment_at segments k).count) has, of.last k l, (facts.each j of.number).blocks, of.start, segment_at, same_segment, facts),
     )
@@ -123,14 +123,14 @@ before_multiple kind ss step are zero h = search (rules, before-zero, mod-eq_of_
 before_multiple kind ss step are (suc j) h =
     search (rules, before-next kind ss j (omega arith), add-mod-mod (before kind ss j) (data_count kind (segment_at ss j)) step, are.each j (omega arith), before_multiple kind ss step are j (omega arith))
 
--- and no Link is crossed where the position isn't such a multiple
-pub crossed_between : (shape : Shape) → IsShape shape → (step q : ℕ) → AreMultiples shape.kind shape.segments step → q % step ≢ 0 → link_crossed shape q ≡ None
-crossed_between shape is step q are between = elim (cases_option (link_crossed shape q)) [
+-- and with no offset no Link is crossed where the position isn't such a multiple
+pub crossed_between : (shape : Shape) → IsShape shape → shape.offset ≡ 0 → (step q : ℕ) → AreMultiples shape.kind shape.segments step → q % step ≢ 0 → link_crossed shape q ≡ None
+crossed_between shape is unmoved step q are between = elim (cases_option (link_crossed shape q)) [
   | inl none ↦ none
   | inr found ↦
       let c = crosses shape q found.0 found.1 in
       let link = link_is shape is found.0 c.link in
-      let end : (q - 1) % place_count shape + 1 ≡ before shape.kind shape.segments (found.0 + 1) = sym c.end ∙ end_is shape found.0 c.link in
+      let end : (q - 1) % place_count shape + 1 ≡ before shape.kind shape.segments (found.0 + 1) = ap (λ n. n + 1) (sym (place_of-unmoved shape unmoved (q - 1))) ∙ sym c.end ∙ end_is shape found.0 c.link in
       let lap : place_count shape % step ≡ 0 = rw (← before-all shape.kind shape.segments) (before_multiple shape.kind shape.segments step are (length shape.segments) (omega arith)) in
       absurd (between (multiple_behind (place_count shape) q step c.positive lap (rw end (before_multiple shape.kind shape.segments step are (found.0 + 1) (omega (arith, link.segment))))))
 ]

@@ -7,7 +7,7 @@ unfolding is_border
 border_first [] = refl
 border_first (n ∷ rest) = refl
 
-module _ (shape : Shape) (is : IsShape shape) (v : RingView) (p : ℕ) (cycle : Bool) where
+module _ (shape : Shape) (is : IsShape shape) (unmoved : shape.offset ≡ 0) (v : RingView) (p : ℕ) (cycle : Bool) where
   first_move : is_move shape v p cycle 0 0 ≡ (address_of shape 0 == p && cycle)
   unfolding is_move spots_between is_target may_move_to is_reached are_given are_ways_given
   first_move = search (rules, place_count_pos, address_of, is_border, cycle_of, cycle_of-first, border_first)

@@ -14,7 +14,7 @@ place_count_more kind pairs i d h =
     ∙ ap (λ ss. length (places_of kind ss)) (map_push segment_of (take i pairs) (get_or pairs i d))
     ∙ length-places_of-push kind (map segment_of (take i pairs)) (segment_of (get_or pairs i d))
 
-list_any-map : {X Y : Type 0} (p : Y → Bool) (f : X → Y) (xs : List X) → list_any p (map f xs) ≡ list_any (λ x. p (f x)) xs
+pub list_any-map : {X Y : Type 0} (p : Y → Bool) (f : X → Y) (xs : List X) → list_any p (map f xs) ≡ list_any (λ x. p (f x)) xs
 list_any-map p f [] = refl
 list_any-map p f (x ∷ xs) = ap (λ b. p (f x) || b) (list_any-map p f xs)
 

@@ -1,5 +1,5 @@
 -- Which word of a ring's blocks has an address: each word has one answer, and each answer is of such a word
-use Rattle.segments.proofs.MiddleLaws.{◌≡◌, ◌≢◌, ◌+◌, ◌-◌, ◌*◌, ◌/◌, ◌%◌, ◌<◌, ◌≤◌, ◌==◌, if◌then◌else◌, ◌∙◌, ℕ, true, length, slice_index, nat_le, nat_lt, Some, None, is_some, arith, ap, inl, inr, ne_eqb, le-leb, lt-ltb, le-ltb, leb-true, ltb-true, option_map, option_or, none-some, same_Some, cases_lt, and_parts, and_from, cond-false, false_from_ne_true, get_or_default, Any-from_list_any, position-Some, Place, RingKind, Evt, Segment, Shape, data_count, segment_has, data_places, place_count, address_of, links, link_crossed, link_address, is_in, is_inside, data_place_at, link_at, place_at, IsShape, rules, IsPlace, place_is, block_is, link_is, length-links, byte_inside, places_apart, place_aligned, place_not_link, links_apart, link_aligned, place_below, address_of-first, crosses, link_address_is, segment_at, before, position_only, position_nowhere, cases_option}
+use Rattle.segments.proofs.MiddleLaws.{◌≡◌, ◌≢◌, ◌+◌, ◌-◌, ◌*◌, ◌/◌, ◌%◌, ◌<◌, ◌≤◌, ◌==◌, if◌then◌else◌, ◌∙◌, ℕ, true, length, slice_index, nat_le, nat_lt, Some, None, is_some, arith, ap, inl, inr, ne_eqb, le-leb, lt-ltb, le-ltb, leb-true, ltb-true, option_map, option_or, none-some, same_Some, cases_lt, and_parts, and_from, cond-false, false_from_ne_true, get_or_default, Any-from_list_any, position-Some, Place, RingKind, Evt, Segment, Shape, data_count, segment_has, data_places, place_count, place_of, address_of, links, link_crossed, link_address, is_in, is_inside, data_place_at, link_at, place_at, IsShape, rules, IsPlace, place_is, block_is, link_is, length-links, byte_inside, places_apart, place_aligned, place_not_link, links_apart, link_aligned, place_below, crosses, link_address_is, segment_at, before, position_only, position_nowhere, cases_option}
 use Rattle.segments.specs.declared.place.Place.TheVariants.{Data, Link}
 
 pub is_in-true : (x a n : ℕ) → a ≤ x → x < a + n → is_in x a n ≡ true
@@ -44,7 +44,7 @@ word_of a w h l = (omega arith, omega arith)
 
 -- word w of the place of position p
 pub place_at-address_of : (shape : Shape) → IsShape shape → (p w : ℕ) → w < 4 →
-    place_at shape (address_of shape p + 4 * w) ≡ Some (Data (p % place_count shape) w)
+    place_at shape (address_of shape p + 4 * w) ≡ Some (Data (place_of shape p) w)
 place_at-address_of shape is p w l = search (rules, place_below, word_of, place_aligned, place_at-data)
 
 -- word w of the Link of segment j
@@ -82,8 +82,8 @@ pub place_at-Some : (shape : Shape) → IsShape shape → (x : ℕ) (place : Pla
 place_at-Some shape is x place h = search (rules, none-some, place_at-odd, cases_option, same_Some, data_answer, link_answer)
 
 pub place_at-Data : (shape : Shape) → IsShape shape → (x i w : ℕ) → place_at shape x ≡ Some (Data i w) →
-    (i < place_count shape) × (w < 4) × (x ≡ address_of shape i + 4 * w)
-place_at-Data shape is x i w h = search (rules, place_at-Some shape is x (Data i w) h, place_count, slice_index, data_places, Data, address_of-first)
+    (i < place_count shape) × (w < 4) × (x ≡ slice_index (data_places shape) i + 4 * w)
+place_at-Data shape is x i w h = place_at-Some shape is x (Data i w) h
 
 pub place_at-Link : (shape : Shape) → IsShape shape → (x j w : ℕ) → place_at shape x ≡ Some (Link j w) →
     (j < length (links shape)) × (w < 4) × (x ≡ slice_index (links shape) j + 4 * w)

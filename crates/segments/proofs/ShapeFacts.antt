@@ -18,7 +18,7 @@ pub record IsSegment (kind : RingKind) (s : Segment) : Type 0 where
 pub segment_facts : (kind : RingKind) (s : Segment) → is_segment kind s ≡ true → IsSegment kind s
 segment_facts kind s h = search (rules, and_parts, nat_lt, nat_le, ltb-true, eqb-true, leb-true)
 
-all_at : {X : Type 0} (p : X → Bool) (xs : List X) (j : ℕ) (d : X) → list_all p xs ≡ true → j < length xs → p (get_or xs j d) ≡ true
+pub all_at : {X : Type 0} (p : X → Bool) (xs : List X) (j : ℕ) (d : X) → list_all p xs ≡ true → j < length xs → p (get_or xs j d) ≡ true
 all_at p [] j d all h = absurd (omega arith)
 all_at p (x ∷ xs) zero d all h = (and_parts (p x) (list_all p xs) all).0
 all_at p (x ∷ xs) (suc j) d all h = all_at p xs j d (and_parts (p x) (list_all p xs) all).1 (omega arith)

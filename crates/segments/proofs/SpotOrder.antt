@@ -1,5 +1,5 @@
 -- Spots in their order, where they lie, and what the controller's cycle is there
-use Rattle.segments.proofs.MiddleLaws.{◌≡◌, ◌+◌, ◌*◌, ◌%◌, ◌<◌, ◌≤◌, ◌⊎◌, ℕ, true, false, cases_lt, cond-true, cond-false, false≢true, Evt, Spot, Data, Link, Shape, place_count, address_of, cycle_of, is_crossing, link_address, IsSpot, rank, number, after, next, spot_address, spot_cycle, IsShape, rules, place_not_link, next_at_end, place_count_pos, place_below, same_position, cycle_of-next, crosses, crossed_link, link_address_is, same_crossing_at, link_address-behind, address_of-behind, crossing_at_end}
+use Rattle.segments.proofs.MiddleLaws.{◌≡◌, ◌+◌, ◌*◌, ◌<◌, ◌≤◌, ◌⊎◌, ℕ, true, false, cases_lt, cond-true, cond-false, false≢true, Evt, Spot, Data, Link, Shape, place_count, place_of, address_of, cycle_of, is_crossing, link_address, IsSpot, rank, number, after, next, spot_address, spot_cycle, IsShape, rules, place_not_link, place_of-next_lap, place_below, same_position, cycle_of-next, crosses, crossed_link, link_address_is, same_crossing_at, link_address-behind, address_of-behind, crossing_at_end}
 
 pub rank_least : (s : Spot) → 2 * number s ≤ rank s
 rank_least s = search rules
@@ -31,7 +31,7 @@ next_least shape s t h4 h5 = search (rules, after_is, false≢true)
 pub data_not_link : (shape : Shape) → IsShape shape → (p q : ℕ) → is_crossing shape q ≡ true → address_of shape p ≡ link_address shape q → ⊥
 data_not_link shape is p q crossing same =
     let found = crossed_link shape q crossing in
-    search (rules, link_address_is shape q found.0 found.1, place_not_link shape is (p % place_count shape) found.0 (place_below shape is p) (crosses shape q found.0 found.1).link)
+    search (rules, link_address_is shape q found.0 found.1, place_not_link shape is (place_of shape p) found.0 (place_below shape is p) (crosses shape q found.0 found.1).link)
 
 -- two spots at one address, less than a lap apart, are one
 pub same_spot : (shape : Shape) → IsShape shape → (s t : Spot) → IsSpot shape s → IsSpot shape t → rank s ≤ rank t → rank t < rank s + 2 * place_count shape →
@@ -44,4 +44,4 @@ spot_address-after shape is other p = search (rules, after_is, link_address-behi
 
 -- and the controller's cycle there is the block's
 pub spot_cycle-after : (shape : Shape) → IsShape shape → (shape.kind ≡ Evt → ⊥) → (p : ℕ) → spot_cycle shape (after shape p) ≡ cycle_of shape p
-spot_cycle-after shape is other p = search (rules, after_is, cases_lt, cycle_of-next, next_at_end, place_count_pos, place_below, false≢true, crossing_at_end)
+spot_cycle-after shape is other p = search (rules, after_is, cases_lt, cycle_of-next, place_of-next_lap, place_below, false≢true, crossing_at_end)

@@ -21,7 +21,7 @@ module _ (shape : Shape) (is : IsShape shape) (at len last : ℕ) (some : 0 < le
   pub touched_last : (j : ℕ) → IsLastOf shape.segments last j → overlap at len (segment_at shape.segments j).base (16 * (segment_at shape.segments j).count) ≡ touches shape at len
   touched_last j of = search (rules, cases_Bool, segment_at, lt-ltb, list_any_at, none_meets, false≢true, last_meets, cases_Bool (overlap at len (segment_at shape.segments j).base (16 * (segment_at shape.segments j).count)))
 
-each_touches : (b : Shape) (ss : List Segment) → ((j : ℕ) → j < length ss → 2 ≤ (segment_at ss j).count) →
+pub each_touches : (b : Shape) (ss : List Segment) → ((j : ℕ) → j < length ss → 2 ≤ (segment_at ss j).count) →
     list_any (λ s. touches b s.base (16 * s.count)) ss ≡ list_any (λ s. list_any (segments_overlap s) b.segments) ss
 each_touches b [] long = refl
 each_touches b (s ∷ rest) long =

@@ -21,11 +21,11 @@ view = changed small (changed small (changed small (changed small new_ring (Decl
 -- the block at position 0 and the Link behind it are read; at position 1 the controller waits
 reads : (walk memory (standing small (Data 0)) 9 ≡ record { w = 7 ∷ 0 ∷ 0 ∷ 0x401 ∷ [] } ∷ record { w = 0x2000 ∷ 0 ∷ 0 ∷ 0x1801 ∷ [] } ∷ [])
     × (looks memory (standing small (Data 0)) 9 ≡ map (standing small) (Data 0 ∷ Link 1 ∷ Data 1 ∷ []))
-unfolding walk looks
+unfolding views_on_literals
 reads = (refl, refl)
 
 as_declared : data_of (walk memory (standing small (Data 0)) 2) ≡ laid_between small view 0 1
-unfolding walk looks
+unfolding views_on_literals
 as_declared = refl
 
 border : (given_count small view ≡ 1) × (is_border view.lengths 0 1 ≡ true)
@@ -34,10 +34,10 @@ border = (refl, refl)
 
 -- a Link that shows the other cycle isn't read
 waits_at_link : walk (put memory 0x101c 0x1800) (standing small (Data 0)) 9 ≡ record { w = 7 ∷ 0 ∷ 0 ∷ 0x401 ∷ [] } ∷ []
-unfolding walk looks
+unfolding views_on_literals
 waits_at_link = refl
 
 -- a Link with Toggle Cycle in the middle of the ring lets the controller read on with the other cycle
 toggles_early : looks (put memory 0x101c 0x1803) (standing small (Data 0)) 3 ≡ standing small (Data 0) ∷ standing small (Link 1) ∷ record { address = 0x2000; cycle_state = 0 } ∷ []
-unfolding looks
+unfolding views_on_literals
 toggles_early = refl

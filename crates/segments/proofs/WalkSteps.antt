@@ -1,5 +1,5 @@
 -- One step of the walk: at each spot up to the first that isn't given a block stands that leads to the next spot, and there none
-use Rattle.segments.proofs.UpperLaws.{IsRestored, ◌≡◌, ◌≢◌, ◌+◌, ◌*◌, ◌^◌, ◌%◌, ◌<◌, ◌≤◌, ◌∙◌, ℕ, true, false, [], Some, slice_get, arith, refl, sym, ap, inl, get_or, eq-eqb, ne_eqb, eqb-true, option_map, cases_Bool, cases_eq, cond-true, cond-false, or_parts, not-false, false≢true, false_from_ne_true, slice_get-get_or, mod-eq_of_lt, Block, Evt, is_set, aligned, block_at, word, cycle, kind, pointer, with_cycle, is_link, kind-with_cycle, Spot, Data, Link, Shape, address_of, cycle_of, is_crossing, link_address, link_target, toggles, IsSpot, rank, number, after, next, spot_address, spot_cycle, IsShape, RingView, floor_number, given_count, is_wrong_link, RingKeeps, block_under, is_shown, behind, laid, standing, rules, link_ends, address_ends, cycle_of_bit, crosses, crossed_link, link_address_is, link_target-crossed, cycle_of-crossed, rank_most, next_is_spot, spot_address-after, spot_cycle-after, due_from, crossing_due_from, given_below, given_count_stops, step_is, step_from, given_count_near, floor_given, kept_cycle, crossed_due}
+use Rattle.segments.proofs.UpperLaws.{IsRestored, ◌≡◌, ◌≢◌, ◌+◌, ◌*◌, ◌^◌, ◌%◌, ◌<◌, ◌≤◌, ◌∙◌, ℕ, true, false, [], Some, slice_get, arith, refl, sym, ap, inl, inr, cases_lt, get_or, eq-eqb, ne_eqb, eqb-true, option_map, cases_Bool, cases_eq, cond-true, cond-false, or_parts, and_parts, not, not-true, ◌&&◌, not-false, false≢true, false_from_ne_true, slice_get-get_or, mod-eq_of_lt, Block, Evt, is_set, aligned, block_at, word, cycle, kind, pointer, with_cycle, is_link, kind-with_cycle, Spot, Data, Link, Shape, address_of, cycle_of, is_crossing, link_address, link_target, toggles, IsSpot, rank, number, after, next, spot_address, spot_cycle, IsShape, RingView, floor_number, given_count, is_wrong_link, RingKeeps, block_under, is_shown, behind, laid, standing, rules, link_ends, address_ends, cycle_of_bit, crosses, crossed_link, link_address_is, link_target-crossed, cycle_of-crossed, rank_most, next_is_spot, spot_address-after, spot_cycle-after, due_from, crossing_due_from, given_below, given_count_stops, step_is, step_from, given_count_near, floor_given, kept_cycle, crossed_due}
 
 -- what stands at a spot that is read
 abbrev pub ReadAs : Shape → (ℕ → ℕ) → RingView → Spot → Type 0
@@ -98,4 +98,13 @@ module _ (shape : Shape) (is : IsShape shape) (other : shape.kind ≡ Evt → �
 
   pub waits : (t : Spot) × Waits shape memory v t
   waits =
-      search (rules, cases_Bool (is_crossing shape (given_count shape v)), cases_Bool (v.crossed (given_count shape v)), waits_at_data, waits_at_link, false≢true, rank_most v.floor, floor_given shape is memory v k)
+      let from : rank v.floor ≤ 2 * given_count shape v + 1 = omega (arith, rank_most v.floor, floor_given shape is memory v k) in
+      elim (cases_lt (2 * given_count shape v) (rank v.floor)) [
+        | inl passed ↦ (Data (given_count shape v), waits_at_data from (λ crossing. k.passed_links (given_count shape v) crossing passed))
+        | inr ahead ↦ elim (cases_Bool (is_crossing shape (given_count shape v) && not (v.crossed (given_count shape v)))) [
+          | inl missing ↦
+              let parts = and_parts (is_crossing shape (given_count shape v)) (not (v.crossed (given_count shape v))) missing in
+              (Link (given_count shape v), waits_at_link ahead parts.0 (not-true (v.crossed (given_count shape v)) parts.1))
+          | inr there ↦ (Data (given_count shape v), waits_at_data from (λ crossing. search (rules, cases_Bool (v.crossed (given_count shape v)))))
+        ]
+      ]

@@ -112,7 +112,10 @@ module _ (shape : Shape) (is : IsShape shape) (memory : ℕ → ℕ) (v : RingVi
 
     kept_by : (q : ℕ) (d : Block) → floor_number v ≤ q → v.given q ≡ true → after_it.free q ≡ false → slice_get after_it.queue q ≡ Some d →
         block_at memory (address_of shape q) ≡ with_cycle d (cycle_of shape q)
-    kept_by q d low given kept at = search (rules, or_parts, is_in, no_ops_elsewhere)
+    kept_by q d low given kept at =
+        let parts = or_parts (v.free q) (is_in q p count && v.given q) kept in
+        let out : (q < p) ⊎ (p + count ≤ q) = search (rules, is_in) in
+        k.kept q d low given parts.0 (sym (no_ops_elsewhere v.queue p count q out) ∙ at)
 
     shows_by : (q : ℕ) → floor_number v ≤ q → q < ceiling shape after_it → after_it.free q ≡ true → memory (address_of shape q + 12) % 2 ≡ cycle_of shape q
     shows_by q low high free = search (rules, after_it, ceiling_kept, or_cases, false≢true, kept_cycle, and_parts)

@@ -10,6 +10,7 @@ unfoldable pub use Rattle.segments.specs.Moves.{are_given, are_ways_given, is_mo
 unfoldable pub use Rattle.segments.specs.OnLiterals.{views_on_literals}
 pub use Rattle.segments.specs.PlaceAt.{data_place_at, link_at, place_at}
 pub use Rattle.segments.specs.Places.{address_of, blocks_from, cycle_of, data_count, data_places, ends, ends_from, ends_of, is_crossing, is_in, is_inside, link_address, link_crossed, link_target, links, links_of, overlap, place_count, segment_has, toggles, touches}
+unfoldable pub use Rattle.segments.specs.Places.{lap_of, place_of}
 pub use Rattle.segments.specs.RingKeeps.{IsRestored, IsShownTo, MayDeclare, MayHold, MayReach, MayRestore, MayWithdraw, MayWrite, RingKeeps}
 pub use Rattle.segments.specs.RingView.{Declares, Holds, Opens, Reaches, Restores, RingView, Withdraws, Writes, changed, declared, floor_number, gives, gives_crossing, is_crossing_due, is_due, is_handed_over, new_ring}
 unfoldable pub use Rattle.segments.specs.RingView.{crossings_given, due_crossings, due_positions, leased_crossings, leased_positions, positions_given}
@@ -26,7 +27,7 @@ pub use Rattle.segments.specs.declared.segment.Segment.{Segment}
 pub use Rattle.segments.specs.declared.spot.Spot.{Spot}
 pub use Rattle.segments.specs.declared.spot.Spot.TheVariants.{Data, Link}
 pub use Rattle.std.proofs.Common.{All, Bool, Contains, List, None, Option, Some, [], add-one, add-zero, ap, append-nil, arith, drop, eq-eqb, eqb-true, false, filter, find, get_or, if◌then◌else◌, inl, inr, is_some, le-leb, le-ltb, leb, leb-false, leb-true, length, length-append, lt-ltb, ltb-false, ltb-true, map, nat_le, nat_lt, ne_eqb, not, position, refl, replicate, rules, slice_get, slice_index, subst, suc, sum, sym, take, take_all, true, unwrap_or, zero, zero-add, ℕ, ◌%◌, ◌&&◌, ◌*◌, ◌++◌, ◌+◌, ◌-◌, ◌/◌, ◌<◌, ◌==◌, ◌^◌, ◌||◌, ◌∙◌, ◌∷◌, ◌≡◌, ◌≢◌, ◌≤◌, ◌⊎◌}
-pub use Rattle.std.proofs.Math.Nat.{add-div_right, add-mod-mod, add-mod_right, add-mul-mod_self_left, div-add-mod, div-add-mod', div-eq_of_lt, mod-add-div, mod-eq_of_lt, mod-lt, mod_self, mul_assoc}
+pub use Rattle.std.proofs.Math.Nat.{add-div_right, add-mod-mod, add-mod_right, add-mul-mod_self_left, div-add-mod, div-add-mod', div-eq_of_lt, mod-add-div, mod-eq_of_lt, mod-lt, mod_self, mul-add-div_right, mul_assoc}
 pub use Rattle.std.proofs.lemmas.Bool.{and_from, and_parts, cases_Bool, cases_eq, cases_lt, cases_order, cond-false, cond-true, false_from_ne_true, false≢true, not-false, not-true, not_from_false, not_from_true, or_cases, or_left, or_parts, or_right}
 pub use Rattle.std.proofs.lemmas.Bool.Decides.{nat_tests}
 pub use Rattle.std.proofs.lemmas.List.{drop_more, get_or-append_right, get_or-map, get_or_append_left, get_or_default, get_or_read, length-map, map_push, take-map, take_more, take_rest}

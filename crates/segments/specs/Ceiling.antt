@@ -2,7 +2,7 @@
 use Rattle.std.specs.Prelude.{ℕ, suc, zero, ◌+◌, ◌==◌, ◌&&◌, ◌||◌, if◌then◌else◌, Bool, false, not, nat_le, nat_lt, is_none, min, unwrap_or, List, Option, option_and_then, option_map, find, slice_get, ◌-◌}
 use Rattle.std.specs.List.{range_with_len}
 use Rattle.trb.specs.declared.block.Block.{Block}
-use Rattle.trb.specs.Block.{data_value, has_value}
+use Rattle.trb.specs.Block.{data_value, has_event_data, has_value, pointer}
 use Rattle.segments.specs.declared.spot.Spot.{Spot}
 use Rattle.segments.specs.declared.spot.Spot.TheVariants.{Data, Link}
 use Rattle.segments.specs.ShapeValue.{Shape}
@@ -43,6 +43,10 @@ data_at queue p = option_and_then data_value (slice_get queue p)
 -- the spot that an event names by a value: the least position from the floor on, up to what is declared, with an Event Data block of this value
 unfoldable pub named_data : RingView → ℕ → Option Spot
 named_data v value = option_map Data (find (λ p. has_value value (data_at v.queue p)) (range_with_len (floor_number v) (declared v - floor_number v)))
+
+-- the spot that a Transfer Event names: by ED that of the block with its value, else that at its address: xHCI 4.11.5.2, 6.4.2.1
+abbrev pub named_by : Shape → RingView → Block → Option Spot
+named_by shape v event = if has_event_data event then named_data v (pointer event) else named shape v (pointer event)
 
 -- the spot is a block with a number below n
 unfoldable pub is_data_below : ℕ → Spot → Bool

@@ -2,6 +2,7 @@ pub mod ShapeValue
 pub mod Index
 pub mod Shape
 pub mod Places
+pub mod Growth
 pub mod PlaceAt
 pub mod Spots
 pub mod RingView

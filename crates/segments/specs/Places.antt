@@ -24,13 +24,20 @@ data_places shape = flat_map (λ s. blocks_from s.base (data_count shape.kind s)
 abbrev pub place_count : Shape → ℕ
 place_count shape = length (data_places shape)
 
+-- the data place of position p, from 0 on, and the lap that it belongs to
+unfoldable pub place_of : Shape → ℕ → ℕ
+place_of shape p = (p + shape.offset) % place_count shape
+
+unfoldable pub lap_of : Shape → ℕ → ℕ
+lap_of shape p = (p + shape.offset) / place_count shape
+
 -- where position p lies
 abbrev pub address_of : Shape → ℕ → ℕ
-address_of shape p = slice_index (data_places shape) (p % place_count shape)
+address_of shape p = slice_index (data_places shape) (place_of shape p)
 
 -- the Cycle bit that position p has: 1 in the first lap, and flipped from lap to lap
 abbrev pub cycle_of : Shape → ℕ → ℕ
-cycle_of shape p = 1 - p / place_count shape % 2
+cycle_of shape p = 1 - lap_of shape p % 2
 
 -- the Links, in order, by their addresses
 abbrev pub links_of : RingKind → List Segment → List ℕ
@@ -57,7 +64,7 @@ ends shape = ends_of shape.kind shape.segments
 -- the Link that is crossed on the way to position q, by the number of its segment, if one is
 abbrev pub link_crossed : Shape → ℕ → Option ℕ
 link_crossed shape zero = None
-link_crossed shape (suc q) = position (λ n. n == q % place_count shape + 1) (ends shape)
+link_crossed shape (suc q) = position (λ n. n == place_of shape q + 1) (ends shape)
 
 abbrev pub is_crossing : Shape → ℕ → Bool
 is_crossing shape q = is_some (link_crossed shape q)

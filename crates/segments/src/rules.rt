@@ -61,7 +61,8 @@ fn overlaps_any(segment: Segment, others: &[(u64, u16)]) -> bool
         .any(|&(base, count)| segment.overlaps(Segment { base, count }))
 }
 
-fn are_apart(segments: &[(u64, u16)]) -> bool
+/// Whether no two of these segments share a byte.
+pub(crate) fn are_apart(segments: &[(u64, u16)]) -> bool
     ensures { result ≡ are_apart (map segment_of segments.now) }
 {
     for (i, &(base, count)) in segments.iter().enumerate() {
@@ -72,7 +73,8 @@ fn are_apart(segments: &[(u64, u16)]) -> bool
     true
 }
 
-fn are_segments(kind: RingKind, segments: &[(u64, u16)]) -> bool
+/// Whether each of these is one that a ring of this kind may have.
+pub(crate) fn are_segments(kind: RingKind, segments: &[(u64, u16)]) -> bool
     ensures { result ≡ list_all (λ s. is_segment kind (segment_of s)) segments.now }
 {
     segments

@@ -1,10 +1,12 @@
-ghost use Rattle.std.specs.Prelude.{◌≡◌, ◌<◌, ◌≤◌, ◌*◌, ◌==◌, ◌↔◌, false, length, map, slice_index, IfOk, IfSome};
+ghost use Rattle.std.specs.Prelude.{◌≡◌, ◌+◌, ◌<◌, ◌≤◌, ◌*◌, ◌^◌, ◌==◌, ◌↔◌, false, length, map, slice_index, IfOk, IfSome};
 ghost use Rattle.segments.specs.PlaceAt.{place_at, IsLinkOf};
 ghost use Rattle.std.specs.List.{list_any};
 ghost use Rattle.segments.specs.Index.{IsNear};
-ghost use Rattle.segments.specs.Places.{address_of, cycle_of, link_crossed, link_target, links, place_count, toggles, touches};
+ghost use Rattle.segments.specs.Places.{address_of, cycle_of, link_crossed, link_target, links, place_count, place_of, toggles, touches};
 ghost use Rattle.segments.specs.Shape.{IsShape, is_shape, rings_overlap};
 ghost use Rattle.segments.specs.ShapeValue.{segment_of, shape_of};
+
+mod growth;
 
 use crate::fault::ShapeFault;
 use crate::index::SegmentIndex;
@@ -22,6 +24,8 @@ pub struct RingShape {
     segments: Vec<Segment>,
     /// How many data places there are.
     places: u32,
+    /// What is added to a position before its place and lap are counted: 0, until the ring has grown behind its first lap.
+    offset: u64,
     /// Finds one of the segments.
     index: SegmentIndex,
 }
@@ -35,10 +39,10 @@ impl Model for RingShape {
 
     ghost Value = { Shape };
 
-    ghost view = { λ s. record { kind = s.kind; segments = s.segments.items } };
+    ghost view = { λ s. record { kind = s.kind; segments = s.segments.items; offset = s.offset } };
 
     ghost invariant = { λ s.
-        let shape : Shape = record { kind = s.kind; segments = s.segments.items } in
+        let shape : Shape = record { kind = s.kind; segments = s.segments.items; offset = s.offset } in
         record {
           allowed : IsShape shape;
           count : s.places ≡ place_count shape;
@@ -83,6 +87,7 @@ impl RingShape {
             kind,
             segments,
             places,
+            offset: 0,
             index,
         })
     }
@@ -101,6 +106,13 @@ impl RingShape {
         self.segments.as_slice()
     }
 
+    /// Places and laps are counted from position 0: it hasn't grown behind its first lap.
+    pub fn is_unmoved(&self) -> bool
+        ensures { result ≡ (self.now.offset == 0) }
+    {
+        self.offset == 0
+    }
+
     /// How many data places there are.
     pub fn places(&self) -> u32
         ensures count { result ≡ place_count self.now }
@@ -111,11 +123,62 @@ impl RingShape {
         self.places
     }
 
+    /// The data place of a position, from 0 on (xHCI 4.9.2).
+    #[inline(always)]
+    pub fn place(&self, position: u64) -> u32
+        ensures value { result ≡ place_of self.now position }
+        ensures fits { result < place_count self.now }
+    {
+        if self.offset == 0 {
+            return (position % u64::from(self.places)) as u32;
+        }
+        self.moved_place(position)
+    }
+
+    /// The same, where the ring has grown behind its first lap.
+    #[inline(never)]
+    fn moved_place(&self, position: u64) -> u32
+        ensures value { result ≡ place_of self.now position }
+        ensures fits { result < place_count self.now }
+    {
+        let places = u64::from(self.places);
+        ((position % places + self.offset % places) % places) as u32
+    }
+
+    /// The least position from another one on at a data place.
+    #[inline(always)]
+    pub fn next_at(&self, from: u64, place: u32) -> u64
+        requires place { place < place_count self.now }
+        requires fits { from + place_count self.now < 2 ^ 64 }
+        ensures from { from ≤ result }
+        ensures within { result < from + place_count self.now }
+        ensures place { place_of self.now result ≡ place }
+        ensures allowed { IsShape self.now }
+    {
+        from + u64::from(self.ahead(from, place))
+    }
+
+    /// How far that position is ahead of the other one: less than a lap.
+    #[inline(always)]
+    pub fn ahead(&self, from: u64, place: u32) -> u32
+        requires { place < place_count self.now }
+        ensures within { result < place_count self.now }
+        ensures place { place_of self.now (from + result) ≡ place }
+        ensures allowed { IsShape self.now }
+    {
+        let reached = self.place(from);
+        if place < reached {
+            place + (self.places - reached)
+        } else {
+            place - reached
+        }
+    }
+
     /// The address at which a position lies.
     pub fn address(&self, position: u64) -> u64
         ensures { result ≡ address_of self.now position }
     {
-        let place = (position % u64::from(self.places)) as u32;
+        let place = self.place(position);
         let number = self.index.segment_of(place);
         let block = place - self.index.firsts[number];
         self.segments[number].base + 16 * u64::from(block)
@@ -125,7 +188,22 @@ impl RingShape {
     pub fn cycle(&self, position: u64) -> bool
         ensures { result ≡ (cycle_of self.now position == 1) }
     {
-        position / u64::from(self.places) % 2 == 0
+        if self.offset == 0 {
+            return position / u64::from(self.places) % 2 == 0;
+        }
+        self.moved_cycle(position)
+    }
+
+    /// The same, where the ring has grown behind its first lap.
+    #[inline(never)]
+    fn moved_cycle(&self, position: u64) -> bool
+        ensures { result ≡ (cycle_of self.now position == 1) }
+    {
+        let places = u64::from(self.places);
+        let offset = self.offset;
+        let laps = position / places + offset / places;
+        let more = (position % places + offset % places) / places;
+        (laps + more) % 2 == 0
     }
 
     /// The word with this address, where it is one of the ring's blocks.
@@ -133,7 +211,9 @@ impl RingShape {
     pub fn place_at(&self, address: u64) -> Option<Place>
         ensures value { result ≡ place_at self.now address }
         ensures link { IfSome result (IsLinkOf self.now) }
+        ensures allowed { IsShape self.now }
     {
+        let kind = self.kind;
         if address % 4 != 0 {
             return None;
         }
@@ -141,7 +221,7 @@ impl RingShape {
         let segment = self.segments[number];
         let block = segment.block_at(address)?;
         let word = (address % 16 / 4) as u8;
-        Some(if block < data_blocks(self.kind, segment) {
+        Some(if block < data_blocks(kind, segment) {
             Place::Data {
                 place: self.index.firsts[number] + u32::from(block),
                 word,
@@ -196,7 +276,7 @@ impl RingShape {
         ensures link { IfSome result (λ segment. segment < length (links self.now)) }
     {
         // behind most places no segment ends
-        if q % u64::from(self.index.step) != 0 {
+        if self.offset == 0 && q % u64::from(self.index.step) != 0 {
             return None;
         }
         self.crossing_by_segment(q)
@@ -211,7 +291,7 @@ impl RingShape {
         if q == 0 || self.kind == RingKind::Evt {
             return None;
         }
-        let last = ((q - 1) % u64::from(self.places)) as u32;
+        let last = self.place(q - 1);
         let number = self.index.segment_of(last);
         let data = data_blocks(self.kind, self.segments[number]);
         let end = self.index.firsts[number] + u32::from(data);
@@ -266,6 +346,7 @@ impl RingShape {
             kind: self.kind,
             segments: copied(&self.segments)?,
             places: self.places,
+            offset: self.offset,
             index: self.index.copy()?,
         })
     }

@@ -12,14 +12,14 @@ abbrev behind_header : Version → List ℕ → Result TraceText (ℕ × LineFau
 behind_header version text = trace_of false (codes "xtrace " ++ version_word version ++ codes "\nctx 20\nring 02 xfer 0000000000030000:0004\n" ++ text)
 
 abbrev ring_2 : Ring
-ring_2 = record { id = 2; shape = record { kind = Xfer; segments = record { base = 0x30000; count = 4 } ∷ [] } }
+ring_2 = record { id = 2; shape = record { kind = Xfer; segments = record { base = 0x30000; count = 4 } ∷ []; offset = 0 } }
 
 -- a trace of that header, in this version, with these rows
 abbrev with_rows : Version → List Row → TraceText
 with_rows version rows = record { header = record { version = version; context_size = Bytes32; rings = ring_2 ∷ [] }; first = 4; rows = rows }
 
 abbrev ring_3 : Ring
-ring_3 = record { id = 3; shape = record { kind = Xfer; segments = record { base = 0x30000; count = 4 } ∷ [] } }
+ring_3 = record { id = 3; shape = record { kind = Xfer; segments = record { base = 0x30000; count = 4 } ∷ []; offset = 0 } }
 
 pub no_rows : behind_header One [] ≡ Ok (with_rows One [])
 unfolding texts_on_literals
@@ -162,7 +162,7 @@ unfolding texts_on_literals
 no_register_is_read = refl
 
 abbrev ring_of_events : Ring
-ring_of_events = record { id = 3; shape = record { kind = Evt; segments = record { base = 0x40000; count = 16 } ∷ [] } }
+ring_of_events = record { id = 3; shape = record { kind = Evt; segments = record { base = 0x40000; count = 16 } ∷ []; offset = 0 } }
 
 pub an_event_ring_comes : behind_header Four (codes "db 00 00\nring 03 evt 0000000000040000:0010\n") ≡ Ok (with_rows Four (Bell 0 0 ∷ RingRow ring_of_events ∷ []))
 unfolding texts_on_literals

@@ -122,7 +122,7 @@ module _ {T : Type 0} (fields_said : T → List Field) (FitsValue : T → Type 0
   pub record IsSaid (lines : List (Line T)) (t : T) : Type 0 where
     pub line : Line T
     pub says : Values line.kinds line.tail
-    pub makes : line.make says ≡ t
+    pub makes : FitsValue t → line.make says ≡ t
     pub named : line_named lines line.word ≡ Some line
     pub spelled : fields_said t ≡ Word line.word ∷ all_fields line.kinds line.tail says
     pub fits : FitsValue t → AllFit line.kinds line.tail says
@@ -157,7 +157,7 @@ module _ {T : Type 0} (fields_said : T → List Field) (FitsValue : T → Type 0
             let p = and_parts (bytes_eq word s.line.word) (are_written (all_fields s.line.kinds s.line.tail s.says) fields) is in
             let r = all_read s.line.kinds s.line.tail fields s.says (s.fits fits) p.1 in
             let named : line_named lines word ≡ Some s.line = ap (λ (w : List ℕ). line_named lines w) (same_bytes word s.line.word p.0) ∙ s.named in
-            ((s.line, fields), ap (λ o. option_and_then (λ l. form_as l fields) o) named ∙ (rw r.1 refl), ap (λ o. option_map s.line.make o) r.0 ∙ ap (λ (x : T). Some x) s.makes)
+            ((s.line, fields), ap (λ o. option_and_then (λ l. form_as l fields) o) named ∙ (rw r.1 refl), ap (λ o. option_map s.line.make o) r.0 ∙ ap (λ (x : T). Some x) (s.makes fits))
 
     pub table_read : ((t : T) → IsSaid lines t) → (fields : List (List ℕ)) (t : T) → FitsValue t → are_written (fields_said t) fields ≡ true →
         (form : FormOf T) × (form_in lines fields ≡ Some form) × (value_in form ≡ Some t)

@@ -1,12 +1,15 @@
 -- One ring more in a header
-use Rattle.trace_reader.proofs.MiddleLaws.{rules, ◌≡◌, ◌<◌, ◌∷◌, ◌++◌, true, false, List, [], nat_lt, arith, refl, lt-ltb, list_all-append, segment_facts, are_apart, IsHeader, Header, list_any, list_all, and_parts, and_from, or_parts, is_segment, is_shape, RingKind, Segment, Ring, clash, is_misplaced, SaysRing, together_with}
+use Rattle.trace_reader.proofs.MiddleLaws.{rules, ◌≡◌, ◌<◌, ◌∷◌, ◌++◌, true, false, List, [], nat_lt, arith, refl, lt-ltb, list_all-append, segment_facts, are_apart, IsHeader, Header, list_any, list_all, and_parts, and_from, or_parts, is_segment, is_shape, RingKind, Segment, Ring, clash, is_misplaced, SaysRing, together_with, eq-eqb}
 use Rattle.segments.specs.ShapeValue.{Shape}
-use Rattle.trace_reader.proofs.SpelledTraces.{is_line_ring}
+use Rattle.traces.specs.AllowedHeaders.{AreUnmoved}
 
 -- a ring that isn't misplaced may stand behind the others
 pub one_ring_more : (h : Header) (rings : List Ring) (ring : Ring) → ring.id < 256 → is_misplaced h.rings [] (SaysRing ring) ≡ false → IsHeader h → rings ≡ h.rings ++ ring ∷ [] →
     IsHeader (record h { rings = rings })
-one_ring_more h rings ring small placed headed is = search (rules, or_parts, and_parts, is_line_ring, and_from, list_all-append, together_with)
+one_ring_more h rings ring small placed headed is = search (rules, or_parts, and_parts, and_from, list_all-append, together_with)
+
+pub one_more_unmoved : (rings : List Ring) (ring : Ring) → AreUnmoved rings → ring.shape.offset ≡ 0 → AreUnmoved (rings ++ ring ∷ [])
+one_more_unmoved rings ring unmoved new = search (rules, list_all-append, and_from, eq-eqb)
 
 -- ---- what is asked of a ring before it is added
 

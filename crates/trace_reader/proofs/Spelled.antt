@@ -1,6 +1,6 @@
 -- What is read of a text is the valid trace that the text spells
-use Rattle.trace_reader.proofs.MiddleLaws.{rules, ◌≡◌, ◌+◌, ◌-◌, ◌≤◌, ◌&&◌, ◌∷◌, ◌++◌, ◌∙◌, ℕ, Bool, true, false, cond, List, [], length, Option, Some, None, Result, Ok, IsTrue, refl, sym, ap, subst, arith, Version, join_with_byte, list_all, bytes_eq, and_parts, and_from, ContextSize, fields_of, TextLine, lines_of, join-fields_of, LineFault, Ring, Row, have_new_ids, may_stand_together, header_there, most_lines, most_lines_of, State, TraceText, after, line_fault, next_number, read_line, read_lines, size_of, start, trace_of, version_of, whole, Field, Word, are_written, is_written, lines_written, size_fields, spells, trace_lines, version_fields, IsTrace, some_lines, same_bytes, then_are, word_first, ok_there, there, only}
-use Rattle.trace_reader.proofs.SpelledTraces.{is_line_ring, lines_for, lines_go_on, lines_read, read_on, spells_from_read, with_front}
+use Rattle.trace_reader.proofs.MiddleLaws.{rules, ◌≡◌, ◌+◌, ◌-◌, ◌≤◌, ◌&&◌, ◌∷◌, ◌++◌, ◌∙◌, ℕ, Bool, true, false, cond, List, [], length, Option, Some, None, Result, Ok, IsTrue, refl, sym, ap, subst, arith, Version, join_with_byte, nat_lt, list_all, bytes_eq, and_parts, and_from, ContextSize, fields_of, TextLine, lines_of, join-fields_of, LineFault, Ring, Row, have_new_ids, is_shape, are_unmoved, may_stand_together, header_there, most_lines, most_lines_of, State, TraceText, after, line_fault, next_number, read_line, read_lines, size_of, start, trace_of, version_of, whole, Field, Word, are_written, is_written, lines_written, size_fields, spells, trace_lines, version_fields, IsTrace, some_lines, same_bytes, then_are, word_first, ok_there, there, only}
+use Rattle.trace_reader.proofs.SpelledTraces.{are_line_rings, is_line_ring, lines_for, lines_go_on, lines_read, read_on, spells_from_read, with_front}
 
 -- ---- the first two lines
 
@@ -100,10 +100,12 @@ lines_spell keeps first second lines r b =
     let rings : lines_written (lines_for r.0.rings r.1) lines ≡ true = ap (λ (rs : List Ring). lines_written (lines_for rs r.1) lines) rings_are ∙ s.are.written in
     let sized : is_written (size_fields r.0.size) second ≡ true = ap (λ (size : ContextSize). is_written (size_fields size) second) s.are.size_is ∙ b.sized in
     let together : may_stand_together r.0.rings ≡ true = ap (λ (rs : List Ring). may_stand_together rs) rings_are ∙ s.are.together refl in
+    let shapes = and_parts (list_all (λ x. nat_lt x.id 256 && is_shape x.shape) r.0.rings) (are_unmoved r.0.rings) (sym (are_line_rings r.0.rings) ∙ ap (λ (rs : List Ring). list_all is_line_ring rs) rings_are ∙ s.are.shapes) in
     let many : length r.0.rings ≡ length s.rings = ap (λ (rs : List Ring). length rs) rings_are in (
       and_from (is_written (version_fields r.0.version) first) _ named (and_from (is_written (size_fields r.0.size) second) (lines_written (lines_for r.0.rings r.1) lines) sized rings),
       record {
-        headed = and_from (list_all is_line_ring r.0.rings) (may_stand_together r.0.rings) (ap (λ (rs : List Ring). list_all is_line_ring rs) rings_are ∙ s.are.shapes) together;
+        headed = and_from (list_all (λ x. nat_lt x.id 256 && is_shape x.shape) r.0.rings) (may_stand_together r.0.rings) shapes.0 together;
+        unmoved = shapes.1;
         rows = rw version_is s.are.fit;
         begins = s.are.begins refl;
         new_ids = ap (λ (rs : List Ring). have_new_ids rs [] r.1) rings_are ∙ s.are.new_ids;
@@ -140,10 +142,11 @@ written_reads keeps (first ∷ second ∷ lines) trace written is =
     let size = trace.header.context_size in
     let p = and_parts (is_written (version_fields version) first) (lines_written (size_fields size ∷ lines_for trace.header.rings trace.rows) (second ∷ lines)) written in
     let q = and_parts (is_written (size_fields size) second) (lines_written (lines_for trace.header.rings trace.rows) lines) p.1 in
-    let h = and_parts (list_all is_line_ring trace.header.rings) (may_stand_together trace.header.rings) is.headed in
+    let h = and_parts (list_all (λ x. nat_lt x.id 256 && is_shape x.shape) trace.header.rings) (may_stand_together trace.header.rings) is.headed in
+    let shapes = are_line_rings trace.header.rings ∙ and_from (list_all (λ x. nat_lt x.id 256 && is_shape x.shape) trace.header.rings) (are_unmoved trace.header.rings) h.0 is.unmoved in
     let first_is = is.first in
     let within = is.within in
-    let read = lines_read trace.header.rings trace.rows lines (behind_size keeps version size) (omega arith) refl h.0 h.1 is.rows is.begins is.new_ids q.1 (omega (arith, first_is, within)) in
+    let read = lines_read trace.header.rings trace.rows lines (behind_size keeps version size) (omega arith) refl shapes h.1 is.rows is.begins is.new_ids q.1 (omega (arith, first_is, within)) in
     let third = read_on (behind_version keeps version) (behind_size keeps version size) second lines None read.end trace.rows (second_read keeps version second size (search (rules, two_words))) read.is in
     let all : read_lines (start keeps) (first ∷ second ∷ lines) ≡ Ok (read.end, trace.rows) =
     read_on (start keeps) (behind_version keeps version) first (second ∷ lines) None read.end trace.rows (first_read keeps first version (search (rules, two_words))) third in

@@ -64,5 +64,5 @@ pub record ShapeSays (shape : Shape) : Type 0 where
 pub shape_says : (shape : Shape) → is_shape shape ≡ true → ShapeSays shape
 shape_says shape is = grind (arith, common_steps, All-weaker, AllPass-from_list_all)
 
-pub ring_fits : (ring : Ring) → ring.id < 256 → is_shape ring.shape ≡ true → FitsRing ring
-ring_fits ring small is = search (rules, shape_says)
+pub ring_fits : (ring : Ring) → ring.id < 256 → is_shape ring.shape ≡ true → ring.shape.offset ≡ 0 → FitsRing ring
+ring_fits ring small is unmoved = search (rules, shape_says)

@@ -1,5 +1,5 @@
 -- What is read of a text is the valid plan that the text spells
-use Rattle.trace_reader.proofs.UpperLaws.{rules, ◌≡◌, ◌<◌, ◌≤◌, ◌^◌, ◌∷◌, ◌∙◌, ℕ, inl, inr, true, false, List, [], length, map, None, Result, Ok, All, IsTrue, refl, sym, ap, arith, codes, le-ltb, and_parts, and_from, cases_Bool, or_parts, fields_of, TextLine, lines_of, is_shape, IsBlock, RingKind, Evt, LineFault, PlanLine, Ret, Ring, is_event_kind, most_lines, lines_say, PlanText, plans_too_much, is_plan_version, plan_form_of, plan_in, plan_line, plan_line_fault, plan_of, plan_ring, plan_ring_fault, plan_value, ret_line, ring_alone, ring_line_form, ring_value, plan_sub_line, with_ring, IsPlan, plan_line_fields, plan_text_lines, plan_version_fields, spells_plan, IsPlanLine, are_written, is_written, lines_written, ring_fields, AreLines, IsSaid, table_read, table_written, AreSpelled, IsSpelling, line_read, line_spells, lines_read, lines_spell, two_words, words_written, are_same_bytes, FitsRing, ring_fits, shape_says, blocks_length, blocks_sound, digits_64, digits_8, ring_length, ring_sound, sixteen_digits, sound_named, two_digits}
+use Rattle.trace_reader.proofs.UpperLaws.{rules, ◌≡◌, ◌<◌, ◌≤◌, ◌^◌, ◌∷◌, ◌∙◌, ℕ, inl, inr, true, false, List, [], length, map, None, Result, Ok, All, IsTrue, refl, sym, ap, arith, codes, le-ltb, and_parts, and_from, cases_Bool, or_parts, fields_of, TextLine, lines_of, is_shape, IsBlock, RingKind, Evt, LineFault, PlanLine, Ret, Ring, is_event_kind, most_lines, lines_say, PlanText, plans_too_much, is_plan_version, plan_form_of, plan_in, plan_line, plan_line_fault, plan_of, plan_ring, plan_ring_fault, plan_value, ret_line, ring_alone, ring_line_form, ring_value, plan_sub_line, with_ring, IsPlan, plan_line_fields, plan_text_lines, plan_version_fields, spells_plan, IsPlanLine, are_written, is_written, lines_written, ring_fields, AreLines, IsSaid, table_read, table_written, AreSpelled, IsSpelling, line_read, line_spells, lines_read, lines_spell, two_words, words_written, are_same_bytes, FitsRing, ring_of_line, ring_fits, shape_says, blocks_length, blocks_sound, digits_64, digits_8, ring_length, ring_sound, sixteen_digits, sound_named, two_digits}
 use Rattle.trace_reader.proofs.Limits.{few_blocks}
 use Rattle.traces.specs.Limits.{most_bytes_of}
 use Rattle.traces.specs.declared.version.Version.TheVariants.{One}
@@ -12,12 +12,12 @@ plan_ring_tests ring none = search (rules, or_parts)
 
 ring_is_line : AreLines ring_fields FitsRing (ring_alone ∷ [])
 unfolding ring_fields
-ring_is_line = ((λ v. (refl, (λ fits. record { id = fits.0; some = fits.1.1.1; segments = fits.1.1.0 }))), tt)
+ring_is_line = ((λ v. (refl, (λ fits. record { id = fits.0; some = fits.1.1.1; segments = fits.1.1.0; unmoved = refl }))), tt)
 
 ring_is_said : (ring : Ring) → IsSaid ring_fields FitsRing (ring_alone ∷ []) ring
 unfolding ring_fields
 ring_is_said ring =
-    record { line = ring_alone; says = (ring.id, (ring.shape.kind, ring.shape.segments)); makes = refl; named = refl; spelled = refl; fits = λ is. (is.id, (tt, (is.segments, is.some))) }
+    record { line = ring_alone; says = (ring.id, (ring.shape.kind, ring.shape.segments)); makes = λ is. ring_of_line ring is.unmoved; named = refl; spelled = refl; fits = λ is. (is.id, (tt, (is.segments, is.some))) }
 
 ring_spelling : IsSpelling ring_line_form ring_value plan_ring_fault ring_fields FitsRing
 unfolding ring_line_form ring_value most_bytes_of
@@ -40,8 +40,8 @@ plan_are_lines = ((λ v. (refl, (λ fits. (fits.0, fits.1.0, fits.1.1)))), ((λ 
 
 each_is_said : (line : PlanLine) → IsSaid plan_line_fields FitsPlanLine (plan_sub_line ∷ ret_line ∷ []) line
 unfolding plan_line_fields FitsPlanLine
-each_is_said (Sub ring blocks) = record { line = plan_sub_line; says = (ring, blocks); makes = refl; named = refl; spelled = refl; fits = λ is. (is.0, (is.1, is.2)) }
-each_is_said (Ret upto) = record { line = ret_line; says = (upto, tt); makes = refl; named = refl; spelled = refl; fits = λ is. (is, tt) }
+each_is_said (Sub ring blocks) = record { line = plan_sub_line; says = (ring, blocks); makes = λ _. refl; named = refl; spelled = refl; fits = λ is. (is.0, (is.1, is.2)) }
+each_is_said (Ret upto) = record { line = ret_line; says = (upto, tt); makes = λ _. refl; named = refl; spelled = refl; fits = λ is. (is, tt) }
 
 line_limits : (number : ℕ) (line : PlanLine) → plan_line_fault number line ≡ None → (number ≤ most_lines) × (plans_too_much line ≡ false)
 line_limits number line none = search (rules, or_parts)
@@ -103,7 +103,7 @@ read_spells (first ∷ second ∷ lines) plan is =
           let rest = lines_spell plan_line plan_line_fields IsPlanLine most_lines lines_are_spelled lines 3 plan.lines (omega arith) p.1 in (
             and_from (is_written plan_version_fields first) _ (version_written first version)
                 (and_from (is_written (ring_fields plan.ring) second) (lines_written (map plan_line_fields plan.lines) lines) ring.0 rest.0),
-            record { id = ring.1.id; shape = tests.0; driven = not_event plan.ring.shape.kind tests.1; lines = rest.1; within = omega (arith, rest.2) },
+            record { id = ring.1.id; shape = tests.0; unmoved = ring.1.unmoved; driven = not_event plan.ring.shape.kind tests.1; lines = rest.1; within = omega (arith, rest.2) },
           )
       | inr other ↦ cc (rw other at is)
     ]

@@ -6,13 +6,13 @@ use Rattle.trace_reader.proofs.Printed.{AllSoundLines, IsSoundLine, printed_line
 
 each_is_said : (step : Step) → IsSaid step_fields IsStep step_lines step
 unfolding step_fields
-each_is_said NextRow = record { line = row_line; says = tt; makes = refl; named = refl; spelled = refl; fits = λ is. is }
-each_is_said (Look ring) = record { line = look_line; says = (ring, tt); makes = refl; named = refl; spelled = refl; fits = λ is. (is, tt) }
-each_is_said (Report event) = record { line = report_line; says = event; makes = refl; named = refl; spelled = refl; fits = λ is. is }
-each_is_said (Finish event) = record { line = finish_line; says = event; makes = refl; named = refl; spelled = refl; fits = λ is. is }
-each_is_said (Other event) = record { line = other_line; says = event; makes = refl; named = refl; spelled = refl; fits = λ is. is }
-each_is_said (Scribble at word) = record { line = scrib_line; says = (at, (word, tt)); makes = refl; named = refl; spelled = refl; fits = λ is. (is.0, (is.1, tt)) }
-each_is_said Halt = record { line = halt_line; says = tt; makes = refl; named = refl; spelled = refl; fits = λ is. is }
+each_is_said NextRow = record { line = row_line; says = tt; makes = λ _. refl; named = refl; spelled = refl; fits = λ is. is }
+each_is_said (Look ring) = record { line = look_line; says = (ring, tt); makes = λ _. refl; named = refl; spelled = refl; fits = λ is. (is, tt) }
+each_is_said (Report event) = record { line = report_line; says = event; makes = λ _. refl; named = refl; spelled = refl; fits = λ is. is }
+each_is_said (Finish event) = record { line = finish_line; says = event; makes = λ _. refl; named = refl; spelled = refl; fits = λ is. is }
+each_is_said (Other event) = record { line = other_line; says = event; makes = λ _. refl; named = refl; spelled = refl; fits = λ is. is }
+each_is_said (Scribble at word) = record { line = scrib_line; says = (at, (word, tt)); makes = λ _. refl; named = refl; spelled = refl; fits = λ is. (is.0, (is.1, tt)) }
+each_is_said Halt = record { line = halt_line; says = tt; makes = λ _. refl; named = refl; spelled = refl; fits = λ is. is }
 
 -- ---- a line
 

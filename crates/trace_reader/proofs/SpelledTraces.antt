@@ -1,11 +1,19 @@
 -- What is read of a text's lines, and what the lines spell
-use Rattle.trace_reader.proofs.MiddleLaws.{common_steps, rules, ◌≡◌, ◌+◌, ◌≤◌, ◌&&◌, ◌∷◌, ◌++◌, ◌∙◌, ℕ, Bool, true, false, not, List, [], length, map, nat_lt, Option, Some, None, Result, Ok, refl, sym, ap, arith, append_assoc, append-nil, ltb-true, list_any, list_all, and_parts, and_from, not-true, or_parts, or_from, All-head, All-tail, fields_of, TextLine, is_shape, LineFault, Ring, Row, AreRowsOf, IsRowOf, begins_with_ring, has_no_shape, has_used_id, have_new_ids, ids_with, behind_row, clash, may_stand_together, most_of, State, next_number, read_line, read_lines, with_said, Field, are_written, lines_written, ring_fields, row_fields, Said, SaysRow, SaysRing, no_clash, ring_fits, together_with, IsGood, read_from_good, step_from_read}
+use Rattle.trace_reader.proofs.MiddleLaws.{common_steps, rules, ◌≡◌, ◌+◌, ◌≤◌, ◌==◌, ◌&&◌, ◌∷◌, ◌++◌, ◌∙◌, ℕ, Bool, true, false, not, List, [], length, map, nat_lt, Option, Some, None, Result, Ok, refl, sym, ap, arith, append_assoc, append-nil, ltb-true, eqb-true, list_any, list_all, and_parts, and_from, not-true, or_parts, or_from, All-head, All-tail, fields_of, TextLine, is_shape, LineFault, Ring, Row, AreRowsOf, IsRowOf, are_unmoved, begins_with_ring, has_no_shape, has_used_id, have_new_ids, ids_with, behind_row, clash, may_stand_together, most_of, State, next_number, read_line, read_lines, with_said, Field, are_written, lines_written, ring_fields, row_fields, Said, SaysRow, SaysRing, no_clash, ring_fits, together_with, IsGood, read_from_good, step_from_read}
 
 -- ---- rows
 
--- a ring with an ID of its field and an allowed shape
+-- a ring with an ID of its field and an allowed shape, that hasn't grown
 abbrev pub is_line_ring : Ring → Bool
-is_line_ring r = nat_lt r.id 256 && is_shape r.shape
+is_line_ring r = nat_lt r.id 256 && is_shape r.shape && r.shape.offset == 0
+
+-- so are those of a header by whose rings a trace begins
+pub are_line_rings : (rings : List Ring) → list_all is_line_ring rings ≡ (list_all (λ r. nat_lt r.id 256 && is_shape r.shape) rings && are_unmoved rings)
+are_line_rings [] = refl
+are_line_rings (ring ∷ rings) = rw (are_line_rings rings) (swap (nat_lt ring.id 256 && is_shape ring.shape) (ring.shape.offset == 0) (list_all (λ r. nat_lt r.id 256 && is_shape r.shape) rings) (are_unmoved rings))
+  where
+    swap : (a b c d : Bool) → (a && b && (c && d)) ≡ (a && c && (b && d))
+    swap a b c d = search rules
 
 -- ---- what lines are spelled as, from one state to another
 
@@ -133,10 +141,11 @@ lines_read (ring ∷ rings) rows [] st behind fresh shapes together fit begins n
 lines_read (ring ∷ rings) rows (line ∷ lines) st behind fresh shapes together fit begins new_ids written within =
     let w = written_line (ring_fields ring) line (lines_for rings rows) lines written in
     let p = and_parts (is_line_ring ring) (list_all is_line_ring rings) shapes in
-    let q = and_parts (nat_lt ring.id 256) (is_shape ring.shape) p.0 in
+    let own = and_parts (nat_lt ring.id 256 && is_shape ring.shape) (ring.shape.offset == 0) p.0 in
+    let q = and_parts (nat_lt ring.id 256) (is_shape ring.shape) own.0 in
     let good : IsGood st line (SaysRing ring) = record {
       ended = w.0;
-      spelled = record { written = w.1; fits = ring_fits ring (ltb-true ring.id 256 q.0) q.1 };
+      spelled = record { written = w.1; fits = ring_fits ring (ltb-true ring.id 256 q.0) q.1 (eqb-true ring.shape.offset 0 own.1) };
       ordered = ap not fresh;
       within = omega (arith, within);
       few = refl;

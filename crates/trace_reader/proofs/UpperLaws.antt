@@ -1,6 +1,6 @@
 -- Words and lemmas, passed on to the files above them
-pub use Rattle.trace_reader.proofs.MiddleLaws.{AllSound, AreLeft, AreLines, AreSpelled, FitsRing, IsCut, IsGood, IsSaid, IsSpelling, added, all_with, alone, are_same_bytes, at_start, bad_line_there, behind, bell_says, block_length, block_sound, blocks_length, blocks_sound, blocks_within, clashes, come_behind, content_faulty, content_whole, cut, digits_32, digits_64, digits_8, dropped, eight_digits, ended, ended_behind, ended_left, ended_lines, event_says, faulted, header_there, kept, last_met, line_entry, line_error, line_of, line_read, line_spells, lines_ended, lines_read, lines_spell, lowered, moved, no_ring_taken, no_second, no_size, no_text, no_version, no_word, none_met, none_overlapped, not_limited, nothing_before, nothing_behind, one_less, one_line_more, passed_by, passed_on, past_limit, plain_fields, prepend, prepended, read_from_good, register_says, ring_fits, ring_length, ring_sound, ring_taken, said_behind, same_most, shape_says, sixteen_digits, size_read, some_came, some_lines, sound_named, step_from_read, stopped, sub_says, subs_say, table_read, table_written, too_much, row_sound, two_digits, unfaulted, version_read, version_there, whole_schedule, whole_text, write_says, written_as_printed}
-pub use Rattle.trace_reader.proofs.RingsGrow.{its_segments, one_ring_more, placed_well}
+pub use Rattle.trace_reader.proofs.MiddleLaws.{AllSound, AreLeft, AreLines, AreSpelled, FitsRing, IsCut, IsGood, IsSaid, IsSpelling, added, all_with, alone, are_same_bytes, at_start, bad_line_there, behind, bell_says, block_length, block_sound, blocks_length, blocks_sound, blocks_within, clashes, come_behind, content_faulty, content_whole, cut, digits_32, digits_64, digits_8, dropped, eight_digits, ended, ended_behind, ended_left, ended_lines, event_says, faulted, header_there, kept, last_met, line_entry, line_error, line_of, line_read, line_spells, lines_ended, lines_read, lines_spell, lowered, moved, no_ring_taken, no_second, no_size, no_text, no_version, no_word, none_met, none_overlapped, not_limited, nothing_before, nothing_behind, one_less, one_line_more, passed_by, passed_on, past_limit, plain_fields, prepend, prepended, read_from_good, register_says, ring_fits, ring_length, ring_sound, ring_taken, said_behind, same_most, shape_says, sixteen_digits, size_read, some_came, some_lines, sound_named, step_from_read, stopped, sub_says, subs_say, table_read, table_written, too_much, row_sound, two_digits, unfaulted, version_read, version_there, whole_schedule, whole_text, write_says, written_as_printed, ring_of_line}
+pub use Rattle.trace_reader.proofs.RingsGrow.{its_segments, one_more_unmoved, one_ring_more, placed_well}
 pub use Rattle.trace_reader.proofs.RowLines.{behind_noted, no_ring, placed_error, plain_placed, row_error, row_placed}
 pub use Rattle.trace_reader.proofs.RowsAhead.{begins_with, cut_at, found_ahead, if_is}
 pub use Rattle.trace_reader.proofs.Spelled.{one_trace, read_if_spelled, spelled_if_read, two_words, whole_there, words_written}

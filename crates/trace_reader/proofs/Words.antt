@@ -72,7 +72,7 @@ pub use Rattle.trace_reader.specs.Streaming.RowByRow.{Call, Progress, behind_lin
 unfoldable pub use Rattle.trace_reader.specs.Streaming.RowByRow.{next_row, opened, opened_in}
 pub use Rattle.trace_reader.specs.Streaming.Streams.{IsReadTo, OfStream, read_with, IsBadLine}
 pub use Rattle.trace_reader.specs.Streaming.WholeTexts.{AreNumbered, AreOfLines, GivenRows, IsBehind, answered, joined, joined_behind, rows_given}
-pub use Rattle.trace_reader.specs.TraceLines.{Form, bell_line, comes_line, event_line, goes_line, reg_line, ring_line, sub_line, withdraws_line, write_line, reg_read_line, said_lines}
+pub use Rattle.trace_reader.specs.TraceLines.{Form, bell_line, comes_line, event_line, goes_line, reg_line, ring_line, sub_line, withdraws_line, write_line, reg_read_line, said_lines, ring_as}
 unfoldable pub use Rattle.trace_reader.specs.TraceLines.{form_of, said_of}
 pub use Rattle.trace_reader.specs.TraceOfText.{TraceText}
 pub use Rattle.trace_reader.specs.Valid.{IsTrace}
@@ -89,7 +89,7 @@ pub use Rattle.trace_reader.specs.declared.row_reader.fault.StreamFault.{StreamF
 pub use Rattle.trace_reader.specs.declared.row_reader.fault.StreamFault.TheVariants.{Device, Line, Memory as NoMemory}
 pub use Rattle.trace_reader.specs.declared.row_reader.reader.RowReader.{RowReader}
 pub use Rattle.trace_reader.specs.declared.so_far.TraceSoFar.{TraceSoFar}
-pub use Rattle.traces.specs.AllowedHeaders.{IsHeader, clash, may_stand_together}
+pub use Rattle.traces.specs.AllowedHeaders.{IsHeader, are_unmoved, clash, may_stand_together}
 pub use Rattle.traces.specs.Header.{is_command_kind, is_event_kind}
 pub use Rattle.traces.specs.Limits.{most_bytes, most_declared, most_lines, most_schedule_lines, most_streamed_lines}
 unfoldable pub use Rattle.traces.specs.Limits.{most_lines_of}

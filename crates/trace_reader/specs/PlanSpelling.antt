@@ -1,5 +1,5 @@
 -- How a plan is spelled, and which plans have a text
-use Rattle.std.specs.Prelude.{◌≢◌, ℕ, ◌+◌, ◌<◌, ◌≤◌, Bool, List, [], ◌∷◌, length, map, codes}
+use Rattle.std.specs.Prelude.{◌≡◌, ◌≢◌, ℕ, ◌+◌, ◌<◌, ◌≤◌, Bool, List, [], ◌∷◌, length, map, codes}
 use Rattle.std.specs.Int.{w8, w64}
 use Rattle.std.specs.List.{flat_map}
 use Rattle.line_text.specs.Lines.{lines_of}
@@ -31,6 +31,7 @@ spells_plan plan text = lines_written (plan_text_lines plan) (lines_of text)
 pub record IsPlan (plan : PlanText) : Type 0 where
   pub id : plan.ring.id < 256
   pub shape : IsShape plan.ring.shape
+  pub unmoved : plan.ring.shape.offset ≡ 0
   pub driven : plan.ring.shape.kind ≢ Evt
   pub lines : ArePlanLines plan.lines
   pub within : length plan.lines + 2 ≤ most_lines

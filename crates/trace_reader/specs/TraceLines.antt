@@ -36,7 +36,7 @@ driver_lines = sub_line ∷ write_line ∷ reg_line ∷ bell_line ∷ event_line
 -- ---- rings
 
 abbrev pub ring_as : ℕ × (RingKind × List Segment) → Ring
-ring_as v = record { id = v.0; shape = record { kind = v.1.0; segments = v.1.1 } }
+ring_as v = record { id = v.0; shape = record { kind = v.1.0; segments = v.1.1; offset = 0 } }
 
 -- a ring of the header
 abbrev pub ring_line : Line Said

@@ -5,7 +5,7 @@ ghost use Rattle.trace_reader.specs.Reading.{read_line, start, trace_of, whole};
 ghost use Rattle.trace_reader.specs.TraceOfText.{TraceText};
 ghost use Rattle.trace_reader.specs.Spelling.{printed_trace, spells};
 ghost use Rattle.trace_reader.specs.Valid.{IsTrace};
-ghost use Rattle.traces.specs.AllowedHeaders.{IsHeader};
+ghost use Rattle.traces.specs.AllowedHeaders.{AreUnmoved, IsHeader};
 ghost use Rattle.traces.specs.Limits.{most_lines, most_lines_of};
 ghost use Rattle.trace_reader.specs.Values.{SaysRing, SaysRow};
 
@@ -256,6 +256,7 @@ impl TraceSoFar {
     pub fn into_header(self) -> Header
         ensures said { result ≡ record { version = self.version; context_size = self.size; rings = self.rings.items } }
         ensures headed { IsHeader result }
+        ensures unmoved { AreUnmoved result.rings }
     {
         Header {
             version: self.version,

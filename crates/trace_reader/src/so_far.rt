@@ -1,6 +1,6 @@
 ghost use Rattle.std.specs.Prelude.{◌≡◌, ◌≤◌, true};
 ghost use Rattle.trace_reader.specs.SegmentsApart.{AreSegmentsOf};
-ghost use Rattle.traces.specs.AllowedHeaders.{IsHeader};
+ghost use Rattle.traces.specs.AllowedHeaders.{AreUnmoved, IsHeader};
 ghost use Rattle.traces.specs.Limits.{most_lines_of, most_streamed_lines};
 
 use crate::segments_so_far::SegmentsSoFar;
@@ -30,5 +30,6 @@ pub struct TraceSoFar {
     pub ghost within: { lines ≤ most_lines_of keeps version },
     pub ghost counted: { lines ≤ most_streamed_lines },
     pub ghost headed: { IsHeader (record { version = version; context_size = size; rings = rings.items }) },
+    pub ghost unmoved: { AreUnmoved rings.items },
     pub ghost searched: { has_all_segments ≡ true → AreSegmentsOf rings.items segments },
 }

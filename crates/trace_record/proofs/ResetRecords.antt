@@ -1,8 +1,9 @@
 -- The record of a trace behind a reset
 use Rattle.trace_record.proofs.UpperLaws.{rules, ◌≡◌, ◌≢◌, ◌∙◌, ◌<◌, ◌≤◌, ◌∷◌, ℕ, zero, suc, List, [], Bool, true, false, Option, None, Some, refl, ap, sym, subst, arith, inl, inr, length, slice_get, Ring, Header, IsHeader, Known, is_command_kind, command_id, command_ring, shape_of, IsAmong, among_at, same_or_apart, shape_there, together}
 use Rattle.trace_record.proofs.BaseWords.{◌⊎◌, ◌+◌, ◌&&◌, if◌then◌else◌, Shape, cases_Bool, false≢true, is_driver_kind, none-some, same_Some, set}
-use Rattle.trace_record.proofs.BaseWords.{◌%◌, cases_lt, filter, le-leb, list_any, nat_le, place_count, position, range_with_len, unfinished, unfinished_positions}
+use Rattle.trace_record.proofs.BaseWords.{cases_lt, filter, le-leb, list_any, nat_le, place_count, position, range_with_len, unfinished, unfinished_positions}
 use Rattle.trace_record.proofs.BaseWords.{Command, EventState, FollowsDevices, FollowsEvents, FollowsRegisters, FollowsTrace, FollowsUnfinished, HoldsAreas, HoldsSoiled, SoiledWords, TraceRecord, binds_ring, command_at, cond-true, device_context_bytes, device_contexts, eq-eqb, filter_map, has, input_context_bytes, inputs_of, is_being_bound, nothing, slice_get_within, slots}
+use Rattle.segments.specs.Places.{place_of}
 use Rattle.segments.specs.RingView.{RingView, declared, due_positions, floor_number}
 use Rattle.segments.specs.Spots.{after, number}
 use Rattle.segments.proofs.SpotOrder.{after_is}
@@ -104,7 +105,7 @@ module _ (shape : Shape) (v : RingView) (r : RingRecord) (known : FollowsRing sh
     | inl within ↦
         not_given (v.given p) (nat_le (given_count shape v) p) (le-leb (given_count shape v) p low)
         (none_each (λ q. v.given q && nat_le (given_count shape v) q) (floor_number v) (place_count shape) gapless p (omega (arith, low, floor_within shape v r known, count_is shape v r known)) within)
-    | inr past ↦ known.marks.given p ∙ noted_past (floor_number v) (place_count shape) r.given.items (p % place_count shape) p past
+    | inr past ↦ known.marks.given p ∙ noted_past (floor_number v) (place_count shape) r.given.items (place_of shape p) p past
   ])
     where
       not_given : (a b : Bool) → b ≡ true → (a && b) ≡ false → a ≡ false

@@ -1,11 +1,12 @@
 -- A word outside a ring is none that the ring owns, and its write gives nothing of the ring
-use Rattle.trace_record.proofs.LowerLaws.{rules, common_steps, ◌≡◌, ◌+◌, ◌/◌, ◌%◌, ◌<◌, ◌≤◌, ℕ, [], true, false, arith, not, nat_lt, filter, ltb-true, eqb-true, nat_le, false≢true, Data, Shape, IsShape, place_count, address_of, cycle_of, is_inside, is_crossing, link_address, overlap, RingView, Writes, changed, gives, gives_crossing, is_due, is_crossing_due, positions_given, crossings_given, leased_positions, leased_crossings, due_positions, due_crossings, floor_number, place_below, address_aligned, link_aligned, place_at-data, place_at-link, is_inside-place_at, crosses, crossed_link, link_address_is, is_owned, false_unless, and_false, or_false, any_nowhere, any_filter, filter_nothing}
+use Rattle.trace_record.proofs.LowerLaws.{rules, common_steps, ◌≡◌, ◌+◌, ◌/◌, ◌%◌, ◌<◌, ◌≤◌, ℕ, [], true, false, arith, not, nat_lt, filter, ltb-true, eqb-true, nat_le, false≢true, Data, Shape, IsShape, address_of, cycle_of, is_inside, is_crossing, link_address, overlap, RingView, Writes, changed, gives, gives_crossing, is_due, is_crossing_due, positions_given, crossings_given, leased_positions, leased_crossings, due_positions, due_crossings, floor_number, place_below, address_aligned, link_aligned, place_at-data, place_at-link, is_inside-place_at, crosses, crossed_link, link_address_is, is_owned, false_unless, and_false, or_false, any_nowhere, any_filter, filter_nothing}
+use Rattle.segments.specs.Places.{place_of}
 use Rattle.trace_record.proofs.RingFinder.ListTests.{and_left, and_right}
 
 module _ (shape : Shape) (allowed : IsShape shape) (a : ℕ) (aligned : a % 4 ≡ 0) where
   block_inside : (p : ℕ) → address_of shape p ≤ a → a < address_of shape p + 16 → is_inside shape a ≡ true
   block_inside p low high =
-      is_inside-place_at shape allowed a (Data (p % place_count shape) (a % 16 / 4)) (place_at-data shape allowed (p % place_count shape) a (place_below shape allowed p) aligned low high)
+      is_inside-place_at shape allowed a (Data (place_of shape p) (a % 16 / 4)) (place_at-data shape allowed (place_of shape p) a (place_below shape allowed p) aligned low high)
 
   pub link_inside : (q : ℕ) → is_crossing shape q ≡ true → link_address shape q ≤ a → a < link_address shape q + 16 → is_inside shape a ≡ true
   link_inside q crossing low high =

@@ -22,3 +22,10 @@ is_header h = list_all (λ r. nat_lt r.id 256 && is_shape r.shape) h.rings && ma
 
 abbrev pub IsHeader : Header → Type 0
 IsHeader h = IsTrue (is_header h)
+
+-- no ring has grown behind its first lap: so it is of those that a trace begins with
+abbrev pub are_unmoved : List Ring → Bool
+are_unmoved rings = list_all (λ r. r.shape.offset == 0) rings
+
+abbrev pub AreUnmoved : List Ring → Type 0
+AreUnmoved rings = IsTrue (are_unmoved rings)

@@ -32,7 +32,7 @@ ring_with h id = find (λ r. r.id == id) h.rings
 
 -- the shape of no ring: it has no places
 abbrev pub no_shape : RingKind → Shape
-no_shape kind = record { kind = kind; segments = [] }
+no_shape kind = record { kind = kind; segments = []; offset = 0 }
 
 abbrev pub shape_or : RingKind → Option Ring → Shape
 shape_or kind None = no_shape kind

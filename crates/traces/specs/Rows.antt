@@ -1,5 +1,5 @@
 -- Rows and steps whose numbers fit the fields of their types
-use Rattle.std.specs.Prelude.{◌≢◌, ◌<◌, ◌^◌, Bool, true, false, All, List, length}
+use Rattle.std.specs.Prelude.{◌≡◌, ◌≢◌, ◌<◌, ◌^◌, Bool, true, false, All, List, length}
 use Rattle.std.proofs.Props.{props}
 use Rattle.trb.specs.Block.{IsBlock}
 use Rattle.segments.specs.Shape.{IsShape}
@@ -11,10 +11,11 @@ use Rattle.traces.specs.declared.step.Step.{Step}
 use Rattle.traces.specs.declared.step.Step.TheVariants.{NextRow, Look, Report, Finish, Other, Scribble, Halt}
 use Rattle.traces.specs.Steps.{IsStep, IsWordAddress}
 
--- a ring that may come, by its line alone
+-- a ring that may come, by its line alone: it hasn't grown
 pub record IsComing (r : Ring) : Type 0 where
   pub low : r.id < 256
   pub shape : IsShape r.shape
+  pub unmoved : r.shape.offset ≡ 0
 
 abbrev pub IsRow : Row → Type 0
 IsRow (Sub ring blocks) = (ring < 256) × All IsBlock blocks

@@ -1,6 +1,7 @@
-ghost use Rattle.std.specs.Prelude.{◌≡◌, ◌<◌, ◌∷◌, ◌++◌, [], length, remove, IfOk, OnErr, OnOk};
-ghost use Rattle.std.specs.List.{list_any};
-ghost use Rattle.traces.specs.AllowedHeaders.{clash, may_stand_together};
+ghost use Rattle.std.specs.Prelude.{◌≡◌, ◌<◌, ◌∷◌, ◌++◌, ◌&&◌, [], length, nat_lt, remove, true, IfOk, OnErr, OnOk};
+ghost use Rattle.std.specs.List.{list_all, list_any};
+ghost use Rattle.segments.specs.Shape.{is_shape};
+ghost use Rattle.traces.specs.AllowedHeaders.{AreUnmoved, IsHeader, are_unmoved, clash, may_stand_together};
 
 use crate::ring::Ring;
 use crate::version::Version;
@@ -88,13 +89,33 @@ impl Header {
         })
     }
 
-    /// Whether its rings may stand together: so it is of each header that was read, and asked of one that is made by hand. Each two rings are
-    /// compared. (That shapes are allowed is so of every `RingShape`.)
+    /// Whether its rings haven't grown and may stand together: so it is of each header that was read, and asked of one that is made by hand.
+    /// Each two rings are compared. That shapes are allowed is so of every `RingShape`, and told besides.
     pub fn fits(&self) -> bool
-        ensures { result ≡ may_stand_together self.now.rings }
+        ensures same { result ≡ (are_unmoved self.now.rings && may_stand_together self.now.rings) }
+        ensures headed { result ≡ true → IsHeader self.now }
+        ensures unmoved { result ≡ true → AreUnmoved self.now.rings }
     {
-        may_stand_together(self.rings.as_slice())
+        read_rings(self.rings.as_slice());
+        are_unmoved(self.rings.as_slice()) && may_stand_together(self.rings.as_slice())
     }
+}
+
+/// The ID of each ring has 8 bits, and its shape is allowed.
+fn read_rings(rings: &[Ring])
+    ensures { list_all (λ r. nat_lt r.id 256 && is_shape r.shape) rings.now ≡ true }
+{
+    for ring in rings {
+        let _id = ring.id;
+        let _places = ring.shape.places();
+    }
+}
+
+/// None of the rings has grown.
+fn are_unmoved(rings: &[Ring]) -> bool
+    ensures { result ≡ are_unmoved rings.now }
+{
+    rings.iter().all(|ring| ring.shape.is_unmoved())
 }
 
 /// No two of the rings clash.

@@ -1,6 +1,7 @@
-ghost use Rattle.std.specs.Prelude.{◌≡◌, IfOk};
+ghost use Rattle.std.specs.Prelude.{◌≡◌, true, IfOk};
 ghost use Rattle.traces.specs.AllowedHeaders.{clash};
 ghost use Rattle.traces.specs.Header.{is_command_kind, is_event_kind};
+ghost use Rattle.traces.specs.Rows.{IsComing};
 
 use segments::RingShape;
 use std::alloc::AllocError;
@@ -35,6 +36,16 @@ impl Ring {
             || self.shape.overlaps_ring(&other.shape)
             || (self.is_command() && other.is_command())
             || (self.is_event() && other.is_event())
+    }
+
+    /// It hasn't grown. Its ID has 8 bits and its shape is allowed, as it is of every ring: both are read, and nothing is done with them.
+    pub(crate) fn fits_fields(&self) -> bool
+        ensures fits { result ≡ true → IsComing self.now }
+        ensures unfit { IsComing self.now → result ≡ true }
+    {
+        let _id = self.id;
+        let _places = self.shape.places();
+        self.shape.is_unmoved()
     }
 
     /// It is the Command Ring.

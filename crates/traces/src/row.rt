@@ -1,4 +1,5 @@
-ghost use Rattle.std.specs.Prelude.{◌≡◌, ◌≢◌, ◌<◌, ◌^◌, true, false};
+ghost use Rattle.std.specs.Prelude.{◌≡◌, ◌≢◌, ◌<◌, ◌^◌, All, true, false};
+ghost use Rattle.trb.specs.Block.{IsBlock};
 ghost use Rattle.traces.specs.Header.{is_transfer_kind};
 ghost use Rattle.traces.specs.Register.{is_wide};
 ghost use Rattle.traces.specs.Rows.{FitsLine, IsRow, is_ring_row};
@@ -35,12 +36,15 @@ pub enum Row {
 
 impl Row {
     /// Whether a row of a trace of the version may be this one: so it is of each row that was read, and asked of one that is made by hand. A
-    /// declaration has a block at least and not too many, a register of 32 bits a value of 32, and the version has rows of the kind. (That
-    /// numbers fit the fields of their types is so of every value.)
+    /// declaration has a block at least and not too many, a register of 32 bits a value of 32, a ring hasn't grown, and the version has rows of
+    /// the kind. That numbers fit the fields of their types is so of every value, and told besides.
     pub fn fits(&self, version: Version) -> bool
-        ensures fits { result ≡ true → IsRow self.now → IsRowOf version self.now }
+        ensures fits { result ≡ true → IsRowOf version self.now }
         ensures unfit { IsRowOf version self.now → result ≡ true }
     {
+        if !self.fits_fields() {
+            return false;
+        }
         self.fits_line() && self.is_of_version(version) && !self.declares_too_much(version)
     }
 
@@ -81,6 +85,40 @@ impl Row {
         }
     }
 
+    /// A ring hasn't grown. Its numbers fit the fields of their types, as those of every value do: each is read, and nothing is done with it.
+    fn fits_fields(&self) -> bool
+        ensures fits { result ≡ true → IsRow self.now }
+        ensures unfit { IsRow self.now → result ≡ true }
+    {
+        match self {
+            Row::Sub { ring, blocks } => {
+                let _ring = *ring;
+                read_blocks(blocks.as_slice());
+            }
+            Row::Write { at, word } => {
+                let _at = at.get();
+                let _word = *word;
+            }
+            Row::Reg { value, .. } | Row::RegRead { value, .. } => {
+                let _value = *value;
+            }
+            Row::Bell { slot, target } => {
+                let _slot = *slot;
+                let _target = *target;
+            }
+            Row::Read { event } => read_words(*event),
+            Row::Ring { ring } => return ring.as_ring().fits_fields(),
+            Row::Free { ring } => {
+                let _ring = *ring;
+            }
+            Row::Nop { ring, position } => {
+                let _ring = *ring;
+                let _position = *position;
+            }
+        }
+        true
+    }
+
     /// A line can say it.
     fn fits_line(&self) -> bool
         ensures fits { result ≡ true → FitsLine self.now }
@@ -94,4 +132,20 @@ impl Row {
             _ => true,
         }
     }
+}
+
+/// The words of each block have 32 bits.
+fn read_blocks(blocks: &[Block])
+    ensures { All IsBlock blocks.now }
+{
+    for block in blocks {
+        read_words(*block);
+    }
+}
+
+/// The words of a block have 32 bits.
+fn read_words(block: Block)
+    ensures { IsBlock block }
+{
+    let [_first, _second, _third, _last] = block.w;
 }

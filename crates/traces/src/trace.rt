@@ -1,5 +1,5 @@
 ghost use Rattle.std.specs.Prelude.{◌≡◌, ◌+◌, ◌≤◌, [], false, true, length};
-ghost use Rattle.traces.specs.AllowedHeaders.{IsHeader};
+ghost use Rattle.traces.specs.AllowedHeaders.{AreUnmoved, IsHeader};
 ghost use Rattle.traces.specs.Limits.{most_streamed_lines};
 ghost use Rattle.traces.specs.TraceRows.{AreRowsOf, begins_with_ring, have_new_ids, rows_of_are_fact};
 
@@ -39,8 +39,8 @@ impl Rows {
 }
 
 /// A trace that was read, its rows kept in memory: what the driver did, and the rows by which rings come and go and descriptors are
-/// withdrawn. Its rings have allowed shapes and may stand together, each ring that comes has an ID that none had before, and its version
-/// has each of its rows.
+/// withdrawn. Its rings have allowed shapes, haven't grown and may stand together, each ring that comes has an ID that none had before, and its
+/// version has each of its rows.
 #[derive(Debug, Drop)]
 pub struct Trace {
     /// The version, the context size, and the rings before the first row.
@@ -50,6 +50,7 @@ pub struct Trace {
     /// The rows, one a line.
     pub rows: Rows,
     pub ghost headed: { IsHeader header },
+    pub ghost unmoved: { AreUnmoved header.rings },
     pub ghost placed: { first ≡ length header.rings + 3 },
     pub ghost fitting: { AreRowsOf header.version rows } by { rows_of_are_fact header.version rows },
     pub ghost begins: { begins_with_ring rows ≡ false },

@@ -6,12 +6,13 @@ pub use Rattle.contexts.specs.Contexts.{input_add_flag}
 pub use Rattle.contexts.specs.declared.size.ContextSize.{ContextSize}
 pub use Rattle.contexts.specs.declared.size.ContextSize.TheVariants.{Bytes32}
 pub use Rattle.event_ring.proofs.DequeueLemmas.{position_from-place}
-pub use Rattle.event_ring.proofs.Words.{Data, address_aligned, or_from, place_at-Data, place_at-address_of, position_from}
+pub use Rattle.event_ring.proofs.Words.{Data, or_from, place_at-Data, position_from}
 pub use Rattle.event_ring.specs.EventRing.{is_event_place}
 pub use Rattle.guest_memory.specs.Memory.{put, put_pair}
-pub use Rattle.segments.proofs.Positions.{address_of-first}
-pub use Rattle.segments.proofs.Words.{Block, IsShape, Shape, address_of, cases_lt, cond-false, cond-true, data_places, list_any, list_any_at, place_at, place_count, range_with_len}
-pub use Rattle.std.proofs.Common.{Bool, List, None, Some, [], ap, arith, eq-eqb, false, find, get_or, inl, inr, length, lt-ltb, nat_lt, ne_eqb, refl, rules, subst, suc, sym, true, unwrap_or, zero, ℕ, ◌%◌, ◌&&◌, ◌*◌, ◌+◌, ◌-◌, ◌<◌, ◌==◌, ◌||◌, ◌∙◌, ◌∷◌, ◌≡◌, ◌≢◌, ◌≤◌}
+pub use Rattle.segments.proofs.DataPlaces.{place_aligned}
+pub use Rattle.segments.proofs.PlaceAtLemmas.{place_at-data}
+pub use Rattle.segments.proofs.Words.{Block, IsShape, Shape, cases_lt, cond-false, cond-true, data_places, list_any, list_any_at, place_at, place_count, place_of, range_with_len}
+pub use Rattle.std.proofs.Common.{Bool, List, None, Some, [], ap, arith, eq-eqb, false, find, get_or, inl, inr, length, lt-ltb, nat_lt, ne_eqb, refl, rules, subst, suc, sym, true, unwrap_or, zero, ℕ, ◌%◌, ◌&&◌, ◌+◌, ◌-◌, ◌<◌, ◌==◌, ◌||◌, ◌∙◌, ◌∷◌, ◌≡◌, ◌≢◌, ◌≤◌, slice_index, ◌/◌}
 pub use Rattle.traces.specs.declared.header.Header.{Header}
 pub use Rattle.traces.specs.declared.version.Version.TheVariants.{One}
 pub use Rattle.trb.specs.Block.{same_words}

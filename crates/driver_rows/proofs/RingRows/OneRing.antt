@@ -1,7 +1,7 @@
 -- Something happens on a transfer ring that leaves all else as it is: the record follows
 use Rattle.driver_rows.proofs.MiddleLaws.{rules, ◌≤◌, ◌≡◌, ◌∙◌, ℕ, Bool, true, false, Some, refl, ap, sym, subst, slice_get, with_item, RingKind, is_not_restored, ceiling, IsShape, RingChange, RingView, Restores, Withdraws, changed, floor_number, ceiling_within, DriverKeeps, IsDriverRing, Shape, Header, Ring, IsHeader, is_command_kind, is_transfer_kind, ring_with, shape_of, RingRecord, FollowsRing, Known, on_ring, unfinished, ring_elsewhere, same_blocks, unfinished_same, IsAmong, among_at, no_command_here, ring_found, shape_allowed, shape_there, TraceRecord, FollowsTrace, restored_on, IsTransferAt, is_passed, follows_beside, followed, here_on, only_on, rings_with, driver}
 use Rattle.ownership_rules.specs.Withdrawals.{is_left}
-use Rattle.driver_rows.specs.RingRows.Withdrawing.{is_unfit}
+use Rattle.ownership_rules.specs.Withdrawals.{is_unfit}
 
 no_command : (kind : RingKind) → is_transfer_kind kind ≡ true → is_command_kind kind ≡ false
 no_command kind e = search rules

@@ -1,10 +1,12 @@
 -- The rule of a descriptor that is withdrawn, from its parts
-use Rattle.driver_rows.proofs.LowerLaws.{rules, ◌≡◌, ◌∙◌, ◌⊎◌, ◌||◌, ◌≤◌, ℕ, true, false, ap, Result, IfErr, OnOk, ceiling, RingView, floor_number, Shape, Header, shape_of, Known, has_stopped, is_bad_withdraw, StepFault, IfRefused, Refusal, is_no_descriptor, is_passed, list_any, range_with_len, is_some, sym, inl, inr, ◌==◌, and_from, lt-ltb, cases_lt, withdraws_badly, or_true, ◌+◌, ◌<◌, Bool, arith, max, nat_le, nat_lt, nat_tests, if◌then◌else◌, has_runs, is_lenient, descriptor_length, IsNotPassed}
-use Rattle.std.proofs.Common.{le-leb, min}
+use Rattle.driver_rows.proofs.LowerLaws.{rules, ◌≡◌, ◌∙◌, ◌⊎◌, ◌||◌, ◌≤◌, ℕ, true, false, ap, refl, Result, IfErr, OnOk, ceiling, RingView, floor_number, Shape, Header, shape_of, Known, has_stopped, is_bad_withdraw, StepFault, IfRefused, Refusal, is_passed, list_any, range_with_len, is_some, length, List, sym, subst, inl, inr, and_from, lt-ltb, cases_lt, withdraws_badly, or_true, ◌+◌, ◌-◌, ◌<◌, Bool, arith, max, nat_le, nat_lt, nat_tests, if◌then◌else◌, has_runs, is_lenient, descriptor_length, IsNotPassed}
+use Rattle.std.proofs.Common.{MatchBool, le-leb, min}
+use Rattle.std.proofs.lemmas.List.FromFn.{get_or-range_with_len, length-range_with_len}
+use Rattle.std.specs.List.{AllWithin, HoldsAt}
 use Rattle.segments.specs.Ceiling.{data_at}
 use Rattle.ring_knowledge.proofs.Ranges.{any_at, any_none}
-use Rattle.ownership_rules.specs.Withdrawals.{may_be_told, may_tell_value}
-use Rattle.driver_rows.specs.RingRows.Withdrawing.{is_unfit}
+use Rattle.ownership_rules.specs.Withdrawals.{may_be_told}
+use Rattle.ownership_rules.specs.Withdrawals.{is_unfit}
 
 ahead_of : (runs lenient : Bool) (p n floor ceiling : ℕ) → floor ≤ ceiling → (if runs then nat_le (p + n) floor else nat_lt p (if lenient then floor else ceiling)) ≡ false → floor < p + max n 1
 ahead_of true lenient p n floor ceiling low ahead = grind (arith, nat_tests)
@@ -15,9 +17,6 @@ ahead_of false false p n floor ceiling low ahead = grind (arith, nat_tests)
 pub not_passed : (h : Header) (shape : Shape) (v : RingView) (p : ℕ) → floor_number v ≤ ceiling shape v → is_passed h shape v p ≡ false → IsNotPassed v p
 unfolding is_passed
 not_passed h shape v p low ahead = ahead_of (has_runs h.version) (is_lenient h.version) p (descriptor_length v p) (floor_number v) (ceiling shape v) low ahead
-
-or_or : (a b c : Bool) → ((a || b) || c) ≡ (a || (b || c))
-or_or a b c = grind arith
 
 -- ---- the value of a block that is withdrawn
 
@@ -39,12 +38,27 @@ module _ (shape : Shape) (v : RingView) (p n from end : ℕ) (begins : from ≡ 
     ]
   ])
 
+  abbrev count : ℕ
+  count = end - from
+
+  abbrev numbers : List ℕ
+  numbers = range_with_len from count
+
+  -- as a look at one after the other tells
+  pub told_so : (b : Bool) → MatchBool b ((k : ℕ) × (k < length numbers) × HoldsAt (λ q. from ≤ q → is_some (data_at v.queue q) ≡ true) numbers k)
+      (AllWithin (λ q. from ≤ q → is_some (data_at v.queue q) ≡ false) numbers 0 (length numbers)) → b ≡ list_any (may_be_told shape v) (range_with_len p n)
+  told_so true at =
+      let here : at.0 < count = omega (arith, at.1, length-range_with_len from count) in
+      sym (told_at (from + at.0) (omega arith) (omega arith) (subst (λ q. from ≤ q → is_some (data_at v.queue q) ≡ true) (get_or-range_with_len from count at.0 0 here) (at.2 0) (omega arith)))
+  told_so false none = sym (told_none (λ q low high.
+      let there = get_or-range_with_len from count (q - from) 0 (omega arith) ∙ omega arith in
+      subst (λ m. from ≤ m → is_some (data_at v.queue m) ≡ false) there (none (q - from) 0 (omega arith) (omega (arith, length-range_with_len from count))) low))
+
 module _ (h : Header) (k : Known) (r p : ℕ) where
   module _ (stopped : has_stopped h k r ≡ true) where
     is_bad : is_bad_withdraw h k r p ≡ is_unfit (shape_of h r) (k.ring r) p
-    unfolding is_bad_withdraw is_unfit is_no_descriptor
-    is_bad =
-        rw stopped (sym (or_or (descriptor_length (k.ring r) p == 0) (list_any (k.ring r).withdrawn (range_with_len p (descriptor_length (k.ring r) p))) (may_tell_value (shape_of h r) (k.ring r) p)))
+    unfolding is_bad_withdraw
+    is_bad = rw stopped refl
 
     pub may : is_unfit (shape_of h r) (k.ring r) p ≡ false → is_bad_withdraw h k r p ≡ false
     may begins = is_bad ∙ begins

@@ -32,6 +32,7 @@ pub fn check_coming<M: WordMemory>(
 ) -> Result<(), StepFault>
     requires headed { IsHeader header.now }
     requires found { IsFinder header.now.rings finder.now }
+    requires coming { IsComing ring }
     ensures comes { OnOk result (header.new ≡ with_ring header.old ring) }
     ensures headed { OnOk result (IsHeader header.new) }
     ensures found { OnOk result (IsFinder header.new.rings finder.new) }

@@ -15,7 +15,7 @@ ghost use Rattle.ownership_rules.specs.declared.refusal.Refusal.TheVariants.{Bad
 ghost use Rattle.driver_rows.specs.RingRows.RingSteps.{IsRingStep};
 ghost use Rattle.ownership_rules.specs.Withdrawals.{is_passed, may_tell_value};
 ghost use Rattle.ownership_rules.specs.BadWithdrawals.{withdraws_badly};
-ghost use Rattle.driver_rows.specs.RingRows.Withdrawing.{is_unfit};
+ghost use Rattle.ownership_rules.specs.Withdrawals.{is_unfit};
 
 use crate::rings::stopped::stopped_ring;
 use guest_memory::WordMemory;
@@ -94,12 +94,7 @@ fn may_tell_value(known: &RingRecord, position: u64) -> bool
     let from = position.max(known.floor_number());
     let length = u64::from(known.descriptor_length(position));
     let end = position.saturating_add(length).min(known.ceiling());
-    for at in from..end {
-        if known.data_at(at).is_some() {
-            return true;
-        }
-    }
-    false
+    (from..end).any(|at| known.data_at(at).is_some())
 }
 
 /// Whether a position lies below the ceiling, in version 3 below the floor; in version 4 whether the floor has passed the descriptor there whole.

@@ -2,7 +2,7 @@
 use Rattle.event_rows.proofs.LowerLaws.{rules, ◌≡◌, ℕ, List, true, false, Some, ap, sym, ◌∙◌, arith, subst, ◌||◌, none-some, same_Some, is_off, and_parts, Block, endpoint, slot, is_halting, is_success, is_transfer_code, is_trb_error, Spot, Shape, after, RingView, ceiling, is_data_below, is_stop_spot, RingKeeps, below_is, ceiling_within, given_count_declared, Header, IsHeader, command_id, shape_of, RingRecord, FollowsRing, Known, code_told, event_at, on_ring, spot_on, unfinished, passed, broken_off, stopped_at, transferred, transferred_at, transfer_read, FollowsDevices, DeviceRecord, Reaches, number, follows_beside, ring_here, ring_elsewhere, same_blocks, unfinished_same, transfer_stays, FollowsRings, IsAmong, among_at, shape_allowed, shape_there, can_report, is_impossible_transfer, is_in_profile, DriverKeeps, TraceRecord, FollowsTrace, NamedSpot, IsNamedAt, IsWithRecord, MayReport, reported, AreOffAs, IsBeside, IsOnly, followed, put_on, not_command, reported_at, transfer_driver}
 use Rattle.driver_rows.proofs.DoorbellRows.Followed.{rings_with}
 use Rattle.ring_knowledge.specs.Rings.{spot_named}
-use Rattle.safety.proofs.NamedData.{spot_ahead}
+use Rattle.safety.proofs.Reports.NamedData.{spot_ahead}
 
 -- ---- what changes
 

@@ -1,6 +1,6 @@
 -- Where a controller can have posted a Transfer Event
 use Rattle.event_rows.proofs.Words.{arith, rules, ◌≡◌, ℕ, Bool, true, false, Option, Some, None, refl, ap, sym, ◌∙◌, subst, ◌==◌, ◌&&◌, ◌||◌, not, slice_get, position, nat_lt, option_and_then, if◌then◌else◌, option_map, eqb-true, false≢true, same_Some, none-some, Block, code, endpoint, slot, is_success, is_halting, is_trb_error, Spot, ceiling, is_data_below, is_stop_spot, RingView, floor_number, IsSpot, command_of, is_stop_of, is_off, RingKind, Ring, Header, IsHeader, command_id, is_command_kind, is_driver_kind, is_transfer_kind, shape_of, Known, RingRecord, FollowsRing, TraceRecord, FollowsTrace, RingSpot, command_at, event_at, next_command, spot_on, IsAmong, among_at, find_some, no_command_here, no_command_ring, untaken, ring_found, shape_there, can_report, can_report_at, is_impossible_transfer, is_in_profile, is_stopping_now, is_working, may_be_taken, DriverKeeps, IsDriverRing, IsTransferRing, number_of, found_at, none_found, command_found, command_id_is, is_stopping, is_of_service, code_told}
-use Rattle.safety.proofs.NamedData.{named_by}
+use Rattle.segments.specs.Ceiling.{named_by}
 use Rattle.ring_knowledge.specs.Rings.{spot_named}
 
 pub driven : (kind : RingKind) → is_transfer_kind kind ≡ true → is_driver_kind kind ≡ true

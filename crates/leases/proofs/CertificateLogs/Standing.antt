@@ -1,5 +1,5 @@
 -- Where what is lent stands among what was and is lent
-use Rattle.leases.proofs.LowerLaws.{rules, not-true, and_false, false_unless, ◌≡◌, ◌+◌, ◌<◌, ◌%◌, ◌==◌, ◌&&◌, ◌∷◌, ℕ, zero, suc, Bool, true, false, List, [], arith, refl, inl, inr, subst, eq-eqb, list_any, cases_Bool, and_parts, false≢true, place_count, link_of, Header, shape_of, Leased, Block, Link, Range, Use, same_leased, leased_is, AllUnended, Lent, is_place_free, is_unended, share_a_place, StandsAt, is_lent, IsOnlyAt, RingPlace, has_place, is_open_of, either_holds, not_later}
+use Rattle.leases.proofs.LowerLaws.{rules, not-true, and_false, false_unless, ◌≡◌, ◌+◌, ◌<◌, ◌==◌, ◌&&◌, ◌∷◌, ℕ, zero, suc, Bool, true, false, List, [], arith, refl, inl, inr, subst, eq-eqb, list_any, cases_Bool, and_parts, false≢true, place_of, link_of, Header, shape_of, Leased, Block, Link, Range, Use, same_leased, leased_is, AllUnended, Lent, is_place_free, is_unended, share_a_place, StandsAt, is_lent, IsOnlyAt, RingPlace, has_place, is_open_of, either_holds, not_later}
 
 module _ (l : Leased) where
   abbrev is_this : Lent → Bool
@@ -29,7 +29,7 @@ itself a b = rw (eq-eqb a a refl, eq-eqb b b refl) refl
 module _ (h : Header) where
   -- a block shares a place with itself, and so does a Link
   pub block_itself : (r p : ℕ) → share_a_place h (Block r p) (Block r p) ≡ true
-  block_itself r p = itself r (p % place_count (shape_of h r))
+  block_itself r p = itself r (place_of (shape_of h r) p)
 
   pub link_itself : (r q : ℕ) → share_a_place h (Link r q) (Link r q) ≡ true
   link_itself r q = itself r (link_of (shape_of h r) q)

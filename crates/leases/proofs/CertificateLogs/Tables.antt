@@ -1,5 +1,5 @@
 -- A number is put for the place of a lease
-use Rattle.leases.proofs.MiddleLaws.{arith, ◌≡◌, ◌%◌, ◌==◌, ◌&&◌, ◌∙◌, ℕ, true, false, sym, ap, refl, eqb-true, and_parts, false≢true, place_count, link_of, Header, shape_of, Leased, Block, Link, Range, Use, IndexTables, index_at, share_a_place, FindsPlaces, IsOnly, is_open_of, is_unended, Lent, List, BlockPlace, LinkPlace, RingPlace, has_place, number_at, rules, IsPut, elsewhere, only_same, itself, range_none}
+use Rattle.leases.proofs.MiddleLaws.{arith, ◌≡◌, ◌==◌, ◌&&◌, ◌∙◌, ℕ, true, false, sym, ap, refl, eqb-true, and_parts, false≢true, place_of, link_of, Header, shape_of, Leased, Block, Link, Range, Use, IndexTables, index_at, share_a_place, FindsPlaces, IsOnly, is_open_of, is_unended, Lent, List, BlockPlace, LinkPlace, RingPlace, has_place, number_at, rules, IsPut, elsewhere, only_same, itself, range_none}
 
 -- the number of its place, and of no other, is this one now
 pub record IsNumbered (h : Header) (blocks links new_blocks new_links : IndexTables) (l : Leased) (n : ℕ) : Type 0 where
@@ -17,7 +17,7 @@ turned r s u v e = search (rules, and_parts, false≢true, same_test, eqb-true, 
 
 module _ (h : Header) where
   abbrev place : ℕ → ℕ → ℕ
-  place r p = p % place_count (shape_of h r)
+  place r p = place_of (shape_of h r) p
 
   abbrev segment : ℕ → ℕ → ℕ
   segment r q = link_of (shape_of h r) q

@@ -1,6 +1,6 @@
 -- Where a slot has no device, no range is lent for its entry in the DCBAA, nor for its device context; where a due position isn't given, none
 -- for the input context of its command
-use Rattle.leases.proofs.UpperLaws.{◌≡◌, ◌+◌, ◌<◌, ◌≤◌, ◌==◌, ℕ, true, false, not, List, Some, None, ap, eqb-true, range_with_len, false≢true, place_count, RingView, due_positions, floor_number, Header, Ring, command_id, shape_of, Known, same_due, Leased, Block, Link, Range, EventSegment, SegmentTable, InputContext, SlotEntry, DeviceContext, is_among, open_leases, IsIn, from_filter, is_use_free, shares_use, Lent, AreOpen, rules, none_shares, InOn, block, link, from_range, HoldsOfRanges, each_open, of_range, Erstba, among_is, arith, IsNoTable, no_table}
+use Rattle.leases.proofs.UpperLaws.{◌≡◌, ◌+◌, ◌<◌, ◌≤◌, ◌==◌, ℕ, true, false, not, List, Some, None, ap, eqb-true, range_with_len, false≢true, IsShape, place_count, RingView, due_positions, floor_number, Header, Ring, command_id, shape_of, Known, same_due, Leased, Block, Link, Range, EventSegment, SegmentTable, InputContext, SlotEntry, DeviceContext, is_among, open_leases, IsIn, from_filter, is_use_free, shares_use, Lent, AreOpen, rules, none_shares, InOn, block, link, from_range, HoldsOfRanges, each_open, of_range, Erstba, among_is, arith, IsNoTable, no_table}
 use Rattle.ring_knowledge.specs.Rings as rings
 
 module _ (h : Header) (k : Known) (P : Leased → Type 0) where
@@ -49,7 +49,7 @@ module _ (h : Header) (k : Known) (ts : List Lent) (still : AreOpen h k ts) (p :
   abbrev count : ℕ
   count = place_count (shape_of h (command_id h))
 
-  module _ (some : 0 < count) (low : floor_number commands ≤ p) (high : p < floor_number commands + count) (absent : commands.given p ≡ false) where
+  module _ (allowed : IsShape (shape_of h (command_id h))) (low : floor_number commands ≤ p) (high : p < floor_number commands + count) (absent : commands.given p ≡ false) where
     pub context_free : is_use_free h ts (InputContext p) ≡ true
     unfolding is_use_free rings.unfinished_positions due_positions
     context_free =

@@ -1,5 +1,5 @@
 -- The tables find a lease that begins, and still all others
-use Rattle.leases.proofs.BaseWords.{not-true, and_false, ◌≡◌, ◌≢◌, ◌%◌, ◌==◌, ◌&&◌, ◌∷◌, ◌++◌, ◌∙◌, ℕ, true, false, List, [], length, map, arith, ap, refl, subst, eqb-true, eq-eqb, list_any, false≢true, place_count, is_crossing, link_of, Header, shape_of, length-map, Lease, Leased, Block, Link, Range, Use, as_lease, without_end, IndexTables, index_at, Lent, is_unended, begun_at, lease_of, is_place_free, share_a_place, with_begun, AllUnended, IsFound, HoldsLents, LeaseBook, rules}
+use Rattle.leases.proofs.BaseWords.{not-true, and_false, ◌≡◌, ◌≢◌, ◌==◌, ◌&&◌, ◌∷◌, ◌++◌, ◌∙◌, ℕ, true, false, List, [], length, map, arith, ap, refl, subst, eqb-true, eq-eqb, list_any, false≢true, place_of, is_crossing, link_of, Header, shape_of, length-map, Lease, Leased, Block, Link, Range, Use, as_lease, without_end, IndexTables, index_at, Lent, is_unended, begun_at, lease_of, is_place_free, share_a_place, with_begun, AllUnended, IsFound, HoldsLents, LeaseBook, rules}
 use Rattle.leases.proofs.LeaseBooks.Growing.{map_append}
 use Rattle.leases.proofs.LeaseBooks.Unended.{all_begun}
 
@@ -14,7 +14,7 @@ pub elsewhere : (old new : IndexTables) (r n i s m : ℕ) → IsPut old new r n 
 elsewhere old new r n i s m put apart = search (rules, eqb-true, false≢true, eq-eqb)
 
 module _ (h : Header) (old new other : IndexTables) (r p n : ℕ) (ts : List Lent) where
-  pub block_found : AllUnended (IsFound h old other) 0 ts → IsPut old new r (p % place_count (shape_of h r)) (length ts) →
+  pub block_found : AllUnended (IsFound h old other) 0 ts → IsPut old new r (place_of (shape_of h r) p) (length ts) →
       is_place_free h ts (Block r p) ≡ true → AllUnended (IsFound h new other) 0 (with_begun n ts (Block r p ∷ []))
   unfolding is_place_free
   block_found all put free = all_begun (IsFound h old other) (IsFound h new other) (share_a_place h (Block r p)) n (Block r p) 0 ts step (search rules) (not-true _ free) all

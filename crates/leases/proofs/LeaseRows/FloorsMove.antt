@@ -1,9 +1,9 @@
 -- The completion of a command moves the ring of a Set TR Dequeue on, and no other but the command ring
 use Rattle.leases.proofs.BaseWords.{arith, ◌≡◌, ◌≢◌, ◌≤◌, ◌==◌, if◌then◌else◌, ◌∷◌, ◌∙◌, ℕ, Bool, true, false, List, [], map, Option, None, Some, refl, sym, ap, eqb-true, cond-false, CommandCompletion, kind, code, slot, is_command_completion, Spot, number, after, RingView, Reaches, floor_number, target, target_ahead, added_endpoints, is_dropped, context_pointer, context_cycle, Command, AddressDevice, ConfigureEndpoint, SetTrDequeue, Stopped, is_off, Change, SlotGoesOn, Disables, Places, changes, placed_by_context, typed_by_context, Header, Read, IsHeader, shape_of, command_id, ring_having, Known, on_ring, command_at, next_command, set_to, bound_to, moved_to, moved, pointed, in_state, changed_by, changed_by_all, succeeded, stop_ended, finished, completed, event_read, learned, has_repeats, binds, binding_in, ring_bound, lenient, DriverKeeps, MayChangeAll, StillHolds, transfer_not_command, may_move, ring_elsewhere, may_change, still_of, address_ready, all_ready, dropped, FloorsMove, MovesOn, IsMovedTo, IsOtherRing, moved_on, moved_ring, moved_by, moved_when, rings_of, rules}
 use Rattle.leases.proofs.LeaseRows.FloorsStay.{ChangesStay, FloorsStay, StaysHere, stay_none, changes_stay, each_stays, address_stays, hold_stays, ready_stays}
-use Rattle.safety.proofs.Placings.{map_map}
+use Rattle.safety.proofs.Targets.Placings.{map_map}
 use Rattle.trb.specs.declared.block.Block.{Block}
-use Rattle.safety.proofs.DriverRows.{ring_here}
+use Rattle.safety.proofs.RingsKeep.DriverRows.{ring_here}
 
 -- the ring is moved to the number
 abbrev Arrives : Known → Option (ℕ × ℕ) → Type 0

@@ -1,6 +1,6 @@
 -- The changes that leave the number of each ring's floor as it is
 use Rattle.leases.proofs.BaseWords.{◌≡◌, ◌∷◌, ◌∙◌, ℕ, Bool, true, false, List, [], map, All, Option, Some, arith, refl, sym, ap, get_or, list_any, or_parts, false≢true, same_Some, All-head, All-tail, Spot, number, Reaches, Holds, floor_number, ceiling, target, floor_given, given_count_declared, context_pointer, context_cycle, Command, AddressDevice, is_off, Change, Places, placed_by_context, Header, IsHeader, shape_of, is_ring, ring_having, Known, on_ring, set_to, bound_to, moved_to, moved, pointed, disabled, in_state, held_at_ceiling, changed_by, typed, changed_by_all, has_repeats, DriverKeeps, StillHolds, ring_shape, transfer_driver, Ready, ReadyAt, ring_at, ready_next, view_after, each_fails, any_of_map, ceiling_within, having_transfer, target_here, target_placed, rules, transfer_is_driver}
-use Rattle.safety.proofs.RingsOfHeader.{shape_allowed}
+use Rattle.safety.proofs.HeaderRings.RingsOfHeader.{shape_allowed}
 use Rattle.ownership_rules.specs.Moves.{is_among}
 
 -- ---- what leaves the floors' numbers

@@ -3,7 +3,7 @@
 use Rattle.leases.proofs.UpperLaws.{arith, not, ◌≡◌, ◌≢◌, ◌+◌, ◌<◌, ◌≤◌, ◌==◌, ◌&&◌, ◌||◌, ◌∷◌, ◌∙◌, ℕ, Bool, true, false, List, [], None, map, filter, nat_le, nat_lt, refl, sym, ap, subst, inl, inr, le-leb, and_from, and_parts, or_parts, cases_Bool, cases_option, false≢true, nat_tests, flat_map, slots, RingKeeps, RingView, Shape, due_positions, floor_number, place_count, Header, IsHeader, Ring, Known, DriverKeeps, IsDriverRing, Reg, Erstba, command_id, command_ring, driver_rings, shape_of, open_leases, context_ranges, device_ranges, entry_ranges, table_range, range_of_device, range_of_entry, Leased, Block, Link, Range, IsIn, from_filter, is_among, among_is, in_among, both_ways, Lent, AreOpen, ended_where, grown, passed_on, is_passed, is_input_context, is_of_slot, lenient, register_facts, ring_found, ring_shape, none-some, reset, resets, given_up, held_at_given, is_bad_register, due_has_ring, floor_given, ring_with, no_ring, is_crossing, lt-ltb, range_of_command, not-true, if◌then◌else◌, learned, open_on, Usbcmd, given_count, any_of, reset_bit, is_done, is_ring, id_of, false_from_ne_true, cond_both, InOn, block, from_flat_map, from_range, in_on, in_range, link, IsRange, each_open, open_are_ranges, ring_open, segment_open, AreLent, IsAmong, command_found, command_id_is, driven_kind, is_command_kind, or_false, still_lent, all_twice, ended_alike, only_passed, all_ended, flat_none, are_shaped, from_drivers, contexts_are, devices_are, entries_are, is_segment, is_table, open_context, part_of, rings_no_range, segments_are, tables_are, floor_behind, table_open, IsInStep}
 use Rattle.leases.proofs.RingLeases.OpenParts.OpenPart.{context, device, entry, on_ring, segment, table}
 use Rattle.ownership_rules.specs.Registers as registers
-use Rattle.safety.proofs.ResetKeeps as behind
+use Rattle.safety.proofs.ResetRuns.ResetKeeps as behind
 use Rattle.ring_knowledge.specs.Rings as rings
 
 no_positions : (p : ℕ → Bool) (xs : List ℕ) → ((x : ℕ) → IsIn x xs → p x ≡ false) → filter p xs ≡ []

@@ -139,10 +139,10 @@ module _ (h : Header) (headed : IsHeader h) (k : Known) (ts : List Lent) (a w nu
         due_now = search (rules, from_filter (λ m. not ((k.ring q.id).given m) && gives q.shape (k.ring q.id).floor m a w) (due_positions q.shape (k.ring q.id)) p (subst (IsIn p) (sym (positions ∙ ap positions_of is)) (inl refl)), from_range, not-true, and_parts)
 
         pub place_free : is_place_free h ts (Block q.id p) ≡ true
-        place_free = search (rules, block_free, are_shaped, among_drivers, due_now)
+        place_free = search (rules, block_free, are_shaped, among_drivers, shape_allowed, due_now)
 
         pub command_context_free : is_command_kind q.shape.kind ≡ true → is_use_free h (with_begun number ts (Block q.id p ∷ [])) (InputContext p) ≡ true
-        command_context_free command = search (rules, is_there, shape_is, shape_of, command_id, still_free, context_free, due_now)
+        command_context_free command = search (rules, is_there, shape_is, shape_of, command_id, still_free, context_free, shape_allowed, due_now)
 
       module _ (r : RingRecord) (f : FollowsRing q.shape (k.ring q.id) r) (c : ℕ) (is : giving ≡ Some (Crossing c)) where
         given_there : (not ((k.ring q.id).crossed c) ≡ true) × (gives_crossing q.shape (k.ring q.id).floor c a w ≡ true)

@@ -1,8 +1,9 @@
 -- What is lent after an event but a completion: a Transfer Event ends the leases of what its ring passes
 use Rattle.leases.proofs.UpperLaws.{◌≡◌, ◌≢◌, ◌+◌, ◌≤◌, ◌∙◌, ◌==◌, ℕ, List, true, false, None, Some, Option, refl, ap, sym, arith, subst, map, position, option_map, and_parts, BlockKind, TransferEvent, CommandCompletion, code, endpoint, kind, slot, is_transfer_event, is_of_service, is_stopping, is_success, Spot, Shape, number, RingKeeps, floor_number, Ring, Header, Read, IsHeader, driver_rings, is_driver_kind, ring_with, shape_of, Known, event_read, learned, RingSpot, code_told, event_at, spot_on, transfer_read, transferred_at, is_among, open_leases, IsIn, DriverKeeps, IsDriverRing, IsTransferRing, transfer_driver, transfer_not_command, come_to, Lent, ended_where, is_passed, RangeIndexes, none_here, not_found, ring_found, shape_there, false_unless, IsAmong, TraceRecord, HoldsAll, IsNextRow, grown, rules, IsWithinLap, nothing_new, command_same, entries_kept, open_same, transfer_lent, from_drivers, if◌then◌else◌, Bool, inl, inr, ◌&&◌, [], ◌∷◌, nat_tests, cases_Bool, has_isoch, counted_code, Leased}
 use Rattle.trb.specs.declared.block.Block as blocks
+use Rattle.segments.specs.Ceiling.{named_by}
 use Rattle.ring_knowledge.specs.Rings.{spot_named}
-use Rattle.safety.proofs.NamedData.{named_by, spot_ahead}
+use Rattle.safety.proofs.Reports.NamedData.{spot_ahead}
 
 -- one event more was read
 counted_same : (h : Header) (k : Known) → open_leases h (record k { reads = k.reads + 1 }) ≡ open_leases h k

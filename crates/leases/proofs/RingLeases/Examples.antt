@@ -6,7 +6,7 @@ no_rings = record { version = Three; context_size = Bytes32; rings = [] }
 
 -- a transfer ring of 4 blocks comes, and its Link is given before any block is declared
 abbrev given : List Row
-given = (Write 0x3003c 0x1803) ∷ RingRow (record { id = 2; shape = record { kind = Xfer; segments = record { base = 0x30000; count = 4 } ∷ [] } }) ∷ []
+given = (Write 0x3003c 0x1803) ∷ RingRow (record { id = 2; shape = record { kind = Xfer; segments = record { base = 0x30000; count = 4 } ∷ []; offset = 0 } }) ∷ []
 
 link_is_open : open_now no_rings given ≡ Link 2 3 ∷ []
 unfolding rules_on_literals with_ring forgotten restored_on ring_restored ring_moved
@@ -23,7 +23,7 @@ abbrev one_ring : Header
 one_ring = record {
   version = Three;
   context_size = Bytes32;
-  rings = record { id = 2; shape = record { kind = Xfer; segments = record { base = 0x30000; count = 4 } ∷ [] } } ∷ [];
+  rings = record { id = 2; shape = record { kind = Xfer; segments = record { base = 0x30000; count = 4 } ∷ []; offset = 0 } } ∷ [];
 }
 
 abbrev block : ℕ → ℕ → Trb

@@ -1,5 +1,5 @@
 -- The indexes of ranges find the same where leases of blocks end and begin
-use Rattle.leases.proofs.UpperLaws.{rules, ◌≡◌, ◌<◌, ◌≤◌, ◌∷◌, ◌∙◌, ℕ, true, List, [], Some, map, nat_lt, arith, sym, subst, inl, inr, cases_Bool, nat_tests, Header, IsHeader, Ring, Known, Write, command_id, is_transfer_kind, learned, on_ring, open_leases, ring_with, length_from, Restores, Withdraws, without_end, Block, AreOpen, Lent, passed_on, with_begun, FindsRanges, RangeIndexes, restored, MovesRing, others_begin, some_end, begun_none, begun_twice, ◌+◌, max, floor_number, refl}
+use Rattle.leases.proofs.UpperLaws.{◌≡◌, ◌<◌, ◌≤◌, ◌∷◌, ◌∙◌, ℕ, true, List, [], Some, map, nat_lt, arith, sym, subst, inl, inr, cases_Bool, nat_tests, Header, IsHeader, Ring, Known, Write, command_id, is_transfer_kind, learned, on_ring, open_leases, ring_with, length_from, Restores, Withdraws, without_end, Block, AreOpen, Lent, passed_on, with_begun, FindsRanges, RangeIndexes, restored, MovesRing, others_begin, some_end, begun_none, begun_twice, ◌+◌, max, floor_number, refl}
 use Rattle.leases.proofs.RingLeases.LentFree.{Restoring, is_between, restored_lent, withdrawn_lent}
 use Rattle.leases.proofs.RingLeases.MovingRings.{alone, at_end, first_restored, freed_given, freed_later, last_restored, opened_own, other, own_first, own_step, same_left}
 

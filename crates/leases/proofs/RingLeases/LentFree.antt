@@ -1,5 +1,5 @@
 -- What is lent where a descriptor is withdrawn, and where a ring is restored
-use Rattle.leases.proofs.UpperLaws.{and_false, false_unless, if◌then◌else◌, ◌≡◌, ◌≢◌, ◌+◌, ◌%◌, ◌<◌, ◌≤◌, ◌==◌, ◌&&◌, ◌||◌, ◌∷◌, ◌∙◌, ℕ, zero, suc, Bool, true, false, not, nat_le, nat_lt, List, [], Some, filter, length, map, take, get_or, arith, refl, sym, ap, inl, inr, eqb-true, list_any, range_with_len, and_parts, false≢true, not-true, nat_tests, take_more, list_any-append, cases_Bool, IsIn, Header, IsHeader, Ring, Known, is_driver_kind, is_transfer_kind, ring_with, shape_of, command_id, driver_rings, on_ring, open_leases, place_count, floor_number, due_positions, from_filter, transfer_not_command, length_from, unrestored, Restores, Withdraws, same_due, in_among, as_lease, comes_before, Leased, Block, Link, Range, is_among, same_leased, AreOpen, Lent, begun_at, ended_where, in_turn, is_place_free, is_unended, passed_on, precedes, share_a_place, with_begun, with_leased, find_some, shape_there, IsAmong, is_freed, rules, unlent_free, map_append, from_map, from_range, all_twice, none_over, only_passed, filter_alike, freed_are, restored_open, withdrawn_open, transfer_drives, among_drivers, are_shaped, begun_twice, max, InOn, IsRange, each_open, open_are_ranges}
+use Rattle.leases.proofs.UpperLaws.{and_false, false_unless, if◌then◌else◌, ◌≡◌, ◌≢◌, ◌+◌, ◌<◌, ◌≤◌, ◌==◌, ◌&&◌, ◌||◌, ◌∷◌, ◌∙◌, ℕ, zero, suc, Bool, true, false, not, nat_le, nat_lt, List, [], Some, filter, length, map, take, get_or, arith, refl, sym, ap, inl, inr, eqb-true, list_any, range_with_len, and_parts, false≢true, not-true, nat_tests, take_more, list_any-append, cases_Bool, IsIn, Header, IsHeader, Ring, Known, is_driver_kind, is_transfer_kind, ring_with, shape_of, command_id, driver_rings, on_ring, open_leases, place_count, place_of, floor_number, due_positions, from_filter, transfer_not_command, length_from, unrestored, Restores, Withdraws, same_due, in_among, as_lease, comes_before, Leased, Block, Link, Range, is_among, same_leased, AreOpen, Lent, begun_at, ended_where, in_turn, is_place_free, is_unended, passed_on, precedes, shape_allowed, share_a_place, with_begun, with_leased, find_some, shape_there, IsAmong, is_freed, rules, unlent_free, map_append, from_map, from_range, all_twice, none_over, only_passed, filter_alike, freed_are, restored_open, withdrawn_open, transfer_drives, among_drivers, are_shaped, begun_twice, max, InOn, IsRange, each_open, open_are_ranges}
 use Rattle.leases.proofs.MiddleLaws.{block, is_in, is_withdrawn, link}
 use Rattle.leases.proofs.RingLeases.OpenBehind.{among_filtered}
 use Rattle.leases.proofs.RingLeases.TwoSteps.{either_way, only_begins, with_first}
@@ -171,13 +171,13 @@ module _ (h : Header) (k : Known) (ts : List Lent) (q : Ring) (ps : List ℕ) (x
     unfolding unrestored due_positions
     no_share u at = grind (
       arith,
-      false_unless (id == id && p % place_count (shape_of h id) == u % place_count (shape_of h id)),
+      false_unless (id == id && place_of (shape_of h id) p == place_of (shape_of h id) u),
       shape_there h x.headed q (among h q x.found x.transfer),
       within p (in_get ps i low),
       within u (from_take ps i u at),
       eqb-true,
       and_parts,
-      same_due (floor_number (k.ring id)) (place_count q.shape) p u,
+      same_due q.shape (shape_allowed h x.headed q (among h q x.found x.transfer)) (floor_number (k.ring id)) p u,
       unrestored,
       less_before,
     )
@@ -186,7 +186,7 @@ module _ (h : Header) (k : Known) (ts : List Lent) (q : Ring) (ps : List ℕ) (x
     none_shares us all m at = let found = from_map (Block id) us m at in ap (share_a_place h (Block id p)) found.2 ∙ all found.0 found.1
 
     pub next_free : is_place_free h (with_begun row ts (map (Block id) (take i ps))) (Block id p) ≡ true
-    next_free = search (rules, within, in_get, free_still, unlent_free, are_shaped, in_drivers, none_shares, no_share, false≢true)
+    next_free = search (rules, within, in_get, free_still, unlent_free, are_shaped, shape_allowed, among, in_drivers, none_shares, no_share, false≢true)
 
     pub next_begun : with_begun row (with_begun row ts (map (Block id) (take i ps))) (Block id p ∷ []) ≡ with_begun row ts (map (Block id) (take (i + 1) ps))
     next_begun = begun_twice row ts (map (Block id) (take i ps)) (Block id p ∷ []) ∙ rw (take_more ps i 0 low, map_append) refl

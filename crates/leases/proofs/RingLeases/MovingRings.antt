@@ -2,7 +2,7 @@
 -- of their rings' IDs, as of what begins at one row
 use Rattle.leases.proofs.UpperLaws.{◌≡◌, ◌≢◌, ◌+◌, ◌<◌, ◌≤◌, ◌==◌, ◌&&◌, ◌∷◌, ◌∙◌, ℕ, Bool, true, false, not, List, [], Some, None, filter, map, option_and_then, slice_get, arith, refl, sym, ap, inl, append-nil, eqb-true, and_parts, false≢true, not-true, or_left, nat_tests, none-some, IsIn, Header, IsHeader, Ring, Known, changed, on_ring, learned, Write, driver_rings, is_driver_kind, open_leases, shape_of, command_id, positions_given, crossings_given, due_positions, place_count, floor_number, is_inside, address_of, link_address, gives_is, gives_crossing_is, address_inside, link_address_inside, position_given_is, gives, gives_crossing, is_crossing, SetTrDequeue, command_given, command_at, with_device, with_word, written, taken_device, given_of, given_by, range_of_command, range_of_context, from_filter, DriverKeeps, IsDriverRing, due_has_ring, contains_first, and_then_parts, ring_elsewhere, ring_shape, unrestored, Restores, due_crossings, IsShape, GivesCrossing, gives_one, data_not_link, Given, Position, Crossing, as_lease, comes_before, without_end, Leased, Block, AreOpen, Lent, in_turn, is_place_free, newly_open, passed_on, precedes, with_begun, with_leased, FreeWasGiven, all_from_one, find_some, shape_allowed, shape_there, together, Apart, IsAmong, restored, restored_on, ring_moved, ring_restored, is_freed, MovesRing, rules, from_map, from_range, in_either, IsOpen, passed_open, lease_given, block_free, freed_are, restored_open, are_shaped, RingView, range_with_len, command_of}
 use Rattle.leases.proofs.RingLeases.TwoSteps.{IsBefore, L_in_U as there_both, newly_own, only_begins, restored_first, restored_last}
-use Rattle.safety.proofs.DriverRows.{ring_here}
+use Rattle.safety.proofs.RingsKeep.DriverRows.{ring_here}
 use Rattle.leases.proofs.LeaseBooks.GivingCommands.{all_kept, contexts_given, new_leases, none_at}
 use Rattle.leases.proofs.LeaseRows.TransferRows.{driver_there}
 use Rattle.leases.proofs.RingLeases.LentFree.{among, driver, driver_in, in_drivers, not_command}
@@ -279,7 +279,7 @@ module _ (h : Header) (k : Known) (ts : List Lent) (command : Ring) (p : ℕ) (q
     )
 
     pub command_free : (m : Known) (us : List Lent) → AreOpen h m us → m.ring (command_id h) ≡ k.ring (command_id h) → is_place_free h us (Block command.id p) ≡ true
-    command_free m us opened same = search (rules, command_id, shape_of, shape_there, in_rings, bounds, block_free, are_shaped, driver_in)
+    command_free m us opened same = search (rules, command_id, shape_of, shape_there, in_rings, bounds, block_free, shape_allowed, are_shaped, driver_in)
 
     pub alone_command : alone.ring (command_id h) ≡ k.ring (command_id h)
     alone_command = ring_elsewhere h k r (command_id h) Restores (λ same. other (sym same))

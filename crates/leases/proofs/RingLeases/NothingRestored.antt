@@ -1,6 +1,6 @@
 -- Where nothing is free a row restores nothing
 use Rattle.leases.proofs.BaseWords.{rules, ◌≡◌, ℕ, Option, None, Some, refl, sym, Header, Known, RingView, changed, on_ring, shape_of, ring_elsewhere, IsRestored, Restores, Shape, Row, restored, restored_on, ring_restored}
-use Rattle.safety.proofs.DriverRows.{ring_here}
+use Rattle.safety.proofs.RingsKeep.DriverRows.{ring_here}
 
 view_same : (shape : Shape) (v : RingView) → IsRestored v → changed shape v Restores ≡ v
 view_same shape v none = λ j. record v { free = λ p. sym (none p) j }

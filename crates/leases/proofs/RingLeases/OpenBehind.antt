@@ -1,5 +1,5 @@
 -- What is open behind a ring that goes, and behind one that comes
-use Rattle.leases.proofs.UpperLaws.{arith, not, and_false, ◌≡◌, ◌≢◌, ◌&&◌, ◌||◌, ◌++◌, ◌∷◌, ◌∙◌, ℕ, Bool, true, false, List, [], Some, None, filter, refl, sym, ap, inl, inr, eqb-false, filter-append, cases_Bool, flat_map, Header, IsHeader, Ring, RingKind, RingView, Known, Evt, Erstba, DriverKeeps, IsTransferRing, driver_rings, is_transfer_kind, command_id, event_shape, shape_of, ring_with, open_leases, open_on, open_ranges, context_ranges, device_ranges, entry_ranges, segment_ranges, table_range, Leased, is_among, same_leased, is_input_context, is_of_slot, forgotten, is_bad_free, without_ring, cleared_apart, is_of_ring, TablesFit, Cmd, Xfer, event_ring, is_event_kind, is_command_kind, shape_or, gone, no_id, ◌*◌, ◌%◌, map, command_place, false≢true, place_count, or_false, Segment, Range, EventSegment, contexts_are, contexts_same, devices_are, devices_same, entries_are, entries_same, filter_alike_in, filter_out, is_segment, is_table, no_contexts, rings_no_range, segments_are, segments_same, table_same, tables_are, filter_all, one_less, others, IsRange}
+use Rattle.leases.proofs.UpperLaws.{arith, not, and_false, ◌≡◌, ◌≢◌, ◌&&◌, ◌||◌, ◌++◌, ◌∷◌, ◌∙◌, ℕ, Bool, true, false, List, [], Some, None, filter, refl, sym, ap, inl, inr, eqb-false, filter-append, cases_Bool, flat_map, Header, IsHeader, Ring, RingKind, RingView, Known, Evt, Erstba, DriverKeeps, IsTransferRing, driver_rings, is_transfer_kind, command_id, event_shape, shape_of, ring_with, open_leases, open_on, open_ranges, context_ranges, device_ranges, entry_ranges, segment_ranges, table_range, Leased, is_among, same_leased, is_input_context, is_of_slot, forgotten, is_bad_free, without_ring, cleared_apart, is_of_ring, TablesFit, Cmd, Xfer, event_ring, is_event_kind, is_command_kind, shape_or, gone, no_id, ◌*◌, map, command_place, false≢true, place_of, or_false, Segment, Range, EventSegment, contexts_are, contexts_same, devices_are, devices_same, entries_are, entries_same, filter_alike_in, filter_out, is_segment, is_table, no_contexts, rings_no_range, segments_are, segments_same, table_same, tables_are, filter_all, one_less, others, IsRange}
 use Rattle.safety.proofs.RingChanges.CommandRings as commands
 use Rattle.safety.proofs.RingChanges.EventRings as events
 use Rattle.safety.proofs.RingChanges.GoneRings as goers
@@ -142,7 +142,7 @@ module _ (h : Header) (is : IsHeader h) (k : Known) (d : DriverKeeps h k) (table
       goers.events_same h is k d id ring good
 
   pub places_stay : is_command_kind q.shape.kind ≡ false → (p : ℕ) → command_place after p ≡ command_place h p
-  places_stay other p = ap (λ s. p % place_count s) (command_shape (commands_stay q.shape.kind refl other))
+  places_stay other p = ap (λ s. place_of s p) (command_shape (commands_stay q.shape.kind refl other))
 
   pub segments_stay : is_event_kind q.shape.kind ≡ false → segment_ranges after ≡ segment_ranges h
   segments_stay other = segments_same h after k later (events_stay q.shape.kind refl other)

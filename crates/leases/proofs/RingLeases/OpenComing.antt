@@ -1,5 +1,5 @@
 -- What is open behind a ring that comes: the segments of an event ring, and of another ring nothing more
-use Rattle.leases.proofs.UpperLaws.{arith, not, ◌≡◌, ◌≢◌, ◌*◌, ◌==◌, ◌||◌, ◌++◌, ◌∷◌, ◌∙◌, ℕ, Bool, true, false, List, [], None, Option, map, filter, refl, sym, ap, subst, inl, inr, eqb-false, filter-append, cases_Bool, cases_option, flat_map, append-nil, Header, IsHeader, Ring, RingKind, Known, Evt, Erstba, Segment, DriverKeeps, IsIn, driver_rings, command_id, event_shape, shape_of, ring_with, open_leases, open_on, open_ranges, context_ranges, device_ranges, entry_ranges, segment_ranges, table_range, new_ring, Leased, Range, EventSegment, is_among, among_is, in_among, newly_open, in_turn, IsComing, forgotten, is_bad_ring, with_ring, none_found, cleared_apart, TablesFit, is_input_context, is_of_slot, Lent, AreOpen, passed_on, with_begun, segments_in_turn, is_some, false≢true, or_parts, cond-false, ◌<◌, ◌%◌, Shape, command_place, Cmd, Xfer, Erstsz, false_from_ne_true, event_ring, command_ring, is_event_kind, is_command_kind, is_bad_kind, is_bad_segment, is_in_run, list_any, cond-true, eq-eqb, ne_eqb, shape_or, id_or_none, event_size, place_count, no_id, either_into, five_into, in_left, in_right, none_over, none_new, nothing_passed, passed_by, AllAre, all_both, contexts_are, contexts_same, devices_are, devices_same, entries_are, entries_same, is_segment, no_contexts, rings_no_range, segments_are, segments_same, table_same, all_same, driver, filter_all, one_more, found_in, found_before, found_new, IsRange}
+use Rattle.leases.proofs.UpperLaws.{arith, not, ◌≡◌, ◌≢◌, ◌*◌, ◌==◌, ◌||◌, ◌++◌, ◌∷◌, ◌∙◌, ℕ, Bool, true, false, List, [], None, Option, map, filter, refl, sym, ap, subst, inl, inr, eqb-false, filter-append, cases_Bool, cases_option, flat_map, append-nil, Header, IsHeader, Ring, RingKind, Known, Evt, Erstba, Segment, DriverKeeps, IsIn, driver_rings, command_id, event_shape, shape_of, ring_with, open_leases, open_on, open_ranges, context_ranges, device_ranges, entry_ranges, segment_ranges, table_range, new_ring, Leased, Range, EventSegment, is_among, among_is, in_among, newly_open, in_turn, IsComing, forgotten, is_bad_ring, with_ring, none_found, cleared_apart, TablesFit, is_input_context, is_of_slot, Lent, AreOpen, passed_on, with_begun, segments_in_turn, is_some, false≢true, or_parts, cond-false, ◌<◌, Shape, command_place, Cmd, Xfer, Erstsz, false_from_ne_true, event_ring, command_ring, is_event_kind, is_command_kind, is_bad_kind, is_bad_segment, is_in_run, list_any, cond-true, eq-eqb, ne_eqb, shape_or, id_or_none, event_size, place_count, place_of, no_id, either_into, five_into, in_left, in_right, none_over, none_new, nothing_passed, passed_by, AllAre, all_both, contexts_are, contexts_same, devices_are, devices_same, entries_are, entries_same, is_segment, no_contexts, rings_no_range, segments_are, segments_same, table_same, all_same, driver, filter_all, one_more, found_in, found_before, found_new, IsRange}
 
 module _ (h : Header) (is : IsHeader h) (k : Known) (d : DriverKeeps h k) (tables : TablesFit k) (r : Ring) (coming : IsComing r) (good : is_bad_ring h k r ≡ false) where
   abbrev g : Header
@@ -96,7 +96,7 @@ module _ (h : Header) (is : IsHeader h) (k : Known) (d : DriverKeeps h k) (table
       contexts_same h g k f refl same (ap (shape_of g) same ∙ shape_other (command_id h) command_other) (ap f.ring same ∙ view_other (command_id h) command_other)
 
   pub places_same : is_command_kind r.shape.kind ≡ false → (p : ℕ) → command_place g p ≡ command_place h p
-  places_same other p = let same = commands_same other in ap (λ s. p % place_count s) (ap (shape_of g) same ∙ shape_other (command_id h) command_other)
+  places_same other p = let same = commands_same other in ap (λ s. place_of s p) (ap (shape_of g) same ∙ shape_other (command_id h) command_other)
 
   pub segments_kept : is_event_kind r.shape.kind ≡ false → segment_ranges g ≡ segment_ranges h
   segments_kept other = segments_same h g k f (events_same other)

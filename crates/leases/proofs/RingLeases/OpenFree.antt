@@ -1,7 +1,7 @@
 -- What is open behind a descriptor that is withdrawn: what was, without the blocks of it. And behind a ring that is restored: the blocks of it too
 -- that were free
 use Rattle.leases.proofs.MiddleLaws.{arith, ◌≡◌, ◌≢◌, ◌&&◌, ◌++◌, ◌∷◌, ◌∙◌, ℕ, Bool, true, not, List, [], filter, map, option_and_then, slice_get, refl, sym, ap, inl, append-nil, eq-eqb, ne_eqb, false≢true, filter-append, flat_map, IsIn, Header, IsHeader, Ring, Known, RingView, RingChange, changed, on_ring, driver_rings, is_driver_kind, open_leases, open_on, open_ranges, shape_of, command_id, due_positions, command_of, context_ranges, range_of_command, unfinished_positions, command_at, device_ranges, length_from, unrestored, is_in, Restores, Withdraws, due_crossings, is_handed_over, leased_crossings, leased_positions, ring_elsewhere, Leased, Block, Link, all_from_one, together, Apart, IsAmong, is_freed, is_withdrawn, rules, IsRange, open_are_ranges, entries_kept, flat_alike, filter_alike, filter_mapped, filter_twice, filter_all, filter_none, filter_flat_map}
-use Rattle.safety.proofs.DriverRows.{ring_here}
+use Rattle.safety.proofs.RingsKeep.DriverRows.{ring_here}
 
 -- the leases of a ring of which this is known
 abbrev on_view : Ring → RingView → List Leased

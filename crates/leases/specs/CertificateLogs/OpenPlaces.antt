@@ -1,7 +1,7 @@
 -- Which lease that isn't over has a place of a ring
-use Rattle.std.specs.Prelude.{◌≡◌, ℕ, zero, suc, ◌%◌, ◌==◌, ◌&&◌, Bool, true, false, List, [], ◌∷◌}
+use Rattle.std.specs.Prelude.{◌≡◌, ℕ, zero, suc, ◌==◌, ◌&&◌, Bool, true, false, List, [], ◌∷◌}
 use Rattle.std.specs.List.{list_any}
-use Rattle.segments.specs.Places.{place_count, is_crossing}
+use Rattle.segments.specs.Places.{place_of, is_crossing}
 use Rattle.segments.specs.Givings.{link_of}
 use Rattle.traces.specs.declared.header.Header.{Header}
 use Rattle.traces.specs.Header.{shape_of}
@@ -33,7 +33,7 @@ pub data RingPlace : Type 0 where
 
 -- what is leased has the place
 abbrev pub has_place : Header → RingPlace → Leased → Bool
-has_place h (BlockPlace r i) (Block s p) = r == s && i == p % place_count (shape_of h s)
+has_place h (BlockPlace r i) (Block s p) = r == s && i == place_of (shape_of h s) p
 has_place h (LinkPlace r i) (Link s q) = r == s && i == link_of (shape_of h s) q
 has_place h _ _ = false
 

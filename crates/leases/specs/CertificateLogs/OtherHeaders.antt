@@ -1,10 +1,10 @@
 -- Of a header with other rings the log of a certificate holds the same, where the ring of each lease that isn't over has the same shape
-use Rattle.std.specs.Prelude.{◌≡◌, ◌+◌, ◌%◌, ◌==◌, ◌&&◌, ◌∷◌, ℕ, zero, suc, Bool, true, false, List, []}
+use Rattle.std.specs.Prelude.{◌≡◌, ◌+◌, ◌==◌, ◌&&◌, ◌∷◌, ℕ, zero, suc, Bool, true, false, List, []}
 use Rattle.std.specs.List.{list_any}
 use Rattle.std.proofs.Common.{subst, sym, ap, refl}
 use Rattle.std.proofs.lemmas.Bool.{or_from, or_parts}
 use Rattle.segments.specs.Givings.{link_of}
-use Rattle.segments.specs.Places.{is_crossing, place_count}
+use Rattle.segments.specs.Places.{is_crossing, place_of}
 use Rattle.traces.specs.declared.header.Header.{Header}
 use Rattle.ring_knowledge.specs.declared.lease.Lease.{Lease}
 use Rattle.ownership_rules.specs.OpenLeases.{Leased, Block, Link, Range}
@@ -18,7 +18,7 @@ use Rattle.leases.specs.CertificateLogs.OpenPlaces.{BlockPlace, IsCrossed, IsOnl
 
 module _ (h g : Header) where
   same_place : (m : RingPlace) (l : Leased) → IsShapedAlike h g l → has_place g m l ≡ has_place h m l
-  same_place (BlockPlace r i) (Block s p) same = ap (λ shape. r == s && i == p % place_count shape) same
+  same_place (BlockPlace r i) (Block s p) same = ap (λ shape. r == s && i == place_of shape p) same
   same_place (LinkPlace r i) (Link s q) same = ap (λ shape. r == s && i == link_of shape q) same
   same_place (BlockPlace r i) (Link s q) same = refl
   same_place (BlockPlace r i) (Range n a e) same = refl

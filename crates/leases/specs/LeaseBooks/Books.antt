@@ -1,6 +1,6 @@
 -- What the book of leases holds, in terms of what was and is lent
-use Rattle.std.specs.Prelude.{◌≡◌, ℕ, ◌+◌, ◌%◌, true, List, [], ◌∷◌, map}
-use Rattle.segments.specs.Places.{place_count, is_crossing}
+use Rattle.std.specs.Prelude.{◌≡◌, ℕ, ◌+◌, true, List, [], ◌∷◌, map}
+use Rattle.segments.specs.Places.{place_of, is_crossing}
 use Rattle.segments.specs.Givings.{link_of}
 use Rattle.traces.specs.declared.header.Header.{Header}
 use Rattle.traces.specs.declared.row.Row.{Row}
@@ -13,7 +13,7 @@ use Rattle.leases.specs.declared.book.lease_book.LeaseBook.{LeaseBook}
 
 -- the tables find a lease that isn't over at this index of the list
 abbrev pub IsFound : Header → IndexTables → IndexTables → ℕ → Leased → Type 0
-IsFound h blocks links i (Block r p) = index_at blocks r (p % place_count (shape_of h r)) ≡ i
+IsFound h blocks links i (Block r p) = index_at blocks r (place_of (shape_of h r) p) ≡ i
 IsFound h blocks links i (Link r q) = (is_crossing (shape_of h r) q ≡ true) × (index_at links r (link_of (shape_of h r) q) ≡ i)
 IsFound h blocks links i (Range n a e) = Unit {0}
 

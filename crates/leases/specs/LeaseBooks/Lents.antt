@@ -1,8 +1,8 @@
 -- How the leases of a trace grow by one row: those that are over end at it, and those that begin follow, by the rings that are there before the
 -- row and behind it
-use Rattle.std.specs.Prelude.{ℕ, ◌+◌, ◌%◌, ◌==◌, ◌&&◌, if◌then◌else◌, Bool, false, not, nat_le, nat_lt, List, [], ◌∷◌, ◌++◌, length, map, filter}
+use Rattle.std.specs.Prelude.{ℕ, ◌+◌, ◌==◌, ◌&&◌, if◌then◌else◌, Bool, false, not, nat_le, nat_lt, List, [], ◌∷◌, ◌++◌, length, map, filter}
 use Rattle.std.specs.List.{list_any}
-use Rattle.segments.specs.Places.{place_count}
+use Rattle.segments.specs.Places.{place_of}
 use Rattle.segments.specs.Givings.{link_of}
 use Rattle.traces.specs.declared.header.Header.{Header}
 use Rattle.traces.specs.declared.row.Row.{Row}
@@ -80,7 +80,7 @@ is_passed r from to (Range n a e) = false
 
 -- both are blocks with one place, or Links with one segment, of one ring
 abbrev pub share_a_place : Header → Leased → Leased → Bool
-share_a_place h (Block r p) (Block s q) = r == s && p % place_count (shape_of h r) == q % place_count (shape_of h s)
+share_a_place h (Block r p) (Block s q) = r == s && place_of (shape_of h r) p == place_of (shape_of h s) q
 share_a_place h (Link r p) (Link s q) = r == s && link_of (shape_of h r) p == link_of (shape_of h s) q
 share_a_place h _ _ = false
 

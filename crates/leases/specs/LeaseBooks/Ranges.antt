@@ -1,7 +1,7 @@
 -- Where the leases of ranges of bytes stand among the leases, by what the ranges are for
-use Rattle.std.specs.Prelude.{◌≡◌, ℕ, ◌+◌, ◌*◌, ◌%◌, ◌==◌, ◌&&◌, Bool, true, false, not, List, map, slice_get, Some}
+use Rattle.std.specs.Prelude.{◌≡◌, ℕ, ◌+◌, ◌*◌, ◌==◌, ◌&&◌, Bool, true, false, not, List, map, slice_get, Some}
 use Rattle.std.specs.List.{list_any}
-use Rattle.segments.specs.Places.{place_count}
+use Rattle.segments.specs.Places.{place_of}
 use Rattle.segments.specs.declared.segment.Segment.{Segment}
 use Rattle.traces.specs.declared.header.Header.{Header}
 use Rattle.traces.specs.Header.{command_id, shape_of}
@@ -13,7 +13,7 @@ use Rattle.leases.specs.declared.book.ranges.RangeIndexes.{RangeIndexes}
 
 -- the place of a command on the command ring
 abbrev pub command_place : Header → ℕ → ℕ
-command_place h p = p % place_count (shape_of h (command_id h))
+command_place h p = place_of (shape_of h (command_id h)) p
 
 -- the segments of an event ring, in the order of leases that begin at one row
 abbrev pub segments_in_turn : List Segment → List Leased

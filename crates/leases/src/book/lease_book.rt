@@ -86,7 +86,7 @@ impl LeaseLog for LeaseBook {
     fn begin_block(&mut self, row: u32, ring: &Ring, position: u64) -> Result<(), AllocError> {
         let index = self.leases.len();
         self.leases.push(block_lease(row, ring.id, position))?;
-        let place = (position % u64::from(ring.shape.places())) as u32;
+        let place = ring.shape.place(position);
         self.blocks.put(ring.id, place, index)?;
         Ok(())
     }
@@ -105,7 +105,7 @@ impl LeaseLog for LeaseBook {
     }
 
     fn end_block(&mut self, row: u32, ring: &Ring, position: u64) {
-        let place = (position % u64::from(ring.shape.places())) as u32;
+        let place = ring.shape.place(position);
         let index = self.blocks.get(ring.id, place);
         end_at(
             &mut self.leases,

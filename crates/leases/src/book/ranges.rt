@@ -1,6 +1,5 @@
 //! Where the leases of ranges of bytes stand in the book (xHCI 4.6.5, 4.9.4, 6.1, 6.5).
-ghost use Rattle.std.specs.Prelude.{◌≡◌, ◌%◌, ℕ, [], ◌∷◌, true, List, length, map, OnOk};
-ghost use Rattle.segments.specs.Places.{place_count};
+ghost use Rattle.std.specs.Prelude.{◌≡◌, ℕ, [], ◌∷◌, true, List, length, map, OnOk};
 ghost use Rattle.traces.specs.declared.header.Header.{Header};
 ghost use Rattle.traces.specs.Header.{command_id, shape_of};
 ghost use Rattle.ring_knowledge.specs.declared.lease.Lease.{Lease};
@@ -60,7 +59,7 @@ impl RangeIndexes {
             is_use_free h ts (InputContext position) ≡ true → FindsRanges h (with_begun row ts (Range bytes address (InputContext position) ∷ [])) self.new) }
     {
         let index = book.count();
-        self.contexts.put(place_on(ring, position), index)?;
+        self.contexts.put(ring.shape.place(position), index)?;
         book.begin_range(row, bytes, address)
     }
 
@@ -78,7 +77,7 @@ impl RangeIndexes {
             is_lent ts (Range bytes address (InputContext position)) ≡ true →
             B.holds list h (map (ended_where (same_leased (Range bytes address (InputContext position))) row) ts) book.new }
     {
-        let index = self.contexts.get(place_on(ring, position));
+        let index = self.contexts.get(ring.shape.place(position));
         book.end_range(index, row, bytes, address);
     }
 
@@ -210,11 +209,4 @@ impl RangeIndexes {
         }
         Ok(())
     }
-}
-
-/// The place of a position on its ring.
-fn place_on(ring: &Ring, position: u64) -> u32
-    ensures { result ≡ position % place_count ring.now.shape }
-{
-    (position % u64::from(ring.shape.places())) as u32
 }

@@ -78,7 +78,7 @@ impl LeaseLog for CertificateLog<'_> {
     #[inline(always)]
     fn begin_block(&mut self, row: u32, ring: &Ring, position: u64) -> Result<(), AllocError> {
         self.list.begin(block_lease(row, ring.id, position))?;
-        let place = (position % u64::from(ring.shape.places())) as u32;
+        let place = ring.shape.place(position);
         self.blocks.put(ring.id, place, self.list.begun)?;
         Ok(())
     }
@@ -97,7 +97,7 @@ impl LeaseLog for CertificateLog<'_> {
     }
 
     fn end_block(&mut self, row: u32, ring: &Ring, position: u64) {
-        let place = (position % u64::from(ring.shape.places())) as u32;
+        let place = ring.shape.place(position);
         let number = self.blocks.get(ring.id, place);
         let lease = block_lease(row, ring.id, position);
         if number > 0 && self.list.end(number - 1, row, lease) {

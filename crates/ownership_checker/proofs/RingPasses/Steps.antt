@@ -1,17 +1,9 @@
 -- A row more of a pass
-use Rattle.ownership_checker.proofs.LowerLaws.{reset, resets, reset_keeps, frees_badly, coming_keeps, going_keeps, MayCome, learned_or_reset, ◌≡◌, ◌+◌, ◌++◌, ◌∷◌, ◌∙◌, ℕ, headline, true, false, List, [], All, Option, Result, IfErr, suc, length, reverse, arith, refl, sym, ap, subst, inl, inr, reverse-append, All-cons, All-head, All-nil, All-tail, Header, Known, Ring, IsHeader, DriverKeeps, nothing, false≢true, lenient_row, nothing_kept, clean_tests, EventState, Row, RingRow, FreeRow, id_below, IsAmong, TraceRecord, FollowsTrace, IsWithin, IsLeast, IsRowStep, Refusal, IsTracked, ContextsFit, IsComing, learned, Reg, Bool, if◌then◌else◌, is_bad_ring, with_ring, without_ring, AreKept, IsRow, header_now, known_now, is_left, restored, restored_on, ring_restored, some_flips, row_comes, stopped_still, BadFree, BadRing, BadWithdraw, withdraws_badly, restored_same, IsLeastOfRow, DoNoHarm, IsRingPassed, NothingFree, RingPass, kept_driver, NopRow, IsFinder, contexts_fit, row_keeps, withdraw_keeps, IsRingStep, least_broken, none_broken, reversed_twice, rules, is_ring_row, kept_coming, kept_going, kept_withdrawing, coming_alone, going_alone, withdrawing_alone, comes_free, driven_after, driven_free, driver_same, flips_none_restored, goes_free, header_driven, kept_now, no_rule_broken, nothing_free, stands_where_restored, nothing_fits, tables_fit, shape_allowed}
+use Rattle.ownership_checker.proofs.LowerLaws.{reset, resets, reset_keeps, frees_badly, coming_keeps, going_keeps, MayCome, learned_or_reset, ◌≡◌, ◌+◌, ◌++◌, ◌∷◌, ◌∙◌, ℕ, headline, true, false, List, [], All, Option, Result, IfErr, suc, length, reverse, arith, refl, sym, ap, subst, inl, inr, reverse-append, All-cons, All-head, All-nil, All-tail, Header, Known, Ring, IsHeader, DriverKeeps, nothing, false≢true, lenient_row, nothing_kept, clean_tests, EventState, Row, RingRow, FreeRow, TraceRecord, FollowsTrace, IsWithin, IsLeast, IsRowStep, Refusal, IsTracked, ContextsFit, IsComing, learned, Reg, Bool, if◌then◌else◌, is_bad_ring, with_ring, without_ring, AreKept, IsRow, header_now, known_now, is_left, restored, restored_on, ring_restored, some_flips, row_comes, stopped_still, BadFree, BadRing, BadWithdraw, withdraws_badly, restored_same, IsLeastOfRow, DoNoHarm, IsRingPassed, NothingFree, RingPass, kept_driver, NopRow, IsFinder, contexts_fit, row_keeps, withdraw_keeps, IsRingStep, least_broken, none_broken, reversed_twice, rules, is_ring_row, kept_coming, kept_going, kept_withdrawing, coming_alone, going_alone, withdrawing_alone, comes_free, driven_after, driven_free, driver_same, flips_none_restored, goes_free, header_driven, kept_now, no_rule_broken, nothing_free, stands_where_restored, nothing_fits, tables_fit}
 use Rattle.trace_record.specs.declared.fault.StepFault as step
+use Rattle.safety.specs.RingChanges.Histories.{MayBegin}
 use Rattle.trace_record.specs.declared.fault.StepFault.TheVariants as variants
 use Rattle.trace_record.specs.Steps as steps
-
-among_last : (r : Ring) (rs : List Ring) → IsAmong r (rs ++ r ∷ [])
-among_last r [] = inl refl
-among_last r (x ∷ rs) = inr (among_last r rs)
-
--- a ring that a header has behind it may come, by its line alone
-pub coming_by_header : (h : Header) (r : Ring) → IsHeader (with_ring h r) → IsComing r
-unfolding with_ring
-coming_by_header h r is = search (rules, id_below (with_ring h r) is r, among_last, shape_allowed (with_ring h r) is r)
 
 all_joined : (xs ys : List Row) → All IsRow xs → All IsRow ys → All IsRow (xs ++ ys)
 all_joined [] ys first second = second
@@ -46,12 +38,12 @@ module _ (h : Header) (is : IsHeader h) (k : Known) (keeps : DriverKeeps h k) wh
   keeps_behind row may still = kept_driver h is k row keeps may still
 
 module _ {B M : Type 0} (words : M → ℕ → ℕ) where
-  pub before_rows : (pass : RingPass B M) → IsHeader pass.header → IsFinder pass.header.rings pass.finder → IsWithin pass.record.events 0 → FollowsTrace pass.header nothing pass.record (words pass.memory) →
+  pub before_rows : (pass : RingPass B M) → MayBegin pass.header → IsFinder pass.header.rings pass.finder → IsWithin pass.record.events 0 → FollowsTrace pass.header nothing pass.record (words pass.memory) →
       IsRingPassed words pass.header [] pass
   before_rows pass is found unread follows = record {
     opening = is;
     header = refl;
-    headed = is;
+    headed = is.0;
     found = found;
     few_reads = unread;
     tracked = record { follows = follows; keeps = λ on. nothing_kept pass.header is };
@@ -117,16 +109,15 @@ module _ {B M : Type 0} (words : M → ℕ → ℕ) where
     restored_tracked row o after is on stands follows = record { follows = rw (← is) follows; keeps = λ still. row_keeps before.header p.headed k (p.tracked.keeps on) row stands }
 
     -- behind a ring that comes
-    pub comes_behind : (ring : Ring) (after : TraceRecord) → (DriverKeeps before.header k → k.stopped ≡ false → IsRingStep before.header k (RingRow ring) after (words before.memory)) →
+    pub comes_behind : (ring : Ring) → IsComing ring → (after : TraceRecord) → (DriverKeeps before.header k → k.stopped ≡ false → IsRingStep before.header k (RingRow ring) after (words before.memory)) →
         k.stopped ≡ false → IsWithin after.events (length past) → (later : RingPass B M) → later.header ≡ with_ring before.header ring → IsHeader later.header → IsFinder later.header.rings later.finder → later.record ≡ after →
         words later.memory ≡ words before.memory → later.has_withdrawn ≡ before.has_withdrawn → IsRingPassed words h (RingRow ring ∷ past) later
     unfolding ring_restored restored_on
-    comes_behind ring after stepped on reads later header is found recorded at same =
+    comes_behind ring coming after stepped on reads later header is found recorded at same =
         let keeps = tracked_now.keeps on in
         let now : IsRingStep g k (RingRow ring) after (words before.memory) = rw p.header at (stepped (p.tracked.keeps on) on) in
-        let there : later.header ≡ with_ring g ring = header ∙ ap (λ (x : Header). with_ring x ring) p.header in
-        let coming : IsComing ring = coming_by_header g ring (subst IsHeader there is) in
         let good = kept_coming g k ring now.kept in
+        let there : later.header ≡ with_ring g ring = header ∙ ap (λ (x : Header). with_ring x ring) p.header in
         record {
           opening = p.opening;
           header = there;
@@ -189,7 +180,7 @@ module _ {B M : Type 0} (words : M → ℕ → ℕ) where
 
     -- no run beside the rows, in their order, does harm
     pub no_harm : All IsRow past → DoNoHarm h (reverse past)
-    no_harm are = headline h (reverse past) p.opening (all_reversed past are) (subst (AreKept h) (sym (reversed_twice past)) (kept_now h past p.clean))
+    no_harm are = headline h (reverse past) p.opening.0 p.opening.1 (all_reversed past are) (subst (AreKept h) (sym (reversed_twice past)) (kept_now h past p.clean))
 
   -- ---- a ring that is refused, whatever rows were passed before it
 

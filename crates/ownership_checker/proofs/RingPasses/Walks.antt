@@ -1,9 +1,10 @@
 -- Behind any rows that break no rule the walk through each ring that is there reads what was declared
 use Rattle.ownership_checker.proofs.LowerLaws.{reset, resets, cond-false, cond-true, cases_Bool, gone, rules, ◌≡◌, ◌∷◌, ◌++◌, ◌∙◌, ℕ, true, false, List, [], All, sym, ap, subst, drop, reverse, take, false≢true, reverse-append, take-append-drop, RingKind, Evt, walk_reads, Row, Reg, RingRow, FreeRow, is_driver_kind, All-tail, Header, IsHeader, Known, DriverKeeps, rings_of, endpoints_of, still_of, lenient_row, HasRing, has_ring, still_reads, on_ring, forgotten, learned, restored_on, ring_restored, inl, inr, IsRow, header_now, known_now, restored, row_comes, AreClean, NopRow, RingsKeep, nothing_keeps, restored_keeps, now_keeps, reversed_twice, WalksRead, breaks_no_rule, kept_now}
-use Rattle.safety.proofs.RingsOfHeader.{shape_allowed}
-use Rattle.safety.proofs.Histories.{row_keeps}
+use Rattle.safety.proofs.HeaderRings.RingsOfHeader.{shape_allowed}
+use Rattle.safety.proofs.RingsKeep.Histories.{row_keeps}
+use Rattle.safety.specs.RingChanges.Histories.{MayBegin}
 
-module _ (h : Header) (is : IsHeader h) where
+module _ (h : Header) (is : MayBegin h) where
   -- behind rows that break no rule: also behind a stop
   record AllKept (past : List Row) : Type 0 where
     pub headed : IsHeader (header_now h past)
@@ -36,7 +37,7 @@ module _ (h : Header) (is : IsHeader h) where
 
   all_kept : (past : List Row) → All IsRow past → AreClean h past → AllKept past
   unfolding forgotten gone on_ring restored_on ring_restored
-  all_kept [] fit clean = record { headed = is; rings = nothing_keeps h is }
+  all_kept [] fit clean = record { headed = is.0; rings = nothing_keeps h is }
   all_kept (RingRow ring ∷ past) fit clean = of_rows (RingRow ring ∷ past) fit clean (breaks_no_rule (header_now h past) (known_now h past) (RingRow ring) clean.1).on
   all_kept (FreeRow id ∷ past) fit clean = of_rows (FreeRow id ∷ past) fit clean (breaks_no_rule (header_now h past) (known_now h past) (FreeRow id) clean.1).on
   all_kept (NopRow r p ∷ past) fit clean = of_rows (NopRow r p ∷ past) fit clean (breaks_no_rule (header_now h past) (known_now h past) (NopRow r p) clean.1).on
@@ -67,7 +68,7 @@ split rows done = ap reverse (sym (take-append-drop done rows)) ∙ reverse-appe
 no_event_ring : (kind : RingKind) → is_driver_kind kind ≡ true → kind ≡ Evt → ⊥
 no_event_ring kind driver same = false≢true (sym (ap is_driver_kind same) ∙ driver)
 
-pub walks : (h : Header) → IsHeader h → (past : List Row) → All IsRow past → AreClean h past → WalksRead h (reverse past)
+pub walks : (h : Header) → MayBegin h → (past : List Row) → All IsRow past → AreClean h past → WalksRead h (reverse past)
 walks h is past fit clean done r within driver restored =
     let rows : List Row = reverse past in
     let there : List Row = reverse (take done rows) in

@@ -9,6 +9,7 @@ use Rattle.trace_record.specs.RingFinder.Finding.{IsFinder}
 use Rattle.ring_knowledge.specs.Histories.{header_now, known_now}
 use Rattle.trace_record.specs.Fresh.{IsWithin}
 use Rattle.ownership_checker.specs.JudgedRows.Tracking.{IsTracked}
+use Rattle.safety.specs.RingChanges.Histories.{MayBegin}
 use Rattle.leases.specs.LeaseBooks.Lents.{Lent, lents}
 use Rattle.leases.specs.LeaseRows.CleanRows.{HoldsAll}
 use Rattle.leases.specs.LeaseRows.LeftBehind.{TablesFit}
@@ -22,7 +23,7 @@ NothingFree k = (r : ℕ) → IsRestored (k.ring r)
 -- the rows so far, the newest first, break no rule; the header is that of the rings that are there behind them, and the record and the
 -- memory hold what is known then; `h` is the header before the first
 pub record IsRingPassed {B M : Type 0} (words : M → ℕ → ℕ) (h : Header) (past : List Row) (pass : RingPass B M) : Type 0 where
-  pub opening : IsHeader h
+  pub opening : MayBegin h
   pub header : pass.header ≡ header_now h past
   pub headed : IsHeader pass.header
   pub found : IsFinder pass.header.rings pass.finder

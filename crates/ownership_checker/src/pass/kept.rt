@@ -1,6 +1,6 @@
 //! The pass over rows that are kept in memory.
 ghost use Rattle.std.specs.Prelude.{◌≡◌, ◌+◌, ◌≤◌, ℕ, All, Some, length, IfOk};
-ghost use Rattle.traces.specs.AllowedHeaders.{IsHeader};
+ghost use Rattle.traces.specs.AllowedHeaders.{AreUnmoved, IsHeader};
 ghost use Rattle.traces.specs.Limits.{most_streamed_lines};
 ghost use Rattle.traces.specs.TraceRows.{IsTraceRow};
 ghost use Rattle.ownership_checker.specs.RingPasses.KeptRows.{IsBehindAll};
@@ -26,6 +26,7 @@ pub fn pass_kept<B: LeaseLog + Drop, M: WordMemory + Drop>(
     memory: M,
 ) -> Result<Passed<RingPass<B, M>>, AllocError>
     requires headed { IsHeader header }
+    requires unmoved { AreUnmoved header.rings }
     requires fitting { All IsTraceRow rows.now }
     requires within { first + length rows.now ≤ most_streamed_lines + 1 }
     requires zero { (a : ℕ) → M.words memory a ≡ 0 }

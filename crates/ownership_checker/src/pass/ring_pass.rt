@@ -1,6 +1,6 @@
 //! A pass over rows between which rings come and go, and descriptors are withdrawn.
 ghost use Rattle.std.specs.Prelude.{◌≡◌, ◌+◌, ◌<◌, ◌≤◌, ℕ, true, false, [], ◌∷◌, List, All, length, reverse, IfErr, IfOk, OnOk};
-ghost use Rattle.traces.specs.AllowedHeaders.{IsHeader};
+ghost use Rattle.traces.specs.AllowedHeaders.{AreUnmoved, IsHeader};
 ghost use Rattle.traces.specs.Limits.{most_streamed_lines};
 ghost use Rattle.traces.specs.declared.header.Header.{Header};
 ghost use Rattle.traces.specs.declared.row.Row.TheVariants.{Read, Ring as RingRow, Free as FreeRow};
@@ -11,7 +11,7 @@ ghost use Rattle.trace_record.specs.RingFinder.Finding.{IsFinder};
 ghost use Rattle.ownership_rules.specs.Leases.{without_end};
 ghost use Rattle.leases.specs.LeaseBooks.Lents.{lents};
 ghost use Rattle.safety.specs.Harmless.{DoNoHarm};
-ghost use Rattle.traces.specs.Rows.{IsRow, is_ring_row};
+ghost use Rattle.traces.specs.Rows.{IsComing, IsRow, is_ring_row};
 ghost use Rattle.ring_knowledge.specs.Histories.{header_now, known_now};
 ghost use Rattle.trace_record.specs.Steps.{IfRefused};
 ghost use Rattle.trace_record.specs.RowPlaces.{IsPlaced};
@@ -63,6 +63,7 @@ impl<B: LeaseLog + Drop, M: WordMemory + Drop> RingPass<B, M> {
         memory: M,
     ) -> Result<RingPass<B, M>, AllocError>
         requires headed { IsHeader header }
+        requires unmoved { AreUnmoved header.rings }
         requires zero { (a : ℕ) → M.words memory a ≡ 0 }
         ensures passed { IfOk result (IsRingPassed M.words header []) }
         ensures logged { IfOk result (λ pass. (list : List Lease) (first : ℕ) → B.holds list header (lents header first []) log → IsRingLogged (B.holds list) header first [] pass) }
@@ -191,6 +192,7 @@ impl<B: LeaseLog + Drop, M: WordMemory + Drop> RingPass<B, M> {
     #[inline(never)]
     fn ring_comes(&mut self, number: u32, ring: Ring) -> Result<(), StepFault>
         requires so_far { (h : Header) × (past : List Row) × IsRingPassed M.words h past self.old }
+        requires coming { IsComing ring }
         ensures passed { OnOk result ((h : Header) (past : List Row) → IsRingPassed M.words h past self.old → IsRingPassed M.words h (RingRow ring ∷ past) self.new) }
         ensures logged { OnOk result ((list : List Lease) (h : Header) (first : ℕ) (past : List Row) → IsRingPassed M.words h past self.old →
             number ≡ first + length past → first + length past < without_end →

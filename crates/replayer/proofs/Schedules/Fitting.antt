@@ -1,7 +1,8 @@
 -- Rows that break no rule: the rings behind each may stand in a header, and each fits its fields
 use Rattle.replayer.proofs.Words.{List, [], ◌∷◌, ◌++◌, arith, append-nil, subst, sym, reverse, All, All-cons, All-head, All-nil, All-tail, All-weaker, Header, IsHeader, IsTraceRow, IsRowOf, AreRowsOf, Row, Version, RingRow, FreeRow, kept_coming, kept_going, forgotten, gone, AreKept, IsRow, header_now, known_now, now_keeps, kept_on, later_kept, one_more, KeepHeaders}
+use Rattle.safety.specs.RingChanges.Histories.{MayBegin}
 
-module _ (h : Header) (headed : IsHeader h) where
+module _ (h : Header) (may : MayBegin h) where
   -- the rings behind each row may stand in a header
   keep_headers : (rows past : List Row) → All IsRow past → All IsRow rows → AreKept h (reverse rows ++ past) → KeepHeaders (header_now h past) rows
   unfolding forgotten gone
@@ -13,9 +14,9 @@ module _ (h : Header) (headed : IsHeader h) where
       (header_then row past then_made own, keep_headers rows (row ∷ past) then_made (All-tail IsRow row rows left) then_kept)
     where
       header_then : (row : Row) (past : List Row) → All IsRow (row ∷ past) → AreKept h (row ∷ past) → IsHeader (header_now h (row ∷ past))
-      header_then (RingRow ring) past made own = (now_keeps h headed (RingRow ring ∷ past) made own (kept_coming (header_now h past) (known_now h past) ring own.1).0).headed
-      header_then (FreeRow id) past made own = (now_keeps h headed (FreeRow id ∷ past) made own (kept_going (header_now h past) (known_now h past) id own.1).0).headed
-      header_then row past made own = (now_keeps h headed past (All-tail IsRow row past made) own.0 (kept_on (header_now h past) (known_now h past) row own.1)).headed
+      header_then (RingRow ring) past made own = (now_keeps h may (RingRow ring ∷ past) made own (kept_coming (header_now h past) (known_now h past) ring own.1).0).headed
+      header_then (FreeRow id) past made own = (now_keeps h may (FreeRow id ∷ past) made own (kept_going (header_now h past) (known_now h past) id own.1).0).headed
+      header_then row past made own = (now_keeps h may past (All-tail IsRow row past made) own.0 (kept_on (header_now h past) (known_now h past) row own.1)).headed
 
   pub all_headers : (rows : List Row) → All IsRow rows → AreKept h (reverse rows) → KeepHeaders h rows
   all_headers rows are kept = keep_headers rows [] (All-nil IsRow) are (subst (AreKept h) (sym (append-nil (reverse rows))) kept)

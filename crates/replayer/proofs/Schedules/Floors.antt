@@ -1,5 +1,6 @@
 -- The lazy schedule has brought each ring that an endpoint has to its floor behind each row
 use Rattle.replayer.proofs.Words.{arith, ◌≡◌, ◌∷◌, ◌++◌, ◌∙◌, List, [], All, ap, append-nil, append_assoc, refl, reverse, subst, sym, Header, NextRow, Step, Row, IsHeader, AreKept, IsRow, header_now, known_now, IsTimely, lazy_run, lazy_steps, one_more, pointers_at, steps_for, reverse-append, reverse-reverse, lazy_law, StandsAtFloors}
+use Rattle.traces.specs.AllowedHeaders.{AreUnmoved}
 
 module _ (h : Header) where
   -- the lazy run of more rows goes on where that of fewer ended
@@ -23,10 +24,10 @@ module _ (h : Header) where
   unfolding lazy_steps
   parts past later on = grind (arith, reverse, reverse-append, reverse-reverse, lazy_run, append-nil)
 
-  pub stands_at_floors : (rows : List Row) → IsHeader h → All IsRow rows → AreKept h (reverse rows) → IsTimely h (reverse rows) → StandsAtFloors h rows (lazy_steps h rows)
-  stands_at_floors rows is fits kept timely past later same =
+  pub stands_at_floors : (rows : List Row) → IsHeader h → AreUnmoved h.rings → All IsRow rows → AreKept h (reverse rows) → IsTimely h (reverse rows) → StandsAtFloors h rows (lazy_steps h rows)
+  stands_at_floors rows is unmoved fits kept timely past later same =
       let turned : reverse rows ≡ reverse later ++ past = ap reverse same ∙ reverse-append (reverse past) later ∙ ap (λ l. reverse later ++ l) (reverse-reverse past) in
-      let goes = lazy_law h past later is (subst (All IsRow) same fits) (subst (AreKept h) turned kept) (subst (IsTimely h) turned timely) in
+      let goes = lazy_law h past later is unmoved (subst (All IsRow) same fits) (subst (AreKept h) turned kept) (subst (IsTimely h) turned timely) in
       let on = goes_on later past [] in
       record {
         made = lazy_run h past later;

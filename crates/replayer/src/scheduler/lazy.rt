@@ -1,5 +1,5 @@
 ghost use Rattle.std.specs.Prelude.{◌≡◌, ◌≤◌, ◌+◌, ◌*◌, ℕ, All, Some, length, reverse, IfErr, IfOk, OnOk};
-ghost use Rattle.traces.specs.AllowedHeaders.{IsHeader};
+ghost use Rattle.traces.specs.AllowedHeaders.{AreUnmoved, IsHeader};
 ghost use Rattle.traces.specs.Limits.{most_lines};
 ghost use Rattle.traces.specs.TraceRows.{IsTraceRow};
 ghost use Rattle.world_state.specs.Replays.{NoHarm};
@@ -60,6 +60,7 @@ pub(crate) fn steps_of<M: WordMemory + Drop>(
     memory: M,
 ) -> Result<Vec<Step>, ScheduleFault>
     requires headed { IsHeader header.now }
+    requires unmoved { AreUnmoved header.now.rings }
     requires fits { All IsTraceRow rows.now }
     requires within { first + length rows.now ≤ most_lines + 1 }
     requires zero { (a : ℕ) → M.words memory a ≡ 0 }

@@ -3,7 +3,7 @@ ghost use Rattle.std.specs.Prelude.{◌≡◌, ◌+◌, ◌≤◌, ◌∷◌, �
 ghost use Rattle.traces.specs.declared.header.Header.{Header as HeaderValue};
 ghost use Rattle.traces.specs.declared.row.Row.{Row as RowValue};
 ghost use Rattle.traces.specs.declared.row.Row.TheVariants.{Ring as RingRow, Free as FreeRow};
-ghost use Rattle.traces.specs.AllowedHeaders.{IsHeader};
+ghost use Rattle.traces.specs.AllowedHeaders.{AreUnmoved, IsHeader};
 ghost use Rattle.traces.specs.Limits.{most_lines, most_streamed_lines};
 ghost use Rattle.traces.specs.Rows.{IsRow, is_ring_row};
 ghost use Rattle.traces.specs.TraceRows.{IsTraceRow};
@@ -36,6 +36,7 @@ pub fn notes_of<M: WordMemory + Drop>(
     memory: M,
 ) -> Result<Vec<Note>, ScheduleFault>
     requires headed { IsHeader header }
+    requires unmoved { AreUnmoved header.rings }
     requires fits { All IsTraceRow rows.now }
     requires within { first + length rows.now ≤ most_lines + 1 }
     requires zero { (a : ℕ) → M.words memory a ≡ 0 }

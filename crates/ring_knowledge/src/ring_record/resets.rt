@@ -59,7 +59,7 @@ impl RingRecord {
                 floor,
                 places,
                 &self.given,
-                (position % places) as usize,
+                shape.place(position) as usize,
                 position,
             ) {
                 return true;

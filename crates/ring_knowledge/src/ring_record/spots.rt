@@ -1,16 +1,16 @@
 ghost use Rattle.std.specs.Prelude.{◌≡◌, if◌then◌else◌, ℕ, ◌==◌, ◌+◌, ◌≤◌, ◌<◌, ◌^◌, IfSome, Some, find, length};
-ghost use Rattle.trb.specs.Block.{has_event_data, has_value, pointer};
+ghost use Rattle.trb.specs.Block.{has_value};
 ghost use Rattle.segments.specs.Spots.{IsSpot, number, rank, spot_cycle};
 ghost use Rattle.segments.specs.Places.{link_crossed, links, place_count};
 ghost use Rattle.segments.specs.declared.spot.Spot.TheVariants.{Link};
 ghost use Rattle.segments.specs.Shape.{IsShape};
 ghost use Rattle.segments.specs.ShapeValue.{Shape};
 ghost use Rattle.segments.specs.RingView.{RingView, floor_number};
-ghost use Rattle.segments.specs.Ceiling.{data_at, named, named_data};
+ghost use Rattle.segments.specs.Ceiling.{data_at, named, named_by, named_data};
 ghost use Rattle.segments.specs.Moves.{is_target, spots_between, target};
 ghost use Rattle.ring_knowledge.specs.SpotsAt.{IsFrom};
 
-use super::{RingRecord, next_with_rest, number, place_before};
+use super::{RingRecord, number, place_before};
 use segments::{Place, RingShape, Spot};
 use trb::Block;
 
@@ -21,8 +21,7 @@ impl RingRecord {
     /// (xHCI 4.9.2, 4.11.5.2, 6.4.2.1).
     #[inline(always)]
     pub fn named_by(&self, shape: &RingShape, event: Block) -> Option<Spot>
-        ensures value { (v : RingView) → FollowsRing shape.now v self.now → IsSpot shape.now v.floor →
-            result ≡ (if has_event_data event then named_data v (pointer event) else named shape.now v (pointer event)) }
+        ensures value { (v : RingView) → FollowsRing shape.now v self.now → IsSpot shape.now v.floor → result ≡ named_by shape.now v event }
         ensures few { IfSome result (λ spot. number spot < 2 ^ 63) }
     {
         if event.has_event_data() {
@@ -67,10 +66,7 @@ impl RingRecord {
     fn has_data(&self, position: u64, value: u64) -> bool
         ensures { (shape : Shape) (v : RingView) → FollowsRing shape v self.now → floor_number v ≤ position → result ≡ has_value value (data_at v.queue position) }
     {
-        match self.data_at(position) {
-            Some(declared) => declared == value,
-            None => false,
-        }
+        self.data_at(position) == Some(value)
     }
 
     /// The value of the Event Data block that is declared at a position from the floor on, words 1 and 0; of any other block none
@@ -139,14 +135,14 @@ fn spot_from(shape: &RingShape, from: Spot, address: u64) -> Option<Spot>
     ensures spot { IsFrom shape.now from address result }
     ensures allowed { IsShape shape.now }
 {
-    let places = u64::from(shape.places());
+    let _ = shape.places();
     if address % 16 != 0 {
         return None;
     }
     match shape.place_at(address) {
         None => None,
         Some(Place::Data { place, .. }) => {
-            let position = next_with_rest(number(from), places, u64::from(place));
+            let position = shape.next_at(number(from), place);
             Some(Spot::Data(position))
         }
         Some(Place::Link { segment, .. }) => {
@@ -170,15 +166,16 @@ fn passed(from: Spot) -> u64
 
 /// The first crossing of a segment's Link behind a number.
 #[inline(never)]
-fn crossing_behind(shape: &RingShape, passed: u64, segment: u32) -> u64
+#[tactic(auto, using(segments::proofs::DataPlaces::place_count_most))]
+pub(super) fn crossing_behind(shape: &RingShape, passed: u64, segment: u32) -> u64
+    requires allowed { IsShape shape.now }
     requires segment { segment < length (links shape.now) }
     requires fits { passed < 2 ^ 63 }
     ensures from { passed < result }
     ensures within { result ≤ passed + place_count shape.now }
     ensures over { link_crossed shape.now result ≡ Some segment }
 {
-    let places = u64::from(shape.places());
-    next_with_rest(passed, places, u64::from(place_before(shape, segment))) + 1
+    shape.next_at(passed, place_before(shape, segment)) + 1
 }
 
 /// The Consumer Cycle State with which a controller stands at a spot (xHCI 4.9.2).

@@ -5,7 +5,7 @@ ghost use Rattle.std.specs.Ordering.{nat_cmp};
 ghost use Rattle.trb.specs.Block.{block_at, same_words};
 ghost use Rattle.segments.specs.Descriptors.{no_ops};
 ghost use Rattle.segments.specs.Givings.{descriptor_length, flips_passed, is_declared_as, is_not_restored, unrestored};
-ghost use Rattle.segments.specs.Places.{address_of, cycle_of, is_in, place_count};
+ghost use Rattle.segments.specs.Places.{address_of, cycle_of, is_in, place_count, place_of};
 ghost use Rattle.segments.specs.RingKeeps.{IsRestored};
 ghost use Rattle.segments.specs.RingView.{RingView, Restores, Withdraws, changed, floor_number, is_handed_over};
 ghost use Rattle.segments.specs.Shape.{IsShape};
@@ -14,7 +14,8 @@ ghost use Rattle.segments.specs.Spots.{number};
 ghost use Rattle.ring_knowledge.specs.BesideFree.{is_unrestored, stands_beside_free};
 ghost use Rattle.ring_knowledge.specs.Marks.{is_noted};
 
-use super::{RingRecord, has_cycle_of, is_marked, is_noted, next_with_rest, number, place_before};
+use super::spots::crossing_behind;
+use super::{RingRecord, has_cycle_of, is_marked, is_noted, number};
 use guest_memory::{Addr, WordMemory};
 use segments::{Place, RingShape};
 use std::alloc::{AllocError, Global};
@@ -65,16 +66,15 @@ impl RingRecord {
     {
         let count = u64::from(self.length_at(position));
         let floor = number(self.floor);
-        let places = u64::from(shape.places());
         if let Err(refused) = add_numbers(&mut self.withdrawn, position, count) {
             remove_numbers(&mut self.withdrawn, position, count);
             return Err(refused);
         }
         if let Err(refused) = add_given(
             &mut self.free,
+            shape,
             &self.given,
             floor,
-            places,
             position,
             count,
         ) {
@@ -112,7 +112,7 @@ impl RingRecord {
             number(self.floor),
             places,
             &self.given,
-            (position % places) as usize,
+            shape.place(position) as usize,
             position,
         ) && !self.free.contains(&position)
     }
@@ -170,6 +170,7 @@ impl RingRecord {
     }
 
     /// Whether the write of a word flips the Cycle bit of a free position that the controller may have passed.
+    #[tactic(auto, using(segments::proofs::DataPlaces::place_count_most))]
     pub fn flips_passed(&self, shape: &RingShape, at: Addr, word: u32) -> bool
         ensures { (v : RingView) → FollowsRing shape.now v self.now → result ≡ flips_passed shape.now v at word }
     {
@@ -181,11 +182,7 @@ impl RingRecord {
                 if index != 3 {
                     return false;
                 }
-                let position = next_with_rest(
-                    number(self.floor),
-                    u64::from(shape.places()),
-                    u64::from(place),
-                );
+                let position = shape.next_at(number(self.floor), place);
                 if !self.free.contains(&position) {
                     return false;
                 }
@@ -217,13 +214,8 @@ impl RingRecord {
                     return false;
                 }
                 let passed = number(self.floor).saturating_sub(1);
-                let places = u64::from(shape.places());
-                let before = next_with_rest(
-                    passed,
-                    places,
-                    u64::from(place_before(shape, segment)),
-                );
-                self.is_unrestored(before) || self.is_unrestored(before + 1)
+                let crossing = crossing_behind(shape, passed, segment);
+                self.is_unrestored(crossing - 1) || self.is_unrestored(crossing)
             }
             Some(Place::Data { .. }) => false,
             None => false,
@@ -239,19 +231,17 @@ impl RingRecord {
 
     /// Whether the block of a data place that is given is the controller's: its due position isn't free.
     #[inline(always)]
+    #[tactic(auto, using(segments::proofs::DataPlaces::place_count_most))]
     pub(super) fn is_kept(&self, shape: &RingShape, place: u32) -> bool
-        requires { place < place_count shape.now }
-        ensures { (p : ℕ) → number self.now.floor ≤ p → p < number self.now.floor + place_count shape.now → p % place_count shape.now ≡ place →
+        requires allowed { IsShape shape.now }
+        requires place { place < place_count shape.now }
+        ensures { (p : ℕ) → number self.now.floor ≤ p → p < number self.now.floor + place_count shape.now → place_of shape.now p ≡ place →
             result ≡ not (contains nat_cmp self.now.free p) }
     {
         if self.free.is_empty() {
             return true;
         }
-        let position = next_with_rest(
-            number(self.floor),
-            u64::from(shape.places()),
-            u64::from(place),
-        );
+        let position = shape.next_at(number(self.floor), place);
         !self.free.contains(&position)
     }
 }
@@ -301,20 +291,26 @@ fn add_numbers(set: &mut BTreeSet<u64>, from: u64, count: u64) -> Result<(), All
 /// Adds those positions from one on that are given. At want of memory some of them may be in the set.
 fn add_given(
     set: &mut BTreeSet<u64>,
+    shape: &RingShape,
     given: &[bool],
     floor: u64,
-    places: u64,
     from: u64,
     count: u64,
 ) -> Result<(), AllocError>
     requires fits { from + count < 2 ^ 64 }
-    requires least { floor + places < 2 ^ 64 }
-    requires some { 0 < places }
-    ensures all { OnOk result ((q : ℕ) → contains nat_cmp set.new q ≡ (contains nat_cmp set.old q || (is_in q from count && is_noted floor places given.now (q % places) q))) }
+    requires least { floor < 2 ^ 63 }
+    ensures all { OnOk result ((q : ℕ) → contains nat_cmp set.new q ≡ (contains nat_cmp set.old q || (is_in q from count && is_noted floor (place_count shape.now) given.now (place_of shape.now q) q))) }
     ensures elsewhere { (q : ℕ) → is_in q from count ≡ false → contains nat_cmp set.new q ≡ contains nat_cmp set.old q }
 {
+    let places = u64::from(shape.places());
     for position in from..from + count {
-        if is_noted(floor, places, given, (position % places) as usize, position) {
+        if is_noted(
+            floor,
+            places,
+            given,
+            shape.place(position) as usize,
+            position,
+        ) {
             set.insert(position)?;
         }
     }

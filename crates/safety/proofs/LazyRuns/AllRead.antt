@@ -20,7 +20,7 @@ module _ (h : Header) where
   }
 
   pub all_are_read : LazyLaw h → AllAreRead h
-  all_are_read law rows is are kept timely = contains rows (law (reverse rows) [] is (subst (λ l. All IsRow l) (sym (whole rows)) are) kept timely)
+  all_are_read law rows is unmoved are kept timely = contains rows (law (reverse rows) [] is unmoved (subst (λ l. All IsRow l) (sym (whole rows)) are) kept timely)
 
 -- A run whose events are all read: the world agrees with what is known now
 

@@ -1,7 +1,7 @@
 -- The changes of a command's success, one after the other: each is possible, and the rings go as they should, also one that is bound or moved
 use Rattle.safety.proofs.UpperLaws.{world_typed, known_typed, Types, [], ◌≡◌, ◌==◌, ◌&&◌, if◌then◌else◌, ◌∷◌, ◌∙◌, ℕ, not, Bool, false, List, Option, Some, None, option_and_then, refl, sym, ap, subst, eq-eqb, rules, and_from, and_parts, or_parts, or_from, false≢true, false_from_ne_true, not_from_false, none-some, Spot, is_open, Command, Stopped, Change, SlotGoesOn, DeviceLeft, Disables, Places, Stops, Resets, Header, command_id, is_ring, World, Known, on_ring, ring_here, ring_elsewhere, StatesMatch, ChangeKeeps, none_keeps, both_keep, IsNoPlacing, AreNoPlacings, cond_is, put_off, none_in_range, world_changed_by, world_changed_by_all, world_disabled, has_one_of, world_in_state, inactive, known_changed_by, known_changed_by_all, known_disabled, held_at_ceiling, known_in_state, is_placed_by_all, ring_placed, ◌≢◌, ◌<◌, ◌≤◌, true, find, arith, inl, inr, ne_eqb, list_any, range_with_len, cases_eq, cond-true, cond-false, not-true, same_Some, is_inside, RingView, IsSpot, number, rank, spot_address, ceiling, cases_option, rank_least, rank_most, EndpointState, is_off, Ring, IsHeader, shape_of, id_of, is_transfer_kind, ring_having, IsIn, IsTransferRing, RingState, state_of, BoundRing, found_in, shape_is, ring_shape, transfer_driver, transfer_not_command, MoveSpot, move_spot, transfer_ring, having_transfer, Ready, bound_spot, floor_number, moved_having, spot_inside, MayBind, MayMove, bind_keeps, move_keeps, binds_placed, moves_placed, placed_state, placed_world, placed_world_is, placed_here, placed_elsewhere, rest_active, rest_still, PlacedTo, is_had_by_another, placed, placed_on, StandsAt, IsActiveIfOpen, HadBefore, AtFloors, RingsGo, one_spot, ring_is, is_ring_is}
-use Rattle.safety.proofs.FinishSlots.{change_keeps}
-use Rattle.safety.proofs.NoWait.{ceiling_held}
+use Rattle.safety.proofs.Finishes.FinishSlots.{change_keeps}
+use Rattle.safety.proofs.NoHarm.NoWait.{ceiling_held}
 use Rattle.safety.proofs.LazyRuns.LooksRun.{stands_same}
 
 module _ (h : Header) (c : Command) where

@@ -1,7 +1,7 @@
 -- What a clean Command Completion Event says: the next command was given, and a controller can have finished it so
 use Rattle.safety.proofs.LowerLaws.{[], ◌≡◌, ◌<◌, ◌==◌, if◌then◌else◌, ◌∙◌, true, false, not, Option, Some, None, refl, sym, ap, ltb-true, eqb-true, rules, false≢true, or_parts, and_parts, not-false, Block, kind, code, pointer, slot, is_command_completion, address_of, ceiling, given_count, is_open, Command, may_answer_slot, can_succeed, Header, Read, Config, shape_of, command_id, register_or_zero, Known, command_at, next_command, may_be_taken, can_finish, is_impossible_by_kind, is_impossible_completion, was_stop_seen, lenient, DriverKeeps, EventFacts, event_facts, ceiling_open}
-use Rattle.safety.proofs.FinishKinds.{completion_kind}
-use Rattle.safety.proofs.NoWait.{ceiling_held}
+use Rattle.safety.proofs.Finishes.FinishKinds.{completion_kind}
+use Rattle.safety.proofs.NoHarm.NoWait.{ceiling_held}
 
 pub record CompletionSays (h : Header) (k : Known) (b : Block) : Type 0 where
   pub started : k.started ≡ true

@@ -1,8 +1,8 @@
 -- Each position before a ring's floor was given by a write of its own: floors, summed, and what else each row does are no more than rows
-use Rattle.safety.proofs.UpperLaws.{[], ◌≡◌, ◌≢◌, ◌+◌, ◌<◌, ◌≤◌, ◌∷◌, ◌∙◌, ℕ, suc, true, List, All, length, Option, arith, refl, sym, ap, rules, cases_eq, cond_both, All-head, All-tail, is_inside, put, put_at, put_off, Opens, RingChange, RingView, floor_number, Header, Row, Sub, Write, Reg, Bell, Read, RingRow, FreeRow, IsHeader, shape_of, command_id, Register, Known, on_ring, nothing, endpoint_rung, rung, learned, AreKept, IsRow, header_now, known_now, forgotten, restored, restored_on, ring_restored, with_ring, without_ring, register_leaves, view_after, kind, Block, DriverKeeps, IsDriverRing, ring_shape, Declares, changed, ring_with, is_driver_ring, driver_ring, endpoints_of, rings_of, still_of, not_in_both, written_view, event_same, still_reads, RingsKeep, RingWithdraws, given_among, all_given, same_given, no_more, of_driver, on_driver, off_driver, none_of_driver, driver_le, total, total_grows, total_le, total_none, total_one, false, false≢true, NopRow, kept_coming, kept_going, kept_withdrawing, is_ring_row, RegRead, status_leaves, reset, given_up, held_at_given, is_ring, resets, cases_Bool, cond-true, cond-false, subst, inl, inr, if◌then◌else◌, known_gone, command_ring, id_of}
+use Rattle.safety.proofs.UpperLaws.{[], ◌≡◌, ◌≢◌, ◌+◌, ◌<◌, ◌≤◌, ◌∷◌, ◌∙◌, ℕ, suc, true, List, All, length, Option, arith, refl, sym, ap, rules, cases_eq, cond_both, All-head, All-tail, is_inside, put, put_at, put_off, Opens, RingChange, RingView, floor_number, Header, Row, Sub, Write, Reg, Bell, Read, RingRow, FreeRow, IsHeader, shape_of, command_id, Register, Known, on_ring, nothing, endpoint_rung, rung, learned, AreKept, IsRow, header_now, known_now, forgotten, restored, restored_on, ring_restored, with_ring, without_ring, register_leaves, view_after, kind, Block, DriverKeeps, IsDriverRing, ring_shape, Declares, changed, ring_with, is_driver_ring, driver_ring, endpoints_of, rings_of, still_of, not_in_both, written_view, event_same, still_reads, RingsKeep, RingWithdraws, given_among, all_given, same_given, no_more, of_driver, on_driver, off_driver, none_of_driver, driver_le, total, total_grows, total_le, total_none, total_one, false, false≢true, NopRow, kept_coming, kept_going, kept_withdrawing, is_ring_row, RegRead, status_leaves, reset, given_up, held_at_given, is_ring, resets, cases_Bool, cond-true, cond-false, subst, inl, inr, if◌then◌else◌, known_gone, command_ring, id_of, MayBegin}
 use Rattle.safety.proofs.LazyRuns.Progress.{one_more, none_given}
-use Rattle.safety.proofs.DriverRows.{nothing_keeps}
-use Rattle.safety.proofs.Histories.{row_keeps}
+use Rattle.safety.proofs.RingsKeep.DriverRows.{nothing_keeps}
+use Rattle.safety.proofs.RingsKeep.Histories.{row_keeps}
 use Rattle.safety.proofs.RingChanges.Restored.{row_comes, row_keeps as kept_row}
 use Rattle.safety.proofs.RingChanges.LiveHeadline.{Keeps, kept_on, now_keeps}
 use Rattle.safety.proofs.LazyRuns.RingRows.{OthersStay, comes_stay, goes_stay, reset_on}
@@ -171,7 +171,7 @@ module _ (h : Header) where
   gone (FreeRow id ∷ past) = gone past + of_driver (header_now h past) id (floor_number ((known_now h past).ring id)) + 1
   gone (_ ∷ past) = gone past
 
-  module _ (is : IsHeader h) where
+  module _ (is : MayBegin h) where
     pub kept_before : (row : Row) (past : List Row) → All IsRow (row ∷ past) → AreKept h (row ∷ past) → Keeps h is past
     kept_before row past are kept = now_keeps h is past (All-tail IsRow row past are) kept.0 (kept_on (header_now h past) (known_now h past) row kept.1)
 

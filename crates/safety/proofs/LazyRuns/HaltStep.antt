@@ -1,10 +1,10 @@
 -- The row that first shows that the controller has halted: the lazy run halts it directly before
 use Rattle.safety.proofs.UpperLaws.{[], ◌≡◌, ◌∷◌, ◌∙◌, ◌&&◌, if◌then◌else◌, ℕ, not, true, false, List, Some, None, refl, sym, ap, subst, inl, cond-true, cond-false, and_parts, and_from, Header, Row, RegRead, Register, Halt, IsHeader, IsRow, World, counted, Known, learned, MayCome, Agrees, Runs, is_asked, is_done, is_first_halt, register_read, status_read, status_leaves, shows, halts, while_running, steps_made, row_done, steps_before, pointers_after, Leads, Past, Follows, Carries, next_reached, step_reached, agrees_now, more_law, Usbsts, false≢true, NextRow, reverse, ◌++◌, is_some, not-true, halted_bit, Crcr, seen_done}
 use Rattle.safety.proofs.DriverHistories.{kept_driver}
-use Rattle.safety.proofs.RowRuns.{row_runs}
-use Rattle.safety.proofs.Squares.{square_law}
+use Rattle.safety.proofs.Beneath.RowRuns.{row_runs}
+use Rattle.safety.proofs.Beneath.Squares.{square_law}
 use Rattle.safety.proofs.StepRuns.{step_goes}
-use Rattle.safety.proofs.StillRings.{still_rings}
+use Rattle.safety.proofs.Beneath.StillRings.{still_rings}
 use Rattle.safety.proofs.LazyRuns.RingRows.{Learns, StaysPut, follows_too}
 
 -- R/S was cleared, and the register shows now that the controller has halted

@@ -1,10 +1,10 @@
 -- The lazy law by induction over the rows, from the step of a row that reads an event
-use Rattle.safety.proofs.UpperLaws.{[], ◌≡◌, ◌≢◌, ◌⊎◌, ◌∷◌, ◌∙◌, ℕ, true, false, List, None, Option, Some, sym, ap, subst, inl, inr, rules, cases_Bool, false≢true, Spot, Data, Header, Row, IsHeader, command_id, IsRow, World, counted, Known, learned, MayCome, DriverKeeps, IsDriverRow, Agrees, Runs, transfer_not_command, more_law, pointers_after, AreAtFloors, ◌++◌, All, reverse, option_and_then, refl, All-cons, All-head, All-nil, All-tail, Read, RingRow, FreeRow, NextRow, opening, with_ring, without_ring, LiveScene, live_reached, live_step, live_with, IsStep, reverse-append, AreKept, IsKept, header_after, header_now, known_now, restored, restored_on, ring_restored, IsTimely, lazy_run, pointers_at, pointers_for, steps_for, LazyLaw, AllAreRead, none-some, nothing, opens, agrees_now, pointers_same, driver_reached, StandsAt, IsActiveIfOpen, Follows, Carries, Leads, Past, RowLearns, row_learns, row_active, all_are_read, EventLaw, AreTimely, PointerStays, RowLeaves, row_leaves, done, row_is_done, steps_before, GoesSoFar, Scene, scene_reached, reverse-reverse, NopRow, kept_coming, kept_going, kept_withdrawing, is_ring_row, driver_no_ring, names_command, IsPlain, row_plain, plain_is_done, resets_by, sees_halt, NamesCommand, first_stands, stands_first, row_names, row_named, row_unnamed, row_halted, unused_held, is_named, cond-true, cond-false, Reg, RegRead, Register, resets, reset, driver_reset, driver_resets, same_resets, is_first_halt, known_after, if◌then◌else◌, without_descriptor, row_done, forgotten, on_ring, live_row, resting, known_gone}
+use Rattle.safety.proofs.UpperLaws.{[], ◌≡◌, ◌≢◌, ◌⊎◌, ◌∷◌, ◌∙◌, ℕ, true, false, List, None, Option, Some, sym, ap, subst, inl, inr, rules, cases_Bool, false≢true, Spot, Data, Header, Row, IsHeader, command_id, IsRow, World, counted, Known, learned, MayCome, DriverKeeps, IsDriverRow, Agrees, Runs, transfer_not_command, more_law, pointers_after, AreAtFloors, ◌++◌, All, reverse, option_and_then, refl, All-cons, All-head, All-nil, All-tail, Read, RingRow, FreeRow, NextRow, opening, with_ring, without_ring, LiveScene, live_reached, live_step, live_with, IsStep, reverse-append, AreKept, IsKept, header_after, header_now, known_now, restored, restored_on, ring_restored, IsTimely, lazy_run, pointers_at, pointers_for, steps_for, LazyLaw, AllAreRead, none-some, nothing, opens, agrees_now, pointers_same, driver_reached, StandsAt, IsActiveIfOpen, Follows, Carries, Leads, Past, RowLearns, row_learns, row_active, all_are_read, EventLaw, AreTimely, PointerStays, RowLeaves, row_leaves, done, row_is_done, steps_before, GoesSoFar, Scene, scene_reached, reverse-reverse, NopRow, kept_coming, kept_going, kept_withdrawing, is_ring_row, driver_no_ring, names_command, IsPlain, row_plain, plain_is_done, resets_by, sees_halt, NamesCommand, first_stands, stands_first, row_names, row_named, row_unnamed, row_halted, unused_held, is_named, cond-true, cond-false, Reg, RegRead, Register, resets, reset, driver_reset, driver_resets, same_resets, is_first_halt, known_after, if◌then◌else◌, without_descriptor, row_done, forgotten, on_ring, live_row, resting, known_gone, MayBegin}
 use Rattle.safety.proofs.LazyRuns.RowsLearn.{done_asked}
 use Rattle.safety.proofs.DriverHistories.{kept_driver}
-use Rattle.safety.proofs.RowRuns.{row_runs}
-use Rattle.safety.proofs.Squares.{square_law}
-use Rattle.safety.proofs.StillRings.{still_rings}
+use Rattle.safety.proofs.Beneath.RowRuns.{row_runs}
+use Rattle.safety.proofs.Beneath.Squares.{square_law}
+use Rattle.safety.proofs.Beneath.StillRings.{still_rings}
 use Rattle.safety.proofs.RingChanges.LiveHeadline.{Keeps, now_keeps, row_goes}
 use Rattle.safety.proofs.RingChanges.Headline.{Alike, AreAlike, reached_alike}
 use Rattle.safety.proofs.LazyRuns.LazySteps.{run_is}
@@ -168,7 +168,7 @@ module _ (h : Header) where
       let r = rows_of past (row ∷ later) (subst (λ l. All IsRow l) (one_more row past later) rows) in
       (All-cons IsRow row past (All-head IsRow row later r.1) r.0, All-tail IsRow row later r.1)
 
-  module _ (is : IsHeader h) where
+  module _ (is : MayBegin h) where
     -- ---- the rows to come
 
     timely_from : (later past : List Row) → All IsRow past → All IsRow later → AreKept h (reverse later ++ past) → IsTimely h (reverse later ++ past) → AreTimely (header_now h past) (known_now h past) later
@@ -370,7 +370,7 @@ module _ (h : Header) where
         }
 
   pub lazy_from_events : ((g : Header) → EventLaw g) → LazyLaw h
-  lazy_from_events events past later is rows kept timely = goes_so_far is past later rows kept (carries is events past later rows kept timely)
+  lazy_from_events events past later is unmoved rows kept timely = goes_so_far (is, unmoved) past later rows kept (carries (is, unmoved) events past later rows kept timely)
 
   pub all_read_from_events : ((g : Header) → EventLaw g) → AllAreRead h
   all_read_from_events events = all_are_read h (lazy_from_events events)

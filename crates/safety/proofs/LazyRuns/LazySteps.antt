@@ -1,5 +1,5 @@
 -- The lazy schedule of a clean trace names rings and blocks that there are
-use Rattle.safety.proofs.UpperLaws.{rules, ◌≡◌, ℕ, ◌+◌, ◌<◌, List, [], ◌∷◌, Some, arith, ◌==◌, reverse, nat_lt, All, and_parts, cond_both, eqb-true, ltb-true, length-reverse, All-cons, All-head, All-nil, All-tail, Block, BlockKind, CommandCompletion, TransferEvent, IsBlock, Spot, number, Header, Row, Read, Step, Look, IsHeader, command_id, shape_of, IsRow, IsStep, Known, RingSpot, lenient, DriverKeeps, IsDriverRing, event_facts, header_parts, transfer_driver, command_is_ring, AreKept, IsKept, header_now, known_now, command_taken, goals, lazy_run, lazy_steps, looks_to, open_goals, pointers_at, post_of, report_goals, spots_before, steps_before, steps_for, stop_goal, stopped_goals, taken_up_to, flat_map, All-append, found_allowed, found_passes, get_or-reverse, All-map, AreSteps, next_command, ceiling, TransferFacts, transfer_facts, stopping_taken, slot, endpoint, kind, is_transfer_event, is_command_completion, completion_says, code_told, is_stopping, need, learned, refl, RegRead, Halt, is_first_halt, if◌then◌else◌, Bool, ap, subst, sym, inl, inr, named_if_taken, may_be_taken}
+use Rattle.safety.proofs.UpperLaws.{rules, ◌≡◌, ℕ, ◌+◌, ◌<◌, List, [], ◌∷◌, Some, arith, ◌==◌, reverse, nat_lt, All, and_parts, cond_both, eqb-true, ltb-true, length-reverse, All-cons, All-head, All-nil, All-tail, Block, BlockKind, CommandCompletion, TransferEvent, IsBlock, Spot, number, Header, Row, Read, Step, Look, IsHeader, command_id, shape_of, IsRow, IsStep, Known, RingSpot, lenient, DriverKeeps, IsDriverRing, event_facts, header_parts, transfer_driver, command_is_ring, AreKept, IsKept, header_now, known_now, command_taken, goals, lazy_run, lazy_steps, looks_to, open_goals, pointers_at, post_of, report_goals, spots_before, steps_before, steps_for, stop_goal, stopped_goals, taken_up_to, flat_map, All-append, found_allowed, found_passes, get_or-reverse, All-map, AreSteps, next_command, ceiling, TransferFacts, transfer_facts, stopping_taken, slot, endpoint, kind, is_transfer_event, is_command_completion, completion_says, code_told, is_stopping, need, learned, refl, RegRead, Halt, is_first_halt, if◌then◌else◌, Bool, ap, subst, sym, inl, inr, named_if_taken, may_be_taken, MayBegin}
 use Rattle.safety.proofs.RingChanges.LiveHeadline.{Keeps, now_keeps, kept_on}
 use Rattle.safety.proofs.RingChanges.Restored.{row_keeps}
 
@@ -81,7 +81,7 @@ module _ (h : Header) (headed : IsHeader h) where
   row_steps_are k p (RegRead r v) later d is clean = halts_are (is_first_halt h k r v)
   row_steps_are k p _ later d is clean = All-nil IsStep
 
-module _ (h : Header) (headed : IsHeader h) where
+module _ (h : Header) (headed : MayBegin h) where
   for_row : (past later : List Row) (row : Row) (p : ℕ → Spot) → Keeps h headed past → IsRow row → IsKept (header_now h past) (known_now h past) row →
       AreSteps (steps_for (header_now h past) (known_now h past) p row later)
   unfolding steps_for

@@ -1,6 +1,6 @@
 -- The looks for an event, at one ring after the other, are a run: each ring comes to its goal
 use Rattle.safety.proofs.UpperLaws.{[], ◌≡◌, ◌+◌, ◌-◌, ◌*◌, ◌<◌, ◌≤◌, ◌∷◌, ◌++◌, ◌∙◌, ℕ, suc, zero, List, filter, map, nat_lt, reverse, arith, refl, sym, ap, subst, inl, inr, lt-ltb, le-ltb, append_assoc, rules, cases_lt, cond-true, cond-false, reverse-append, Spot, Shape, IsSpot, number, rank, next, spots_from, rank_least, rank_most, same_rank, next_later, next_least, Header, Row, Step, Look, IsHeader, shape_of, World, counted, Known, DriverKeeps, Agrees, Runs, look_runs, false, Some, ◌≢◌, ◌==◌, ◌&&◌, if◌then◌else◌, Bool, true, is_some, ne_eqb, cases_Bool, cases_eq, and_left, and_right, Block, cycle, kind, is_link, Data, Link, after, command_id, RingState, RingMatches, state_of, Takeable, Crossable, takeable, crossable, ring_shape, only_crossed, only_taken, only_begun, behind_link, behind_block, TakeDone, CrossDone, take_done, cross_done, block_no_link, link_is, OnlyRing, stands_at, block_found, not, eq-eqb, IsDriverRing, Stands, further, looks_to, spots_before, crossed, looked, looked_at, seen_by_look, looks_taken, taken_on, steps_made, flat_map, put, RingSpot, put_at, put_off, lazy_brought, lazy_further, step_reached, agrees_now, StandsAt, Leads, Past, MayBring, Looked, LooksLeave, LooksLaw, RingStands, ring_stands, commands_stand, Traced, is_done, until_made}
-use Rattle.safety.proofs.LookKinds.{seen}
+use Rattle.safety.proofs.Looks.LookKinds.{seen}
 use Rattle.safety.proofs.DriverHistories.{run_keeps}
 
 -- The looks of the lazy schedule at one ring are a run: by induction over the spots on the way

@@ -1,7 +1,7 @@
 -- What a row of the driver leaves as it was, in the world and in what is known: floors, and which ring an endpoint has. A ring that it opens is active then
 use Rattle.safety.proofs.MiddleLaws.{◌≡◌, ◌≢◌, ◌==◌, ◌&&◌, ◌||◌, ◌⊎◌, if◌then◌else◌, ◌∙◌, ℕ, not, Bool, true, false, List, Option, Some, None, refl, sym, ap, inl, inr, cases_eq, cond_both, false≢true, put, put_pair, Block, is_running, is_stopped, position_from, erdp_address, is_event_place, Header, Row, Sub, Write, Reg, Bell, Register, Usbcmd, Erdp, command_id, event_shape, run_bit, reset_bit, base_address, ring_cycle_state, World, stored, IsDriverRow, put_at, put_off, activated, bell_row, driver_declared, driver_endpoint_bell, register_row, row_done, driver_run_or_stop, driver_valued, with_dequeue, [], nat_lt, is_none, subst, rules, cases_Bool, cond-true, cond-false, or_parts, not-false, RingView, Opens, is_open, Known, on_ring, run_or_stop, valued, register_written, endpoint_rung, rung, learned, is_bad_bell, lenient, BellFacts, bell_facts, declaration_leaves, write_leaves, register_leaves, bell_leaves, view_after, arith, driver_runs_again, driver_runs_once, runs_again, runs_once, RegRead, Crcr, Usbsts, driver_resets, shows, is_command_ring, command_placed, with_command_ring, is_done, is_asked, HaltState, is_used, is_named, is_value, is_some, command_ring, Ring, is_first_halt, is_no_first_block, is_bad_crcr, is_bad_register, is_in_run, is_impossible_read, is_impossible_status, lenient_tests, read_tests, tests_fail, register_facts, status_leaves, resets, resets_by, register_read, status_read, and_from, not_from_false, IsHeader, Read, names_ring, no_command_ring, runs_leave, halted_bit, has_runs}
 use Rattle.safety.proofs.LazyRuns.Follows.{sees_halt}
-use Rattle.safety.proofs.PlainRows.{plain_done}
+use Rattle.safety.proofs.Rows.PlainRows.{plain_done}
 
 -- What a row of the driver that resets nothing leaves as it is in the world: CRCR alone moves a pointer, that of the command ring
 

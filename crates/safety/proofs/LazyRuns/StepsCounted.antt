@@ -1,5 +1,5 @@
 -- A clean trace has at most three steps for each row, and three more: rows, events posted and halts, and looks, each of which moves a pointer on
-use Rattle.safety.proofs.UpperLaws.{[], ◌≡◌, ◌≢◌, ◌+◌, ◌*◌, ◌≤◌, ◌==◌, ◌∷◌, if◌then◌else◌, ℕ, true, false, List, All, length, reverse, Option, Some, None, arith, refl, sym, subst, ne_eqb, length-append, rules, FewSteps, driver_ring, length-reverse, flat_map, cases_Bool, cond_both, false≢true, and_parts, put_off, Block, kind, completion_kind, Spot, number, rank_most, floor_number, Command, Change, Places, changes, is_off, Header, Read, IsHeader, command_id, is_ring, ring_having, Known, RingSpot, learned, IsDriverRow, DriverKeeps, transfer_not_command, need, further, brought, goals, looks_to, EndpointsKeep, endpoints_of, transfer_ring, floors_grow, having_transfer, ring_with, is_driver_ring, Row, RingRow, FreeRow, Data, rank, put, lenient, All-head, All-tail, AreKept, IsRow, header_now, known_now, restored, restored_on, ring_restored, with_ring, without_ring, pointers_at, pointers_after, pointers_for, steps_before, steps_for, lazy_run, max, eq-eqb, cases_eq, cond-true, put_at, Ring, IsKept, header_after, known_after, begins_anew, ends_need, number_reported, known_changed_by, command_taken, lazy_steps, post_of, stopped_goals, taken_up_to, is_placed_by, is_placed_by_all, ring_placed, change_keeps, bit, no_steps, pointers_same, come_to, driver_le, of_driver, on_driver, off_driver, place_value, command_value, transfer_value, progress, total, total_le, total_most, total_twice, further_most, row_learns, NopRow, kept_coming, kept_going, inl, inr, ap, RegRead, Reg, Register, sees_halt, resets, reset, held_at_given, RingView, cond-false, is_first_halt, Halt, ◌∙◌, Bool, ◌&&◌, nat_lt, next_command, may_be_taken, shape_of, no_command_id, ceiling, command_ring, id_of}
+use Rattle.safety.proofs.UpperLaws.{[], ◌≡◌, ◌≢◌, ◌+◌, ◌*◌, ◌≤◌, ◌==◌, ◌∷◌, if◌then◌else◌, ℕ, true, false, List, All, length, reverse, Option, Some, None, arith, refl, sym, subst, ne_eqb, length-append, rules, FewSteps, driver_ring, length-reverse, flat_map, cases_Bool, cond_both, false≢true, and_parts, put_off, Block, kind, completion_kind, Spot, number, rank_most, floor_number, Command, Change, Places, changes, is_off, Header, Read, IsHeader, command_id, is_ring, ring_having, Known, RingSpot, learned, IsDriverRow, DriverKeeps, transfer_not_command, need, further, brought, goals, looks_to, EndpointsKeep, endpoints_of, transfer_ring, floors_grow, having_transfer, ring_with, is_driver_ring, Row, RingRow, FreeRow, Data, rank, put, lenient, All-head, All-tail, AreKept, IsRow, header_now, known_now, restored, restored_on, ring_restored, with_ring, without_ring, pointers_at, pointers_after, pointers_for, steps_before, steps_for, lazy_run, max, eq-eqb, cases_eq, cond-true, put_at, Ring, IsKept, header_after, known_after, begins_anew, ends_need, number_reported, known_changed_by, command_taken, lazy_steps, post_of, stopped_goals, taken_up_to, is_placed_by, is_placed_by_all, ring_placed, change_keeps, bit, no_steps, pointers_same, come_to, driver_le, of_driver, on_driver, off_driver, place_value, command_value, transfer_value, progress, total, total_le, total_most, total_twice, further_most, row_learns, NopRow, kept_coming, kept_going, inl, inr, ap, RegRead, Reg, Register, sees_halt, resets, reset, held_at_given, RingView, cond-false, is_first_halt, Halt, ◌∙◌, Bool, ◌&&◌, nat_lt, next_command, may_be_taken, shape_of, no_command_id, ceiling, command_ring, id_of, MayBegin}
 use Rattle.safety.proofs.LazyRuns.AllRead.{whole}
 use Rattle.safety.specs.LazyRuns.Needs.{is_placed}
 use Rattle.safety.proofs.LazyRuns.RingRows.{OthersStay, comes_stay, goes_stay, restored_learns, withdrawn_learns}
@@ -187,7 +187,7 @@ module _ (h g : Header) (is : IsHeader h) (k l : Known) (id : ℕ) (o : OthersSt
             omega (arith, ap (λ t. number t) (put_off pointers id (Data 0) r other), near before, still_far r other before)
       ]
 
-module _ (h : Header) (is : IsHeader h) where
+module _ (h : Header) (is : MayBegin h) where
   -- behind each row
   pub pointers_near : (past later : List Row) → All IsRow past → AreKept h past → (r : ℕ) → IsNear (header_now h past) (known_now h past) (pointers_at h past later) later r
   unfolding pointers_at pointers_for pointers_after ring_restored restored_on
@@ -372,7 +372,7 @@ module _ (h : Header) where
   driven (NopRow r p) driver_row past later quiet none before = absurd driver_row
   driven row driver_row past later quiet none before = search (rules, arith, header_now, run_length, row_few, restored, known_now, pointers_at)
 
-  module _ (is : IsHeader h) where
+  module _ (is : MayBegin h) where
     counted : (past later : List Row) → All IsRow past → AreKept h past → IsCounted past later
     unfolding reads spent pointers_at pointers_for steps_for steps_before pointers_after ring_restored restored_on lazy_run
     counted [] later are kept = omega arith
@@ -495,14 +495,14 @@ module _ (h : Header) where
   steps_same rows = length-reverse (lazy_run h (reverse rows) [])
 
   pub few_steps : FewSteps h
-  few_steps rows is are kept =
+  few_steps rows is unmoved are kept =
       let made : All IsRow (reverse rows) = (rows_of h (reverse rows) [] (subst (All IsRow) (sym (whole h rows)) are)).0 in
       omega (
         arith,
         steps_same rows,
-        counted is (reverse rows) [] made kept,
-        spent_most is (reverse rows) [] made kept,
-        ends_near is (reverse rows) made kept,
-        floors_most h is (reverse rows) made kept,
+        counted (is, unmoved) (reverse rows) [] made kept,
+        spent_most (is, unmoved) (reverse rows) [] made kept,
+        ends_near (is, unmoved) (reverse rows) made kept,
+        floors_most h (is, unmoved) (reverse rows) made kept,
         length-reverse rows,
       )

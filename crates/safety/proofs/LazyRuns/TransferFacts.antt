@@ -1,7 +1,7 @@
 -- What a Transfer Event says that breaks no rule, by its code: the spot that it names, and what the controller did there
 use Rattle.safety.proofs.MiddleLaws.{spot_named, may_have_data, named_no_service, no_service, spot_told, is_code_of_profile, has_isoch, is_of_service, ◌⊎◌, is_off, is_stopping, code_told, [], ◌≡◌, ◌<◌, ◌&&◌, ◌||◌, ◌∙◌, ℕ, not, Bool, true, false, Option, Some, None, sym, ap, ltb-true, rules, and_cases, and_parts, or_parts, or_cases, not-false, not-true, false≢true, none-some, same_Some, Block, kind, code, slot, endpoint, is_transfer_event, is_success, is_halting, is_trb_error, Spot, Data, ceiling, is_data_below, is_open, is_stop_spot, is_running, Header, Read, shape_of, Known, RingSpot, spot_on, is_in_profile, is_working, is_stopping_now, can_report, can_report_at, is_impossible_by_kind, is_impossible_transfer, lenient, event_facts, transfer_kind, chain, spot_is, arith, event_at, may_be_taken, false_from_ne_true, eqb-true, inl, inr, ◌==◌, refl}
 use Rattle.std.proofs.Common.{option_map}
-use Rattle.safety.proofs.StopRead.{StopCode}
+use Rattle.safety.proofs.Reports.StopRead.{StopCode}
 
 -- a success and an error are no stop
 

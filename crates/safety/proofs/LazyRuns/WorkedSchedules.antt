@@ -41,7 +41,7 @@ abbrev first_steps : List Step → List Step
 first_steps steps = rows 12 (Look 0 ∷ Finish slot_enabled ∷ rows 9 (Look 0 ∷ Finish device_addressed ∷ rows 6 steps))
 
 abbrev pub schedule_header : Header
-schedule_header = record { version = One; context_size = Bytes32; rings = record { id = 0; shape = record { kind = Cmd; segments = record { base = 65536; count = 16 } ∷ [] } } ∷ record { id = 1; shape = record { kind = Evt; segments = record { base = 131072; count = 16 } ∷ [] } } ∷ record { id = 2; shape = record { kind = Xfer; segments = record { base = 196608; count = 4 } ∷ [] } } ∷ [] }
+schedule_header = record { version = One; context_size = Bytes32; rings = record { id = 0; shape = record { kind = Cmd; segments = record { base = 65536; count = 16 } ∷ []; offset = 0 } } ∷ record { id = 1; shape = record { kind = Evt; segments = record { base = 131072; count = 16 } ∷ []; offset = 0 } } ∷ record { id = 2; shape = record { kind = Xfer; segments = record { base = 196608; count = 4 } ∷ []; offset = 0 } } ∷ [] }
 
 abbrev pub schedule_of_a_late_event_rows : List Row
 schedule_of_a_late_event_rows = trace_of (Bell 1 1 ∷ Sub 0 (block 0 0 16858112 ∷ []) ∷ Write 65580 16858113 ∷ Bell 0 0 ∷ Read endpoint_stopped ∷ Read transferred ∷ [])
@@ -77,7 +77,7 @@ halts_and_resets = Reg Usbcmd 0 ∷ RegRead Usbsts 1 ∷ Reg Usbcmd 2 ∷ FreeRo
 
 abbrev begins_again : List Row
 begins_again =
-    RingRow (record { id = 3; shape = record { kind = Cmd; segments = record { base = 4194304; count = 16 } ∷ [] } }) ∷ RingRow (record { id = 4; shape = record { kind = Evt; segments = record { base = 4259840; count = 16 } ∷ [] } })
+    RingRow (record { id = 3; shape = record { kind = Cmd; segments = record { base = 4194304; count = 16 } ∷ []; offset = 0 } }) ∷ RingRow (record { id = 4; shape = record { kind = Evt; segments = record { base = 4259840; count = 16 } ∷ []; offset = 0 } })
     ∷ Write 262144 4259840 ∷ Reg Erstsz 1 ∷ Reg Erstba 262144 ∷ Reg Erdp 4259840 ∷ Reg Crcr 4194305 ∷ Reg Dcbaap 327680 ∷ Reg Config 8 ∷ Reg Usbcmd 1 ∷ Sub 3 (block 0 0 9216 ∷ []) ∷ Write 4194316 9217 ∷ Bell 0 0 ∷ Read slot_enabled_again ∷ []
 
 abbrev pub schedule_of_two_runs_rows : List Row

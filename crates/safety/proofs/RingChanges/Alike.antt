@@ -1,5 +1,5 @@
 -- A run of the model and the run that the rings that live see go alike, step by step, beside rows that break no rule
-use Rattle.safety.proofs.UpperLaws.{is_inside_descriptor, ◌≡◌, ℕ, Bool, true, false, List, Option, Some, None, refl, subst, Header, Row, World, IsHeader, counted, Known, LiveScene, live_with, known_now, is_named, Scene, with_left, with_world, Left, aside, Lists, lingering}
+use Rattle.safety.proofs.UpperLaws.{is_inside_descriptor, ◌≡◌, ℕ, Bool, true, false, List, Option, Some, None, refl, subst, Header, Row, World, counted, Known, LiveScene, live_with, known_now, is_named, Scene, with_left, with_world, Left, aside, Lists, lingering, MayBegin}
 use Rattle.std.proofs.Common.{option_map}
 use Rattle.safety.proofs.RingChanges.LiveHeadline.{CameTo}
 use Rattle.world_state.specs.DriverRows as driver
@@ -21,7 +21,7 @@ pub record Lingers (l : Left) (declared : Header) (k : Known) (w : World) (r : �
   pub ended : is_inside_descriptor (l.events r) ≡ false
 
 -- a scene of the model, and what the rings that live see of it
-module _ (h : Header) (is : IsHeader h) where
+module _ (h : Header) (is : MayBegin h) where
   pub record Alike (x : LiveScene) (y : Scene) : Type 0 where
     pub past : List Row
     pub came : CameTo h is past x

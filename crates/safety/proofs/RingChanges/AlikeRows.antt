@@ -1,12 +1,12 @@
 -- Each row keeps a run of the model and what the rings that live see of it alike
-use Rattle.safety.proofs.UpperLaws.{forgotten, is_inside_descriptor, with_register, [], ◌≡◌, ◌≢◌, ◌∷◌, ◌&&◌, ◌||◌, ◌==◌, ◌∙◌, if◌then◌else◌, ℕ, not, Bool, true, false, List, Option, Some, None, is_some, refl, sym, ap, arith, inl, inr, cases_Bool, cases_eq, cond-true, cond-false, false≢true, false_from_ne_true, same_Some, or_parts, and_parts, and_from, some_of, found_in, eqb-true, eq-eqb, put, put_at, put_off, fun_ext, Block, Header, Ring, Row, Sub, Write, Reg, Bell, Read, RegRead, RingRow, FreeRow, NopRow, Register, Usbcmd, Erdp, World, IsHeader, IsRow, IsKept, ring_with, command_id, counted, without_ring, with_ring, row_done, Known, Runs, live_next, live_with, header_now, known_after, known_now, listed, may_come, Scene, row_next, with_coming, with_left, with_world, may_declare, driver_is, Left, aside, kept_coming, kept_going, kept_withdrawing, Lists, came_aside, come_again, comes_lists, goes_lists, left_behind, may_come_there, was_live, went_aside, is_named, is_done, is_asked, is_in_run, is_run, bell_facts, register_facts, restored, restored_on, ring_restored, learned, is_bad_erdp, has_stopped, is_bad_withdraw, laid, laid_here, laid_put, length_from, no_ops, split_at, without_descriptor, not-false, command_ring, event_ring, is_command_kind, is_command, Crcr, any_of, emptied, lenient, on_ring, resting, gone, resets, is_bad_crcr, is_bad_register, is_no_first_block, registered, lingering, still_listed}
+use Rattle.safety.proofs.UpperLaws.{forgotten, is_inside_descriptor, with_register, [], ◌≡◌, ◌≢◌, ◌∷◌, ◌&&◌, ◌||◌, ◌==◌, ◌∙◌, if◌then◌else◌, ℕ, not, Bool, true, false, List, Option, Some, None, is_some, refl, sym, ap, arith, inl, inr, cases_Bool, cases_eq, cond-true, cond-false, false≢true, false_from_ne_true, same_Some, or_parts, and_parts, and_from, some_of, found_in, eqb-true, eq-eqb, put, put_at, put_off, fun_ext, Block, Header, Ring, Row, Sub, Write, Reg, Bell, Read, RegRead, RingRow, FreeRow, NopRow, Register, Usbcmd, Erdp, World, IsRow, IsKept, ring_with, command_id, counted, without_ring, with_ring, row_done, Known, Runs, live_next, live_with, header_now, known_after, known_now, listed, may_come, Scene, row_next, with_coming, with_left, with_world, may_declare, driver_is, Left, aside, kept_coming, kept_going, kept_withdrawing, Lists, came_aside, come_again, comes_lists, goes_lists, left_behind, may_come_there, was_live, went_aside, is_named, is_done, is_asked, is_in_run, is_run, bell_facts, register_facts, restored, restored_on, ring_restored, learned, is_bad_erdp, has_stopped, is_bad_withdraw, laid, laid_here, laid_put, length_from, no_ops, split_at, without_descriptor, not-false, command_ring, event_ring, is_command_kind, is_command, Crcr, any_of, emptied, lenient, on_ring, resting, gone, resets, is_bad_crcr, is_bad_register, is_no_first_block, registered, lingering, still_listed, MayBegin}
 use Rattle.safety.proofs.RingChanges.Withdrawn.{stopped_with}
 use Rattle.std.proofs.Common.{option_map}
 use Rattle.safety.proofs.RingChanges.LeftOut.{is_event}
 use Rattle.safety.proofs.RingChanges.Alike.{AreAlike, Goes, IsIdle, Lingers, alike_row, whole}
 use Rattle.safety.proofs.RingChanges.LiveHeadline.{CameTo, Keeps, here, reg_kept, row_came}
 use Rattle.safety.proofs.RingChanges.RowsIdle.{halted_left, leaves, registers_left, row_idle}
-use Rattle.safety.proofs.Phases as phases
+use Rattle.safety.proofs.RunKeeps.Phases as phases
 use Rattle.safety.proofs.RingChanges.ComingGoing as kinds
 use Rattle.safety.proofs.RingChanges.RunFacts as facts
 use Rattle.safety.proofs.RingChanges.RowsAside as rows_aside
@@ -68,7 +68,7 @@ or_none o = grind arith
 not_in_run : (started halted k_started done : Bool) → started ≡ k_started → (done ≡ true → halted ≡ true) → (k_started && not done) ≡ false → (started && not halted) ≡ false
 not_in_run started halted k_started done same seen off = grind arith
 
-module _ (h : Header) (is : IsHeader h) (past : List Row) (w : World) (l : Left) (still : ℕ → Bool) (d : Header) (lists : Lists l (header_now h past) d) (rest : IsIdle l w)
+module _ (h : Header) (is : MayBegin h) (past : List Row) (w : World) (l : Left) (still : ℕ → Bool) (d : Header) (lists : Lists l (header_now h past) d) (rest : IsIdle l w)
     (lingers : (r : ℕ) → still r ≡ true → Lingers l d (known_now h past) w r) (rest_of : List Row) (p : Keeps h is past) (run : Runs (header_now h past) (known_now h past) w) where
   abbrev g : Header
   g = header_now h past
@@ -249,7 +249,7 @@ module _ (h : Header) (is : IsHeader h) (past : List Row) (w : World) (l : Left)
 
 -- ---- a row that was kept
 
-module _ (h : Header) (is : IsHeader h) (past : List Row) (w : World) (l : Left) (still : ℕ → Bool) (d : Header) (lists : Lists l (header_now h past) d) (rest : IsIdle l w)
+module _ (h : Header) (is : MayBegin h) (past : List Row) (w : World) (l : Left) (still : ℕ → Bool) (d : Header) (lists : Lists l (header_now h past) d) (rest : IsIdle l w)
     (lingers : (r : ℕ) → still r ≡ true → Lingers l d (known_now h past) w r) (rest_of : List Row) (p : Keeps h is past) (run : Runs (header_now h past) (known_now h past) w) where
   abbrev hg : Header
   hg = header_now h past

@@ -1,5 +1,5 @@
 -- Each step keeps a run of the model and what the rings that live see of it alike
-use Rattle.safety.proofs.UpperLaws.{All-head, AreKept, [], ◌≡◌, ◌≢◌, ◌∷◌, ◌∙◌, ℕ, Bool, true, List, refl, sym, ap, subst, inl, inr, false≢true, false_from_ne_true, none-some, reverse, Header, Row, Step, NextRow, World, IsHeader, IsStep, IsRow, counted, Known, Runs, LiveScene, live_next, live_step, live_with, header_now, known_now, Scene, row_next, step_made, with_world, Left, aside, Lists, lingering}
+use Rattle.safety.proofs.UpperLaws.{All-head, AreKept, [], ◌≡◌, ◌≢◌, ◌∷◌, ◌∙◌, ℕ, Bool, true, List, refl, sym, ap, subst, inl, inr, false≢true, false_from_ne_true, none-some, reverse, Header, Row, Step, NextRow, World, IsStep, IsRow, counted, Known, Runs, LiveScene, live_next, live_step, live_with, header_now, known_now, Scene, row_next, step_made, with_world, Left, aside, Lists, lingering, MayBegin}
 use Rattle.std.proofs.Common.{option_map}
 use Rattle.safety.proofs.StepRuns.{step_goes}
 use Rattle.safety.proofs.RingChanges.Alike.{Alike, AreAlike, IsIdle, Lingers, alike_step, whole}
@@ -17,7 +17,7 @@ counted_halted : (h : Header) (v : World) → (counted h v).halted ≡ v.halted
 unfolding counted
 counted_halted h v = refl
 
-module _ (h : Header) (is : IsHeader h) (past : List Row) where
+module _ (h : Header) (is : MayBegin h) (past : List Row) where
   abbrev g : Header
   g = header_now h past
 
@@ -75,7 +75,7 @@ module _ (h : Header) (is : IsHeader h) (past : List Row) where
     step_there rows s rest is_step c = control rows s is_step (λ e. cc) c
 
 -- a step that the rings that live see, and the step of the model
-pub step_alike : (h : Header) (is : IsHeader h) (x : LiveScene) (y : Scene) (s : Step) → IsStep s → Alike h is x y → AreAlike h is (live_step x s) (step_made y s)
+pub step_alike : (h : Header) (is : MayBegin h) (x : LiveScene) (y : Scene) (s : Step) → IsStep s → Alike h is x y → AreAlike h is (live_step x s) (step_made y s)
 step_alike h is x y s is_step a =
     let now : LiveScene = live_with (header_now h a.past) x.rows x.world in
     let here_now : ◌≡◌ {A = LiveScene} x now = λ j. record { header = a.came.header j; rows = x.rows; world = x.world } in

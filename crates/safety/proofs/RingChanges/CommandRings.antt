@@ -1,5 +1,5 @@
 -- A command ring that goes, or comes: what a driver keeps it keeps still
-use Rattle.safety.proofs.MiddleLaws.{gone, IsNobodys, event_id, no_id, same_register, Cmd, is_in_run, [], ◌≡◌, ◌≢◌, ◌*◌, ◌==◌, ◌&&◌, ◌||◌, ◌++◌, ◌∷◌, ◌∙◌, if◌then◌else◌, ℕ, not, Bool, true, false, List, Option, Some, None, filter, is_some, arith, refl, sym, ap, subst, inl, inr, eq-eqb, ne_eqb, ltb-true, lt-ltb, nat_lt, fun_ext, cases_eq, cases_option, false≢true, false_from_ne_true, none-some, same_Some, not-false, or_parts, or_from, and_from, and_left, and_right, put, put_at, put_off, Segment, new_ring, IsComing, forgotten, is_bad_free, is_bad_ring, is_bad_segment, is_bad_kind, goes_badly, is_in_use, with_ring, without_ring, list_any, list_all, list_any-append, clash, is_shape, may_stand_together, IsIn, Evt, Xfer, RingKeeps, is_inside, device_context_bytes, Register, Crcr, Header, Ring, IsHeader, is_command_kind, is_event_kind, is_transfer_kind, ring_with, shape_of, shape_or, command_ring, command_id, event_ring, event_shape, event_size, place_count, id_or_none, touches_ring, touches, Known, entry_of, next_command, ceiling, given_count, unwrap_or, may_be_taken, is_done, is_named, IsDriverRing, IsTransferRing, DriverKeeps, covers, open_ranges, overlap, rings_overlap, found_in, header_parts, shape_is, ring_untouched, device_free, entry_free, each_good, block_shows, words_clean, touches_none, segment_some, all_more, together_more, none_found, overlaps_none, none_has_256, all_kept, found_kept, none_kept, together_kept, found_before, found_new, found_still, view_keeps, new_is_nobodys, AnotherRing, another_ring_kept, unnamed}
+use Rattle.safety.proofs.MiddleLaws.{gone, IsNobodys, event_id, no_id, same_register, Cmd, is_in_run, [], ◌≡◌, ◌≢◌, ◌*◌, ◌==◌, ◌&&◌, ◌||◌, ◌++◌, ◌∷◌, ◌∙◌, if◌then◌else◌, ℕ, not, Bool, true, false, List, Option, Some, None, filter, is_some, arith, refl, sym, ap, subst, inl, inr, eq-eqb, ne_eqb, ltb-true, lt-ltb, nat_lt, fun_ext, cases_eq, cases_option, false≢true, false_from_ne_true, none-some, same_Some, not-false, or_parts, or_from, and_from, and_left, and_right, put, put_at, put_off, Segment, new_ring, IsComing, forgotten, is_bad_free, is_bad_ring, is_bad_segment, is_bad_kind, goes_badly, is_in_use, with_ring, without_ring, list_any, list_all, list_any-append, clash, is_shape, may_stand_together, IsIn, Evt, Xfer, RingKeeps, is_inside, device_context_bytes, Register, Crcr, Header, Ring, IsHeader, is_command_kind, is_event_kind, is_transfer_kind, ring_with, shape_of, shape_or, command_ring, command_id, event_ring, event_shape, event_size, place_count, id_or_none, touches_ring, touches, Known, entry_of, next_command, ceiling, given_count, unwrap_or, may_be_taken, is_done, is_named, IsDriverRing, IsTransferRing, DriverKeeps, covers, open_ranges, overlap, rings_overlap, found_in, header_parts, shape_is, ring_untouched, device_free, entry_free, each_good, block_shows, words_clean, touches_none, segment_some, all_more, together_more, none_found, overlaps_none, none_has_256, all_kept, found_kept, none_kept, together_kept, found_before, found_new, found_still, view_keeps, new_is_nobodys, AnotherRing, another_ring_kept, unnamed, nobodys_unmoved, Shape}
 use Rattle.safety.proofs.RingChanges.LeftOut as left
 
 -- of a ring of which nothing is known nothing can have been taken
@@ -114,6 +114,7 @@ module _ (h : Header) (is : IsHeader h) (k : Known) (d : DriverKeeps h k) (id : 
     had = λ s i x at. transfer_still x (d.states.transfer s i x at);
     some = some_id;
     fresh = subst IsNobodys (sym (put_off k.ring id new_ring (command_id g) (λ same. some_id (sym same ∙ command_now)))) (d.nobody (command_id g) command_now);
+    unmoved = ap (λ n. (shape_of g n).offset) command_now ∙ ap (λ (shape : Shape). shape.offset) (shape_same no_id (λ same. some_id (sym same))) ∙ nobodys_unmoved h is;
     keeps = λ s ring.
         let other = not_there s ring.ring ring.found in
         subst (λ v. RingKeeps (shape_of g s) k.memory v) (sym (put_off k.ring id new_ring s other)) (subst (λ x. RingKeeps x k.memory (k.ring s)) (sym (shape_same s other)) (d.rings s (driver_before s ring)));
@@ -245,6 +246,7 @@ module _ (h : Header) (is : IsHeader h) (k : Known) (d : DriverKeeps h k) (r : R
     had = λ s i x at. still_transfer x (d.states.transfer s i x at);
     some = λ same. omega (arith, same, coming.low);
     fresh = subst IsNobodys (sym (ap (put k.ring r.id new_ring) command_is ∙ put_at k.ring r.id new_ring)) new_is_nobodys;
+    unmoved = ap (λ n. (shape_of f n).offset) command_is ∙ ap (λ (shape : Shape). shape.offset) shape_here ∙ coming.unmoved;
     keeps = λ s ring. elim (cases_eq s r.id) [
       | inl here ↦ subst (λ n. RingKeeps (shape_of f n) k.memory (put k.ring r.id new_ring n)) (sym here)
           (subst (λ v. RingKeeps (shape_of f r.id) k.memory v) (sym (put_at k.ring r.id new_ring))

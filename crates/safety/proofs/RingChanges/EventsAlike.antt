@@ -1,6 +1,6 @@
 -- An event says the same where other rings are there, so long as those that endpoints have and commands bind are as they were
-use Rattle.safety.proofs.LowerLaws.{spot_named, ◌&&◌, code, code_told, has_isoch, counted_code, is_of_service, typed, [], ◌≡◌, if◌then◌else◌, ◌∷◌, ◌∙◌, ℕ, Bool, true, false, List, Option, Some, None, refl, ap, rules, put, put_pair, cond_both, none-some, same_Some, option_map, Block, slot, endpoint, is_success, is_halting, is_trb_error, is_stopping, Spot, number, after, RingView, RingChange, Reaches, Holds, changed, ceiling, target, Command, Stopped, is_off, Change, Places, Stops, Config, Register, Header, Ring, shape_of, command_id, event_shape, event_size, ring_having, Known, RingSpot, on_ring, spot_on, event_at, passed, broken_off, stopped_at, transferred, transferred_at, transfer_read, set_to, bound_to, moved_to, moved, may_be_taken, pointed, disabled, in_state, held_at_ceiling, changed_by, changed_by_all, arith, named_by}
-use Rattle.safety.proofs.Endpoints.{moved_rings, held_rings}
+use Rattle.safety.proofs.Words.{spot_named, ◌&&◌, code, code_told, has_isoch, counted_code, is_of_service, typed, [], ◌≡◌, if◌then◌else◌, ◌∷◌, ◌∙◌, ℕ, Bool, true, false, List, Option, Some, None, refl, ap, rules, put, put_pair, cond_both, none-some, same_Some, option_map, Block, slot, endpoint, is_success, is_halting, is_trb_error, is_stopping, Spot, number, after, RingView, RingChange, Reaches, Holds, changed, ceiling, target, Command, Stopped, is_off, Change, Places, Stops, Config, Register, Header, Ring, shape_of, command_id, event_shape, event_size, ring_having, Known, RingSpot, on_ring, spot_on, event_at, passed, broken_off, stopped_at, transferred, transferred_at, transfer_read, set_to, bound_to, moved_to, moved, may_be_taken, pointed, disabled, in_state, held_at_ceiling, changed_by, changed_by_all, arith, named_by}
+use Rattle.safety.proofs.StatesKeep.Endpoints.{moved_rings, held_rings}
 
 module _ (h : Header) (rings : List Ring) (over : (ℕ → RingView) → ℕ → RingView) (registers : (Register → Option ℕ) → Register → Option ℕ) (Kept : ℕ → Type 0) where
   abbrev g : Header

@@ -8,7 +8,7 @@ no_rings = record { version = Three; context_size = Bytes32; rings = [] }
 
 -- a transfer ring of 4 blocks
 abbrev ring_at : ℕ → ℕ → Ring
-ring_at id base = record { id = id; shape = record { kind = Xfer; segments = record { base = base; count = 4 } ∷ [] } }
+ring_at id base = record { id = id; shape = record { kind = Xfer; segments = record { base = base; count = 4 } ∷ []; offset = 0 } }
 
 may_come : is_bad_ring (header_now no_rings []) (known_now no_rings []) (ring_at 2 0x30000) ≡ false
 unfolding rules_on_literals is_bad_ring is_bad_segment shows_first_lap
@@ -50,7 +50,7 @@ abbrev one_ring : Header
 one_ring = record {
   version = Three;
   context_size = Bytes32;
-  rings = record { id = 2; shape = record { kind = Xfer; segments = record { base = 0x30000; count = 4 } ∷ [] } } ∷ [];
+  rings = record { id = 2; shape = record { kind = Xfer; segments = record { base = 0x30000; count = 4 } ∷ []; offset = 0 } } ∷ [];
 }
 
 -- a descriptor of two blocks was declared and given, and the ring is held at its first block

@@ -1,6 +1,6 @@
 -- The headline: behind each step of each run beside rows that break no rule the world is safe, also for rings that went.
 -- The run is that which the rings that live see, with what is left of the others put back
-use Rattle.safety.proofs.UpperLaws.{[], ◌≡◌, ◌∷◌, ◌&&◌, ◌∙◌, ℕ, Bool, true, false, List, Option, Some, None, refl, sym, ap, subst, inl, inr, cond-true, false≢true, false_from_ne_true, none-some, same_Some, All, All-head, All-tail, reverse, IsIn, Header, Ring, Step, Row, World, IsHeader, IsStep, IsSafe, shape_of, harm_of, harms, waits, has_changed_context, is_changed_since, is_context_changed, option_and_then, AreKept, IsRow, Headline, LiveScene, live_reached, live_step, and_left, ◌-◌, ◌==◌, find, nat_le, nat_lt, list_any, some_of, found_in, safe_from, Left, aside, laid_here, Lists, all_live, fails_there, none_gone, shape_same, place_count, Shape, Scene, scene_reached, step_made, Harm, TakenOutOfOrder, TakenOtherWords, WaitsInsideDescriptor, LooksOutside, PostsOverUnread, InputContextChanged, RingEvent, has_other_words, is_inside_descriptor, is_out_of_order, cases_Bool, cases_option, and_right, or_from, or_parts, ◌||◌, ◌<◌, not, Known, header_now, known_now, live_with, arith, zero, suc, rules, append-nil, opens, event_ring, event_size, event_shape, lingering, none_lingers, events_are, Evt, shape_or, block_at, cycle, opening}
+use Rattle.safety.proofs.UpperLaws.{[], ◌≡◌, ◌∷◌, ◌&&◌, ◌∙◌, ℕ, Bool, true, false, List, Option, Some, None, refl, sym, ap, subst, inl, inr, cond-true, false≢true, false_from_ne_true, none-some, same_Some, All, All-head, All-tail, reverse, IsIn, Header, Ring, Step, Row, World, IsStep, IsSafe, shape_of, harm_of, harms, waits, has_changed_context, is_changed_since, is_context_changed, option_and_then, AreKept, IsRow, Headline, LiveScene, live_reached, live_step, and_left, ◌-◌, ◌==◌, find, nat_le, nat_lt, list_any, some_of, found_in, safe_from, Left, aside, laid_here, Lists, all_live, fails_there, none_gone, shape_same, place_count, Shape, Scene, scene_reached, step_made, Harm, TakenOutOfOrder, TakenOtherWords, WaitsInsideDescriptor, LooksOutside, PostsOverUnread, InputContextChanged, RingEvent, has_other_words, is_inside_descriptor, is_out_of_order, cases_Bool, cases_option, and_right, or_from, or_parts, ◌||◌, ◌<◌, not, Known, header_now, known_now, live_with, arith, zero, suc, rules, append-nil, opens, event_ring, event_size, event_shape, lingering, none_lingers, events_are, Evt, shape_or, block_at, cycle, opening, MayBegin}
 use Rattle.std.proofs.Common.{option_map}
 use Rattle.safety.proofs.RingChanges.LiveHeadline.{CameTo, safe_there}
 use Rattle.traces.specs.Header.{some_ring}
@@ -113,7 +113,7 @@ module _ (l : Left) (still : ℕ → Bool) (g d : Header) (lists : Lists l g d) 
 
 -- ---- whole runs
 
-module _ (h : Header) (is : IsHeader h) where
+module _ (h : Header) (is : MayBegin h) where
   from_both : (o : Option LiveScene) (u : Option Scene) (f : LiveScene → Option LiveScene) (f' : Scene → Option Scene) → AreAlike h is o u →
       ((x : LiveScene) (y : Scene) → Alike h is x y → AreAlike h is (f x) (f' y)) → AreAlike h is (option_and_then f o) (option_and_then f' u)
   from_both None None f f' alike each = tt
@@ -134,7 +134,7 @@ module _ (h : Header) (is : IsHeader h) where
     declared = h;
     still = λ r. false;
     same = λ j. record { header = h; live = h; rows = rows; world = sym (none_lingers (λ r. false) opening (λ r. refl)) j };
-    lists = all_live h is;
+    lists = all_live h is.0;
     idle = λ r went. absurd (false≢true went);
     lingers = λ r is_still. absurd (false≢true is_still);
   }
@@ -164,4 +164,4 @@ module _ (h : Header) (is : IsHeader h) where
   rings_safe rows are kept made y all at = seen_safe rows (live_reached h rows made) (scene_reached h rows made) (reached_alike rows are kept made all) y at
 
 pub headline : (h : Header) → Headline h
-headline h rows is are kept made y all at = rings_safe h is rows are kept made y all at
+headline h rows is unmoved are kept made y all at = rings_safe h (is, unmoved) rows are kept made y all at

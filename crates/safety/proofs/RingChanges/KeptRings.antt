@@ -1,6 +1,6 @@
 -- What a ring that comes or goes, or a descriptor that is withdrawn, keeps where it breaks no rule
 use Rattle.safety.proofs.Words.{NopRow, ◌≡◌, ℕ, false, Header, Known, Ring, RingRow, FreeRow, IsKept, is_bad_free, is_bad_ring, is_bad_withdraw, lenient_tests, restored_on, ring_restored}
-use Rattle.safety.proofs.TestsPassed.{clean_tests, tests_fail}
+use Rattle.safety.proofs.RingsKeep.TestsPassed.{clean_tests, tests_fail}
 
 module _ (h : Header) (k : Known) where
   pub kept_coming : (ring : Ring) → IsKept h k (RingRow ring) → (k.stopped ≡ false) × (is_bad_ring h k ring ≡ false)

@@ -1,6 +1,6 @@
 -- Lists of rings that may stand together, with one more and with some left out
 use Rattle.safety.proofs.Words.{rules, [], ◌≡◌, ◌*◌, ◌<◌, ◌||◌, ◌++◌, ◌∷◌, ◌∙◌, not, Bool, true, false, List, Some, None, find, filter, nat_lt, arith, refl, sym, ap, inl, inr, lt-ltb, Segment, rings_overlap, segments_overlap, cases_Bool, list_all, list_any, list_any-append, and_from, and_parts, or_from, cond-true, cond-false, false≢true, false_from_ne_true, none-some, not_from_false, not-true, any_of, some_of, from_filter, IsIn, Shape, Ring, clash, may_stand_together, overlap, touches, same_Some}
-use Rattle.safety.proofs.AreaFacts.{overlap_turned}
+use Rattle.safety.proofs.DevicesKeep.AreaFacts.{overlap_turned}
 
 pub all_more : (p : Ring → Bool) (rs : List Ring) (r : Ring) → list_all p rs ≡ true → p r ≡ true → list_all p (rs ++ r ∷ []) ≡ true
 all_more p [] r all one = and_from (p r) true one refl

@@ -1,5 +1,5 @@
 -- Behind each step of each run, as the rings that live see it, beside rows that break no rule the world is safe for them
-use Rattle.safety.proofs.UpperLaws.{[], ◌≡◌, ◌∷◌, ◌++◌, ◌∙◌, false, List, Some, All, reverse, refl, sym, ap, subst, inl, inr, append_assoc, append-nil, rules, opening, Row, AreKept, IsKept, IsRow, LiveScene, header_after, header_now, known_after, known_now, live_row, live_next, live_reached, live_step, restored, ring_restored, false≢true, reverse-append, All-cons, All-head, All-tail, none-some, same_Some, Header, Step, NextRow, IsHeader, IsStep, World, IsSafe, Known, DriverKeeps, Runs, nothing_kept, mapped, some_then, opens, safe, clean_tests, RingRow, FreeRow, NopRow, kept_coming, kept_going, kept_withdrawing, Reg, Register, ℕ, cases_Bool, cond-true, cond-false, lenient, learned, with_ring, without_ring, forgotten, resting, register_facts, if◌then◌else◌, restored_on, MayCome, live_with, no_reset, plain_done, reset, resets, gone, is_bad_register}
+use Rattle.safety.proofs.UpperLaws.{[], ◌≡◌, ◌∷◌, ◌++◌, ◌∙◌, false, List, Some, All, reverse, refl, sym, ap, subst, inl, inr, append_assoc, append-nil, rules, opening, Row, AreKept, IsKept, IsRow, LiveScene, header_after, header_now, known_after, known_now, live_row, live_next, live_reached, live_step, restored, ring_restored, false≢true, reverse-append, All-cons, All-head, All-tail, none-some, same_Some, Header, Step, NextRow, IsHeader, IsStep, World, IsSafe, Known, DriverKeeps, Runs, nothing_kept, mapped, some_then, opens, safe, clean_tests, RingRow, FreeRow, NopRow, kept_coming, kept_going, kept_withdrawing, Reg, Register, ℕ, cases_Bool, cond-true, cond-false, lenient, learned, with_ring, without_ring, forgotten, resting, register_facts, if◌then◌else◌, restored_on, MayCome, live_with, no_reset, plain_done, reset, resets, gone, is_bad_register, MayBegin}
 use Rattle.std.proofs.Common.{option_map}
 use Rattle.safety.specs.Invariant.{Holds}
 use Rattle.safety.proofs.DriverHistories.{kept_driver, run_keeps}
@@ -7,7 +7,7 @@ use Rattle.safety.proofs.StepRuns.{row_holds, step_goes, runs_on}
 use Rattle.safety.proofs.RingChanges.Restored.{row_comes, row_keeps, row_runs as restored_row_runs, stopped_still}
 use Rattle.safety.proofs.RingChanges.Withdrawn.{withdraw_keeps, withdraw_runs}
 use Rattle.safety.proofs.RingChanges.ComingGoing.{coming_header, coming_keeps, coming_runs, going_header, going_keeps, going_runs}
-use Rattle.safety.proofs.Resets.{reset_keeps, reset_runs}
+use Rattle.safety.proofs.ResetRuns.Resets.{reset_keeps, reset_runs}
 use Rattle.world_state.specs.DriverRows as driver
 use Rattle.world_state.specs.Steps as steps
 
@@ -59,14 +59,14 @@ pub later_kept : (h : Header) (xs ys : List Row) → AreKept h (xs ++ ys) → Ar
 later_kept h [] ys kept = kept
 later_kept h (x ∷ xs) ys kept = later_kept h xs ys kept.0
 
-module _ (h : Header) (is : IsHeader h) where
+module _ (h : Header) (is : MayBegin h) where
   -- what holds behind rows that break no rule
   pub record Keeps (past : List Row) : Type 0 where
     pub headed : IsHeader (header_now h past)
     pub keeps : DriverKeeps (header_now h past) (known_now h past)
 
   pub now_keeps : (past : List Row) → All IsRow past → AreKept h past → (known_now h past).stopped ≡ false → Keeps past
-  now_keeps [] are kept on = record { headed = is; keeps = nothing_kept h is }
+  now_keeps [] are kept on = record { headed = is.0; keeps = nothing_kept h is }
   now_keeps (NopRow r q ∷ past) are kept on =
       let good = kept_withdrawing (header_now h past) (known_now h past) r q kept.1 in
       let p = now_keeps past (All-tail IsRow (NopRow r q) past are) kept.0 good.0 in

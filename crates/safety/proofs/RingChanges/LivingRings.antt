@@ -1,6 +1,6 @@
 -- The rings that were declared, and those of them that live: what a ring that comes or goes makes of both
 use Rattle.safety.proofs.MiddleLaws.{any_of, Evt, Xfer, arith, [], ◌≡◌, ◌≢◌, ◌⊎◌, ◌∷◌, ◌++◌, ◌||◌, ◌==◌, ◌∙◌, ℕ, not, Bool, true, false, List, Some, None, find, filter, refl, sym, ap, subst, inl, inr, eq-eqb, eqb-true, ne_eqb, cases_Bool, cases_eq, cond-true, cond-false, false≢true, none-some, same_Some, put, IsIn, Header, Ring, World, IsHeader, ring_with, shape_of, command_id, event_shape, emptied, with_ring, without_ring, ◌&&◌, if◌then◌else◌, fun_ext, and_parts, clash, from_filter, is_command_kind, is_event_kind, is_transfer_kind, list_any, list_any-append, may_stand_together, not-true, not_from_false, or_from, or_parts, shape_or, put_at, put_off, header_parts, other_ids, Left, aside, laid, none_found, command_ring, event_ring, id_or_none, is_in_way, listed, may_come, RingEvent, has_other_words, is_out_of_order, cases_option, found_in, RingKind, or_left, or_right, in_filter, found_before, found_new, find_kept, found_kept, is_command, no_id}
-use Rattle.safety.proofs.LeasesBehind.{from_both}
+use Rattle.safety.proofs.Behind.LeasesBehind.{from_both}
 use Rattle.safety.proofs.RingChanges.LeftOut.{is_event}
 use Rattle.safety.proofs.RingChanges.LeftOut as left
 

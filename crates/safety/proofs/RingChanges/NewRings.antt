@@ -1,6 +1,6 @@
 -- A ring that comes: what a driver keeps it keeps still
 use Rattle.safety.proofs.LowerLaws.{[], ◌≡◌, ◌≢◌, ◌+◌, ◌-◌, ◌*◌, ◌%◌, ◌<◌, ◌==◌, ◌&&◌, ◌++◌, ◌∷◌, ◌∙◌, ℕ, Bool, true, false, List, Some, None, find, get_or, is_some, arith, refl, sym, ap, subst, inl, inr, eq-eqb, ne_eqb, add-zero, lt-ltb, nat_lt, rules, option_or, find-append, Segment, new_ring, link_address_is, crossed_link, crosses, link_aligned, crossing_due_is, new_ring_keeps, rings_overlap, IsComing, with_ring, is_bad_ring, is_bad_segment, list_all, and_from, and_right, clash, is_shape, may_stand_together, Block, World, FreeRing, state_of, Agrees, Data, Evt, Shape, list_any, list_any-append, cases_eq, cases_option, cond-true, cond-false, false≢true, none-some, or_parts, or_from, is_inside, place_count, address_of, cycle_of, link_address, RingKeeps, address_inside, link_address_inside, address_aligned, cycle_of-first, due_is, Xfer, device_context_bytes, input_context_bytes, Header, Ring, IsHeader, is_command_kind, is_event_kind, ring_with, shape_of, shape_or, command_ring, command_id, event_ring, event_shape, event_size, ring_having, id_of, id_or_none, touches_ring, Known, entry_of, Binding, binds, ring_bound, covers, open_ranges, overlap, IsIn, IsDriverRing, IsTransferRing, DriverKeeps, touches, context_lies, ring_untouched, transfer_ring, command_named, header_parts, shape_is, having_transfer, ◌||◌, is_bad_kind, command_with}
-use Rattle.safety.proofs.AreaFacts.{context_free, device_free, entry_free}
+use Rattle.safety.proofs.DevicesKeep.AreaFacts.{context_free, device_free, entry_free}
 use Rattle.safety.proofs.RingChanges.OtherRings.{free_new, other_worlds_agree, OtherRings, IsAsBefore, BindsAsBefore, other_rings_keep}
 use Rattle.safety.proofs.RingChanges.Segments.{block_shows, each_good, segment_some, touches_none, words_clean}
 use Rattle.safety.proofs.RingChanges.ListedRings.{all_more, none_found, overlaps_none, together_more}
@@ -26,7 +26,7 @@ pub view_keeps : (k : Known) (r : Ring) → IsComing r → ((a : ℕ) → a % 16
 view_keeps k r coming shows =
     let shape = r.shape in
     let is = coming.shape in
-    let empty : RingKeeps shape (λ a. 0) new_ring = new_ring_keeps shape is (λ a. 0) (λ a. refl) in
+    let empty : RingKeeps shape (λ a. 0) new_ring = new_ring_keeps shape is coming.unmoved (λ a. 0) (λ a. refl) in
     record {
       is_spot = empty.is_spot;
       room = empty.room;
@@ -40,7 +40,7 @@ view_keeps k r coming shows =
       not_yet = λ p due g.
           let is_due = due_is shape (Data 0) p due in
           other_than_one (k.memory (address_of shape p + 12)) (cycle_of shape p) (shows (address_of shape p) (address_aligned shape is p) (inside_at shape (address_of shape p) (λ b low. address_inside shape is p b low)))
-          (cycle_of-first shape p (omega arith));
+          (cycle_of-first shape coming.unmoved p (omega arith));
       kept_link = λ q i due g at. absurd (false≢true g);
       not_yet_link = λ q due g.
           let is_due = crossing_due_is shape (Data 0) q due in
@@ -49,7 +49,7 @@ view_keeps k r coming shows =
           let link = (crosses shape q found.0 found.1).link in
           other_than_one (k.memory (link_address shape q + 12)) (cycle_of shape (q - 1))
           (shows (link_address shape q) (omega (arith, at, link_aligned shape is found.0 link)) (inside_at shape (link_address shape q) (λ b low. link_address_inside shape is q b is_due.crossing low)))
-          (cycle_of-first shape (q - 1) (omega arith));
+          (cycle_of-first shape coming.unmoved (q - 1) (omega arith));
       free_given = empty.free_given;
       free_shows = λ p low high free. absurd (false≢true free);
       open_restored = empty.open_restored;

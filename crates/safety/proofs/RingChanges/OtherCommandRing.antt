@@ -41,6 +41,7 @@ module _ (h : Header) (rings : List Ring) (k : Known) (id : ℕ) where
     pub some : id ≢ no_id
     -- of the command ring that is there now nothing is known
     pub fresh : IsNobodys (views (command_id g))
+    pub unmoved : (shape_of g (command_id g)).offset ≡ 0
     pub keeps : (r : ℕ) → IsDriverRing g r → RingKeeps (shape_of g r) k.memory (views r)
     pub clean : (r a : ℕ) → IsDriverRing g r → a % 4 ≡ 0 → is_inside (shape_of g r) a ≡ true → k.soiled a ≡ false
     pub devices : (s d : ℕ) → k.device s ≡ Some d → (touches_ring g d (device_context_bytes h.context_size) ≡ false) × (touches_ring g (entry_of k s) 8 ≡ false)
@@ -84,7 +85,7 @@ module _ (h : Header) (rings : List Ring) (k : Known) (id : ℕ) where
     command_keeps = record {
       commands = λ p b at. absurd (none-some b (sym (none_there (views (command_id g)).queue p o.fresh.queue) ∙ at));
       alone = subst (λ n. All (λ n. n ≡ 1) n) (sym o.fresh.lengths) (All-nil (λ n. n ≡ 1));
-      held = inr (o.fresh.held, o.fresh.floor);
+      held = inr (o.fresh.held, o.fresh.floor, o.unmoved);
     }
 
     device_keeps : (s e : ℕ) → DeviceKeeps h k s e → k.device s ≡ Some e → DeviceKeeps g l s e

@@ -1,6 +1,6 @@
 -- Another event ring, or none, in place of the one that was there, before the controller is started: what a driver keeps it keeps still, and the
 -- world agrees with what is known still
-use Rattle.safety.proofs.LowerLaws.{IsNobodys, no_id, [], Block, ◌≡◌, ◌≢◌, ◌+◌, ◌%◌, ◌<◌, ◌∙◌, ℕ, not, Bool, true, false, List, All, All-nil, Option, Some, None, slice_get, refl, sym, ap, subst, inl, inr, rules, arith, cases_eq, false≢true, or_parts, none-some, option_and_then, put, put_at, put_off, RingView, Spot, new_ring, RingKeeps, IsRestored, is_inside, address_of, Erstsz, Header, Ring, shape_of, command_id, Known, Command, command_at, next_command, floor_number, suc, zero, named_slot, named_endpoint, named_context, NoOp, EnableSlot, binds, binds_ring, ring_bound, is_placed, has_repeats, is_bad_move, adds_streams, has_bad_content, names_disabled_endpoint, Data, ◌⊎◌, is_some, names_disabled_slot, is_disabled, is_bad_command, has_bad_context, is_used, is_value, IsDriverRing, IsUnfinished, CommandKeeps, MovesIf, StaysIf, map, list_any, is_ring, CommandRingKeeps, StatesKeep, RunKeeps, DriverKeeps, was_stop_seen, World, UnderWay, emptied, state_of, next_take, RingMatches, FreeRing, EndpointRing, UnderWayMatches, IsUnchanged, Rests, Matches, Stands, EventsStand, touches_events, Agrees, resting}
+use Rattle.safety.proofs.LowerLaws.{IsNobodys, no_id, [], Block, ◌≡◌, ◌≢◌, ◌+◌, ◌%◌, ◌<◌, ◌∙◌, ℕ, not, Bool, true, false, List, All, All-nil, Option, Some, None, slice_get, refl, sym, ap, subst, inl, inr, rules, arith, cases_eq, false≢true, or_parts, none-some, option_and_then, put, put_at, put_off, RingView, Spot, new_ring, RingKeeps, IsRestored, is_inside, address_of, Erstsz, Header, Ring, shape_of, command_id, Known, Command, command_at, next_command, floor_number, suc, zero, named_slot, named_endpoint, named_context, NoOp, EnableSlot, binds, binds_ring, ring_bound, is_placed, has_repeats, is_bad_move, adds_streams, has_bad_content, names_disabled_endpoint, Data, ◌⊎◌, is_some, names_disabled_slot, is_disabled, is_bad_command, has_bad_context, is_used, is_value, IsDriverRing, IsUnfinished, CommandKeeps, MovesIf, StaysIf, map, list_any, is_ring, CommandRingKeeps, StatesKeep, RunKeeps, DriverKeeps, was_stop_seen, World, UnderWay, emptied, state_of, next_take, RingMatches, FreeRing, EndpointRing, UnderWayMatches, IsUnchanged, Rests, Matches, Stands, EventsStand, touches_events, Agrees, resting, Shape}
 use Rattle.safety.proofs.RingChanges.OtherRings.{free_new, new_is_nobodys}
 
 -- commands that name no slot
@@ -87,7 +87,8 @@ module _ (h : Header) (rings : List Ring) (k : Known) (id : ℕ) (soiled : ℕ �
     command_keeps = record {
       commands = λ p b at. d.command_ring.commands p b (ap (λ (v : RingView). slice_get v.queue p) (sym command_view) ∙ at);
       alone = subst (λ (v : RingView). All (λ n. n ≡ 1) v.lengths) (sym command_view) d.command_ring.alone;
-      held = subst (λ (v : RingView). (v.held ≡ None) ⊎ ((v.held ≡ Some 0) × (v.floor ≡ Data 0))) (sym command_view) d.command_ring.held;
+      held = subst (λ (v : RingView). (v.held ≡ None) ⊎ ((v.held ≡ Some 0) × (v.floor ≡ Data 0) × ((shape_of g (command_id g)).offset ≡ 0))) (sym command_view)
+          (subst (λ (shape : Shape). ((k.ring (command_id h)).held ≡ None) ⊎ (((k.ring (command_id h)).held ≡ Some 0) × ((k.ring (command_id h)).floor ≡ Data 0) × (shape.offset ≡ 0))) (sym command_shape) d.command_ring.held);
     }
 
     used_same : is_used g l ≡ is_used h k
@@ -219,7 +220,7 @@ module _ (h : Header) (rings : List Ring) (k : Known) (id : ℕ) (soiled : ℕ �
       next_same = ap (λ (y : RingView). floor_number y) command_view
 
       under_way_still : (t : Spot) (u : Option UnderWay) → UnderWayMatches h k t u → UnderWayMatches g l t u
-      unfolding next_command command_at
+      unfolding next_command command_at shape_of
       under_way_still t None m = (m.0 ∙ sym next_same, m.1)
       under_way_still t (Some u) m = (m.0 ∙ ap (λ n. n + 1) (sym next_same), search (rules, g, l, slice_get, option_and_then, stop_seen_same))
 

@@ -1,9 +1,9 @@
 -- A descriptor that is withdrawn, or a ring that is restored: what a driver keeps stays, events stay possible, and the world still agrees
 use Rattle.safety.proofs.MiddleLaws.{KeepsValues, names_still, slot, endpoint, pointer, ◌≡◌, ◌≤◌, ℕ, true, arith, refl, sym, ap, rules, Withdraws, Restores, length-no_ops, split_border, number, Shape, RingView, RingChange, changed, declared, floor_number, ceiling, is_border, is_placement, move_more, GivesMore, [], ◌≢◌, ◌<◌, ◌∙◌, option_and_then, slice_get, subst, ltb-true, Block, command_of, Header, Read, IsHeader, shape_of, command_id, Known, on_ring, command_at, next_command, learned, may_be_taken, lenient, DriverKeeps, IsHeldMore, HeldMore, nat_lt, RingKeeps, IsRestored, is_stop_of, Command, device_named, entry_of, is_stopping_now, is_soiled, MovesRestored, IsDriverRing, IsUnfinished, DeviceKeeps, List, Option, length_from, no_ops, split_at, without_descriptor, put, address_of, named_context, World, IsUnchanged, Matches, Agrees, RingAlike, ceiling_more, held_same, Standing, PlacesStay, MovesAhead, RingGoesOn, SameGiven, transfer_driver, event_facts, ring_elsewhere, SameDriver, both_drivers, view_after, Alike, named_still, SameStates, RingsStay, same_stay, put_at, put_off, SameController, matches_go_on, same_controller, unfinished_view, is_used, is_value, not, IsNobodys, is_in, ◌&&◌, ◌||◌, false, and_right}
-use Rattle.safety.proofs.KeptRings.{next_unfinished, command_holds}
-use Rattle.safety.proofs.AlikeEvents.{EventAlike, ReadAlike, read_alike}
-use Rattle.safety.proofs.PlacedTargets.{placed_targets}
-use Rattle.safety.proofs.HeldFurther.{states_from, EverySlot, held_more, counted, read_same, flip_driver}
+use Rattle.safety.proofs.RingsKeep.KeptRings.{next_unfinished, command_holds}
+use Rattle.safety.proofs.AlikeEvents.AlikeEvents.{EventAlike, ReadAlike, read_alike}
+use Rattle.safety.proofs.Targets.PlacedTargets.{placed_targets}
+use Rattle.safety.proofs.AlikeEvents.HeldFurther.{states_from, EverySlot, held_more, counted, read_same, flip_driver}
 use Rattle.world_state.specs.World as of_world
 use Rattle.segments.specs.Descriptors as descriptors
 

@@ -1,6 +1,6 @@
 -- What is read is possible, and learned, as it was where other rings are there
 use Rattle.safety.proofs.MiddleLaws.{told_over, is_code_of_profile, code_told, is_stopping, [], ◌≡◌, ◌+◌, ◌==◌, ◌&&◌, ◌||◌, if◌then◌else◌, ◌∷◌, ◌∙◌, ℕ, not, Bool, true, false, List, map, All, Option, Some, None, nat_lt, option_and_then, slice_get, refl, sym, ap, subst, rules, or_parts, false≢true, cond-true, All-head, All-tail, Block, BlockKind, TransferEvent, CommandCompletion, kind, code, slot, endpoint, pointer, is_success, is_halting, is_trb_error, is_command_completion, Spot, after, floor_number, address_of, RingView, Reaches, ceiling, is_data_below, is_open, is_stop_spot, Command, NoOp, DisableSlot, AddressDevice, ConfigureEndpoint, EvaluateContext, SetTrDequeue, ResetDevice, command_of, is_stop_of, is_off, is_running, may_answer_slot, can_succeed, register_or_zero, placed_by_context, changes, added_endpoints, Header, Read, IsHeader, Ring, shape_of, command_id, Known, RingSpot, on_ring, event_at, command_at, next_command, succeeded, stop_ended, finished, completed, event_read, learned, Binding, binding_in, binds, can_finish, may_be_taken, is_stopping_now, is_working, can_report, can_report_at, is_in_profile, is_impossible_transfer, is_impossible_completion, is_impossible_by_kind, is_past_room, is_impossible, event_tests, lenient_tests, lenient, changed_by, is_bad_command, names_disabled_endpoint, IsUnfinished, DriverKeeps, arith, EventFacts, event_facts, transfer_slots, ChangesAlike, HasKept, HavesAlike, changes_alike, event_at_alike, event_kept, on_alike, other, transfer_alike, KeepsRings, ◌<◌, lt-ltb, cases_Bool, inl, inr, Config, Register, unwrap_or, was_stop_seen, NextAlike}
-use Rattle.safety.proofs.KeptRings.{completion_facts, next_unfinished}
+use Rattle.safety.proofs.RingsKeep.KeptRings.{completion_facts, next_unfinished}
 
 -- where no command may have been taken, none is completed
 untaken : (h : Header) (k : Known) (b : Block) → may_be_taken h k ≡ false → is_impossible_completion h k b ≡ true

@@ -1,6 +1,6 @@
 -- What is said of each segment of a ring holds of each of its blocks and words
 use Rattle.safety.proofs.LowerLaws.{◌≡◌, ◌+◌, ◌-◌, ◌*◌, ◌/◌, ◌%◌, ◌<◌, ◌≤◌, ◌==◌, ◌∙◌, ℕ, true, false, nat_le, nat_lt, arith, sym, ap, leb-true, ltb-true, eqb-true, rules, Segment, is_bad_segment, shows_first_lap, list_any, range_with_len, and_parts, or_parts, false_from_ne_true, false≢true, some_of, IsIn, is_inside, overlap, segment_has, Shape, IsShape, Xfer, Header, touches_ring, Known, is_in_range_lease, is_soiled, open_ranges, covers, touches, clean_word, each_passes, fails_in, in_range, ◌^◌, RingKind, Cmd, Evt, place_count, alignment, are_apart, is_in_one_page, is_segment, least_count, most_blocks, list_all}
-use Rattle.safety.proofs.AreaFacts.{overlap_turned}
+use Rattle.safety.proofs.DevicesKeep.AreaFacts.{overlap_turned}
 
 -- what is aligned for a ring of any kind lies on a boundary of 16 bytes, and no ring's segments are empty
 aligned_to : (kind : RingKind) (base : ℕ) → base % alignment kind ≡ 0 → base % 16 ≡ 0

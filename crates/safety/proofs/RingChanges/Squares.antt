@@ -1,6 +1,6 @@
 -- A ring that comes or goes beneath an event that isn't read yet: the two may change places
 use Rattle.safety.proofs.UpperLaws.{Xfer, [], ◌≡◌, ◌≢◌, ◌*◌, ◌==◌, ◌||◌, ◌++◌, ◌∷◌, ◌∙◌, ℕ, not, Bool, true, false, Some, filter, get_or, is_some, refl, sym, ap, inl, inr, eq-eqb, ne_eqb, rules, put, Segment, new_ring, IsComing, forgotten, is_bad_free, is_bad_ring, is_bad_segment, is_had, shows_first_lap, with_ring, without_ring, cases_eq, cases_option, cond-true, cond-false, false≢true, false_from_ne_true, or_from, fun_ext, All-weaker, All-get_or, some_of, range_with_len, list_any, Block, RingView, Header, Read, IsHeader, Ring, ring_with, ring_having, touches_ring, is_in_range_lease, is_soiled, open_ranges, covers, is_ring, is_being_bound, Known, learned, lenient, Binding, binds, ring_bound, is_placed, DriverKeeps, ring_is, transfer_ring, having_transfer, HasKept, HavesAlike, IsGood, each_good, event_behind, Behind, none_fewer, ranges_fewer, BindsAlike, read_possible, KeepsRings, is_bad_kind, IsTransferRing, goes_badly, next_kept, NextAlike}
-use Rattle.safety.proofs.BoundBehind.{bound_before}
+use Rattle.safety.proofs.Behind.BoundBehind.{bound_before}
 use Rattle.safety.proofs.RingChanges.ReadAlike.{read_alike}
 use Rattle.safety.proofs.RingChanges.NewRings as new
 use Rattle.safety.proofs.RingChanges.GoneRings as gone

@@ -1,8 +1,8 @@
 -- A descriptor that is withdrawn of a ring whose endpoint has stopped: what a driver keeps stays, and the row may be made behind any event
 -- that isn't read yet
-use Rattle.safety.proofs.UpperLaws.{ceiling_held, KeepsValues, Shape, may_tell_value, may_be_told, data_at, no_ops, List, zero, suc, ◌<◌, ◌≤◌, ◌+◌, Option, is_some, any_in_range, none_in_range, le-leb, lt-ltb, leb-true, ltb-true, nat_le, nat_lt, ceiling, floor_number, changed, cases_option, floors_grow, ◌∷◌, [], ◌≡◌, ◌≢◌, ◌==◌, ◌&&◌, ◌||◌, ◌∙◌, ℕ, not, Bool, true, false, None, Some, refl, sym, ap, subst, inl, inr, eq-eqb, arith, rules, length_from, Withdraws, withdraws_keeps, has_stopped, is_bad_withdraw, rests_with, without_descriptor, cases_eq, list_any, range_with_len, or_parts, or_from, and_parts, and_from, not-false, not_from_true, not_from_false, not-true, false≢true, false_from_ne_true, Block, RingView, IsRestored, is_open, descriptor_length, Command, Running, Stopped, is_stopped, Header, Read, IsHeader, is_ring, shape_of, command_id, Known, on_ring, learned, is_touched, lenient, IsIn, some_of, any_of, MovesRestored, IsTransferRing, IsUnfinished, DriverKeeps, World, counted, Agrees, Runs, ring_is, ring_elsewhere, ring_shape, transfer_not_command, open_held, agrees_counted, set_touches, read_same, withdrawn_agrees, quiet_keeps}
-use Rattle.safety.proofs.HeldBehind.{read_holds}
-use Rattle.safety.proofs.StillRings.{untouched_behind}
+use Rattle.safety.proofs.UpperLaws.{ceiling_held, KeepsValues, Shape, may_tell_value, may_be_told, data_at, no_ops, List, zero, suc, ◌<◌, ◌≤◌, ◌+◌, Option, is_some, any_in_range, none_in_range, le-leb, lt-ltb, leb-true, ltb-true, nat_le, nat_lt, ceiling, floor_number, changed, cases_option, floors_grow, ◌∷◌, [], ◌≡◌, ◌≢◌, ◌==◌, ◌&&◌, ◌∙◌, ℕ, not, true, false, None, Some, refl, sym, ap, subst, inl, inr, eq-eqb, arith, rules, length_from, Withdraws, withdraws_keeps, has_stopped, is_bad_withdraw, rests_with, without_descriptor, cases_eq, list_any, range_with_len, or_parts, or_from, and_parts, and_from, not-false, not_from_true, not_from_false, not-true, false≢true, false_from_ne_true, Block, RingView, IsRestored, is_open, descriptor_length, Command, Running, Stopped, is_stopped, Header, Read, IsHeader, is_ring, shape_of, command_id, Known, on_ring, learned, is_touched, lenient, IsIn, some_of, any_of, MovesRestored, IsTransferRing, IsUnfinished, DriverKeeps, World, counted, Agrees, Runs, ring_is, ring_elsewhere, ring_shape, transfer_not_command, open_held, agrees_counted, set_touches, read_same, withdrawn_agrees, quiet_keeps, is_no_descriptor, is_unfit}
+use Rattle.safety.proofs.Behind.HeldBehind.{read_holds}
+use Rattle.safety.proofs.Beneath.StillRings.{untouched_behind}
 use Rattle.safety.proofs.RingChanges.Restored.{IsGood, quiet_runs}
 use Rattle.segments.specs.Descriptors as descriptors
 
@@ -78,12 +78,9 @@ module _ (h : Header) (r p : ℕ) where
       (and_from (is_ring r (k.ring_of s.slot s.index)) (is_stopped (k.endpoint_state s.slot s.index) && not (is_touched h k s.slot s.index)) (ap (is_ring r) s.has ∙ eq-eqb r r refl)
       (and_from (is_stopped (k.endpoint_state s.slot s.index)) (not (is_touched h k s.slot s.index)) s.stopped (not_from_false (is_touched h k s.slot s.index) s.untouched))))
 
-  abbrev cut : RingView → Bool
-  cut v = descriptor_length v p == 0 || (list_any v.withdrawn (range_with_len p (descriptor_length v p)) || may_tell_value (shape_of h r) v p)
-
-  parts : (k : Known) → is_bad_withdraw h k r p ≡ false → HasStopped k × (cut (k.ring r) ≡ false)
+  parts : (k : Known) → is_bad_withdraw h k r p ≡ false → HasStopped k × (is_unfit (shape_of h r) (k.ring r) p ≡ false)
   unfolding is_bad_withdraw
-  parts k good = search (rules, or_parts, not, has_stopped, cut, stopped_with, not-false)
+  parts k good = search (rules, or_parts, not, has_stopped, stopped_with, not-false)
 
   module _ (is : IsHeader h) where
     module _ (k : Known) (d : DriverKeeps h k) (s : HasStopped k) where
@@ -132,11 +129,11 @@ module _ (h : Header) (r p : ℕ) where
             }
 
     behind : (k : Known) (e : Block) → DriverKeeps h k → lenient h k (Read e) ≡ [] → is_bad_withdraw h k r p ≡ false → is_bad_withdraw h (learned h k (Read e)) r p ≡ false
-    unfolding is_bad_withdraw descriptor_length
+    unfolding is_bad_withdraw is_unfit is_no_descriptor descriptor_length
     behind k e d may good =
         let s = parts k good in
-        let one = or_parts (descriptor_length (k.ring r) p == 0) _ s.1 in
-        let two = or_parts (list_any (k.ring r).withdrawn (range_with_len p (descriptor_length (k.ring r) p))) _ one.1 in
+        let one = or_parts (is_no_descriptor (k.ring r) p) _ s.1 in
+        let two = or_parts (descriptor_length (k.ring r) p == 0) _ one.0 in
         search (rules, read_same, or_from, not_from_true, with_stopped, stopped_behind, length_from, list_any, range_with_len, none_told_later, floors_grow h is k d e may r, ceiling_behind k d s.0 e may)
 
     -- where it may be withdrawn
@@ -147,7 +144,8 @@ module _ (h : Header) (r p : ℕ) where
     withdraw_keeps k d good = withdrawn_keeps k d (parts k good).0
 
     good_values : (k : Known) → is_bad_withdraw h k r p ≡ false → KeepsValues (shape_of h r) (k.ring r) (changed (shape_of h r) (k.ring r) (Withdraws p))
-    good_values k good = withdraws_values (shape_of h r) (k.ring r) p (or_parts (list_any (k.ring r).withdrawn (range_with_len p (descriptor_length (k.ring r) p))) _ (or_parts (descriptor_length (k.ring r) p == 0) _ (parts k good).1).1).1
+    unfolding is_unfit
+    good_values k good = withdraws_values (shape_of h r) (k.ring r) p (or_parts (is_no_descriptor (k.ring r) p) _ (parts k good).1).1
 
     pub withdraw_good : r ≢ command_id h → IsGood h r (Withdraws p) (λ k. is_bad_withdraw h k r p ≡ false)
     withdraw_good other = record { quiet = tt; other = other; keeps = withdraw_keeps; values = good_values; behind = behind }

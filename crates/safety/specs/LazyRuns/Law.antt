@@ -5,7 +5,7 @@ use Rattle.traces.specs.declared.header.Header.{Header}
 use Rattle.traces.specs.declared.step.Step.{Step}
 use Rattle.traces.specs.declared.row.Row.{Row}
 use Rattle.traces.specs.Header.{shape_of}
-use Rattle.traces.specs.AllowedHeaders.{IsHeader}
+use Rattle.traces.specs.AllowedHeaders.{AreUnmoved, IsHeader}
 use Rattle.world_state.specs.World.{World}
 use Rattle.world_state.specs.Scenes.{Scene, scene_reached}
 use Rattle.ring_knowledge.specs.Known.{Known}
@@ -43,15 +43,15 @@ module _ (h : Header) where
   -- a clean trace without late events, behind each of its rows
   abbrev pub LazyLaw : Type 0
   LazyLaw =
-      (past later : List Row) → IsHeader h → All IsRow (reverse past ++ later) → AreKept h (reverse later ++ past) →
+      (past later : List Row) → IsHeader h → AreUnmoved h.rings → All IsRow (reverse past ++ later) → AreKept h (reverse later ++ past) →
       IsTimely h (reverse later ++ past) → GoesSoFar past later
 
   -- so all of its rows are read
   abbrev pub AllAreRead : Type 0
   AllAreRead =
-      (rows : List Row) → IsHeader h → All IsRow rows → AreKept h (reverse rows) → IsTimely h (reverse rows) →
+      (rows : List Row) → IsHeader h → AreUnmoved h.rings → All IsRow rows → AreKept h (reverse rows) → IsTimely h (reverse rows) →
       ContainsAll h rows (reverse (lazy_steps h rows))
 
   -- a clean trace, also one with late events, has at most three steps for each of its rows, and three more
   abbrev pub FewSteps : Type 0
-  FewSteps = (rows : List Row) → IsHeader h → All IsRow rows → AreKept h (reverse rows) → length (lazy_steps h rows) ≤ 3 * length rows + 3
+  FewSteps = (rows : List Row) → IsHeader h → AreUnmoved h.rings → All IsRow rows → AreKept h (reverse rows) → length (lazy_steps h rows) ≤ 3 * length rows + 3

@@ -1,5 +1,5 @@
 ghost use Rattle.std.specs.Prelude.{◌≤◌};
-ghost use Rattle.traces.specs.AllowedHeaders.{IsHeader};
+ghost use Rattle.traces.specs.AllowedHeaders.{AreUnmoved, IsHeader};
 ghost use Rattle.traces.specs.Limits.{most_streamed_lines};
 
 use crate::row_reader::ahead::Ahead;
@@ -21,6 +21,7 @@ pub struct RowReader {
     pub(crate) ended: bool,
     pub(crate) ahead: Ahead,
     pub ghost headed: { IsHeader header },
+    pub ghost unmoved: { AreUnmoved header.rings },
     pub ghost behind: { 2 ≤ lines },
     pub ghost within: { lines ≤ most_streamed_lines },
 }

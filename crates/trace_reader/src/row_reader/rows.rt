@@ -1,6 +1,6 @@
 ghost use Rattle.std.specs.Prelude.{◌≡◌, ◌+◌, ◌≤◌, ℕ, List, Option, None, Some, Ok, false, true, IfNone, IfOk, IfSome};
 ghost use Rattle.traces.specs.Limits.{most_lines_of, most_streamed_lines};
-ghost use Rattle.traces.specs.AllowedHeaders.{IsHeader};
+ghost use Rattle.traces.specs.AllowedHeaders.{AreUnmoved, IsHeader};
 ghost use Rattle.traces.specs.TraceRows.{IsTraceRow};
 ghost use Rattle.traces.specs.declared.row.Row.TheVariants.{Sub};
 ghost use Rattle.trace_reader.specs.Reading.{State};
@@ -27,6 +27,7 @@ impl RowReader {
     pub fn header(&self) -> &Header
         ensures said { result.now ≡ self.now.header }
         ensures headed { IsHeader result.now }
+        ensures unmoved { AreUnmoved result.now.rings }
     {
         &self.header
     }

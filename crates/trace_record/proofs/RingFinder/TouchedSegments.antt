@@ -21,7 +21,7 @@ all_meet from len m (r ∷ rest) = search (rules, any_append, map, start_of, sta
 -- a segment that is apart from others has none of their bytes
 others_lack : (s : Segment) (rest : List Segment) (b : ℕ) → list_any (segments_overlap s) rest ≡ false → segment_has b s ≡ true → list_any (segment_has b) rest ≡ false
 others_lack s rest b apart here = false_unless (list_any (segment_has b) rest) (λ there.
-    rings_apart (record { kind = Xfer; segments = s ∷ [] }) (record { kind = Xfer; segments = rest }) b (ap (λ c. c || false) apart) (ap (λ c. c || false) here) there)
+    rings_apart (record { kind = Xfer; segments = s ∷ []; offset = 0 }) (record { kind = Xfer; segments = rest; offset = 0 }) b (ap (λ c. c || false) apart) (ap (λ c. c || false) here) there)
 
 -- how many of the segments have the byte
 abbrev having : ℕ → List Start → ℕ

@@ -1,8 +1,13 @@
 use Rattle.knowledge_page.proofs.BaseWords.{[], ◌∙◌, sym, subst, reverse, IsHeader, header_now, leases_lent, lents}
+use Rattle.traces.specs.AllowedHeaders.{AreUnmoved}
+use Rattle.traces.specs.declared.header.Header.{Header}
 use Rattle.knowledge_page.proofs.behind.standing_behind.Goals as goal
 
 pub pass_kept-requires-clause-headed : goal.pass_kept-requires-clause-headed
 pass_kept-requires-clause-headed c = subst IsHeader (sym c.in_ok-own.ensures) c.requires.headed
+
+pub pass_kept-requires-clause-unmoved : goal.pass_kept-requires-clause-unmoved
+pass_kept-requires-clause-unmoved c = subst (λ (h : Header). AreUnmoved h.rings) (sym c.in_ok-own.ensures) c.requires.unmoved
 
 pub invariant_of-result : goal.invariant_of-result
 invariant_of-result c =

@@ -10,6 +10,6 @@ returns c =
       printed = printed;
       reread = λ keeps few.
           let valid : IsTrace keeps text =
-          record { headed = trace.headed; rows = trace.fitting; begins = trace.begins; new_ids = trace.new_ids; first = trace.placed; within = few } in
+          record { headed = trace.headed; unmoved = trace.unmoved; rows = trace.fitting; begins = trace.begins; new_ids = trace.new_ids; first = trace.placed; within = few } in
           ap (trace_of keeps) printed ∙ printed_reads keeps text valid;
     }

@@ -9,6 +9,7 @@ invariant_of-result c =
     let few = few_rows c.requires.0 c.requires.1 st c.args.rows.items c.requires.2 there in
     record {
       headed = rw c.into_header.ensures.said is.headed;
+      unmoved = rw c.into_header.ensures.said is.unmoved;
       placed = rw c.into_header.ensures.said (omega (arith, is.first, few, c.len.ensures, c.args.rows.ok));
       fitting = rw (c.into_header.ensures.said, c.new.ensures) is.rows;
       begins = rw c.new.ensures is.begins;

@@ -1,5 +1,5 @@
 use Rattle.driver_rows.proofs.Laws.{arith, ◌∙◌, sym, not-false, not-true, is_no_descriptor, not_passed}
-use Rattle.driver_rows.specs.RingRows.Withdrawing.{is_unfit}
+use Rattle.ownership_rules.specs.Withdrawals.{is_unfit}
 use Rattle.driver_rows.proofs.rings.withdrawing.withdraw_on.Goals as goal
 
 pub returns-then-not-may_withdraw-clause-refused : goal.returns-then-not-may_withdraw-clause-refused

@@ -6,7 +6,7 @@ make_all-requires c =
     let h = c.args.trace.now.header in
     let rows = c.args.before.now in
     let same : c.deref.result.now ≡ lazy_steps h rows = c.deref.ensures.value ∙ c.in-Ok.ensures.steps in
-    subst AreSteps (sym same) (lazy_steps_are h c.args.trace.now.headed rows (rows_fit rows c.requires.fitting) (kept_now h (reverse rows) c.in-Ok.ensures.clean))
+    subst AreSteps (sym same) (lazy_steps_are h (c.args.trace.now.headed, c.args.trace.now.unmoved) rows (rows_fit rows c.requires.fitting) (kept_now h (reverse rows) c.in-Ok.ensures.clean))
 
 pub returns-in-Err-Refused : goal.returns-in-Err-Refused
 returns-in-Err-Refused c clean =

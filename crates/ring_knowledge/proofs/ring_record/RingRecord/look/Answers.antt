@@ -8,7 +8,7 @@ returns-then-is_marked c =
     let at = found c.args.shape.now _ _ _ _ c.get.ensures.same c.in-Some-Data.ensures.value c.in-Some-Data.field-0-is in
     let mark = ap (λ marks. get_or marks c.in-Some-Data.place false) (sym c.deref.ensures.value) ∙ sym c.is_marked.ensures ∙ c.if-is_marked.true in
     record {
-      lent = λ v known. owned_data _ v _ known.marks c.args.at c.get.ensures.aligned c.in-Some-Data.place c.in-Some-Data.index _ at mark (λ p due. c.is_kept.ensures p (omega (arith, ap number known.marks.floor, due.from)) (omega (arith, ap number known.marks.floor, due.within)) due.rest_is);
+      lent = λ v known. owned_data _ v _ known.marks c.args.at c.get.ensures.aligned c.in-Some-Data.place c.in-Some-Data.index _ at mark (λ p due. c.is_kept.ensures p (omega (arith, ap number known.marks.floor, due.from)) (omega (arith, ap number known.marks.floor, due.within)) due.place_is);
       positions = λ v known. positions_marked _ v _ known.marks c.args.at c.args.word c.in-Some-Data.place c.in-Some-Data.index at mark;
       crossings = λ v known. crossings_none _ v _ known.marks c.args.at c.args.word (no_crossing_of_data c.args.shape.now known.marks.allowed c.args.self.now.floor c.args.at c.args.word c.in-Some-Data.place c.in-Some-Data.index at);
     }

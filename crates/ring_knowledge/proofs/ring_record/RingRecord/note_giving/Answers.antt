@@ -1,4 +1,4 @@
-use Rattle.ring_knowledge.proofs.Laws.{◌≡◌, ◌%◌, ◌∙◌, rules, Some, true, refl, ap, sym, set, place_count, Writes, changed, Position, Crossing, positions_of, crossings_of, counts_on, written_step, nothing_noted, position_noted, crossing_noted, over_a_link}
+use Rattle.ring_knowledge.proofs.Laws.{◌≡◌, ◌∙◌, rules, Some, true, refl, ap, sym, set, place_of, Writes, changed, Position, Crossing, positions_of, crossings_of, counts_on, written_step, nothing_noted, position_noted, crossing_noted, over_a_link}
 use Rattle.ring_knowledge.proofs.ring_record.RingRecord.note_giving.Goals as goal
 
 pub returns-in-None : goal.returns-in-None
@@ -10,9 +10,8 @@ returns-in-Some-Position c =
     let shape = c.args.shape.now in
     let r = c.args.self.now in
     let is : c.args.giving ≡ Some (Position c.in-Some-Position.position) = search rules in
-    let places : c.from.result ≡ place_count shape = c.from.ensures ∙ c.places.ensures.count in
-    let marks : c.set_mark.new.marks.items ≡ set r.given.items (c.in-Some-Position.position % place_count shape) true =
-    c.set_mark.ensures ∙ ap (λ n. set r.given.items (c.in-Some-Position.position % n) true) places in
+    let marks : c.set_mark.new.marks.items ≡ set r.given.items (place_of shape c.in-Some-Position.position) true =
+    c.set_mark.ensures ∙ ap (λ i. set r.given.items i true) c.place.ensures.value in
     λ v a w known positions crossings.
     let noted =
     position_noted shape v a w r known.marks c.in-Some-Position.position (positions ∙ ap positions_of is) (crossings ∙ ap crossings_of is) in

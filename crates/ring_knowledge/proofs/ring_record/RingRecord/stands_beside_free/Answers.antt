@@ -1,8 +1,8 @@
-use Rattle.ring_knowledge.proofs.Laws.{rules, ◌≡◌, ◌<◌, ◌≤◌, ◌+◌, ◌∙◌, Some, false, ap, sym, max, number, get_or, place_count, link_crossed, place_at, place_at-Link, crossing_behind, found}
+use Rattle.ring_knowledge.proofs.Laws.{◌≡◌, ◌-◌, ◌∙◌, arith, Some, false, ap, sym, get_or, place_at, found}
 use Rattle.ring_knowledge.proofs.UpperLaws.{◌||◌, AtLink, RingView, FollowsRing, data_no_link, link_is, none-some}
 use Rattle.ring_knowledge.specs.BesideFree.{is_unrestored, stands_beside_free}
 use Rattle.ring_knowledge.proofs.BesideFree.{none_beside, unmarked_beside, marked_beside}
-use Rattle.ring_knowledge.proofs.ring_record.RingRecord.stands_beside_free.Goals.{After-next_with_rest-before}
+use Rattle.ring_knowledge.proofs.ring_record.RingRecord.stands_beside_free.Goals.{After-crossing_behind-crossing}
 use Rattle.ring_knowledge.proofs.ring_record.RingRecord.stands_beside_free.Goals as goal
 
 pub returns-then-index-ne3 : goal.returns-then-index-ne3
@@ -17,30 +17,24 @@ returns-then-not-is_marked c = λ v known.
     unmarked_beside _ v _ known.marks c.args.at c.in-Some-Link.segment (at ∙ ap (λ i. Some (AtLink c.in-Some-Link.segment i)) c.if-index-ne3.false) clear
 
 -- what is found leads over the segment's Link
-due : (c : After-next_with_rest-before) → (max (number c.args.self.now.floor) 1 ≤ c.next_with_rest-before.result + 1) ×
-    (c.next_with_rest-before.result + 1 < max (number c.args.self.now.floor) 1 + place_count c.args.shape.now) × (link_crossed c.args.shape.now (c.next_with_rest-before.result + 1) ≡ Some c.in-Some-Link.segment)
-due c = search (rules, place_at-Link, place_count, number, crossing_behind)
-
-beside : (c : After-next_with_rest-before) (v : RingView) → FollowsRing c.args.shape.now v c.args.self.now →
-    (is_unrestored v c.next_with_rest-before.result || is_unrestored v (c.next_with_rest-before.result + 1)) ≡ stands_beside_free c.args.shape.now v c.args.at
+beside : (c : After-crossing_behind-crossing) (v : RingView) → FollowsRing c.args.shape.now v c.args.self.now →
+    (is_unrestored v (c.crossing_behind-crossing.result - 1) || is_unrestored v c.crossing_behind-crossing.result) ≡ stands_beside_free c.args.shape.now v c.args.at
 beside c v known =
     let at = found c.args.shape.now _ _ _ _ c.get.ensures.same c.in-Some-Link.ensures.value c.in-Some-Link.field-0-is in
     let mark = ap (λ marks. get_or marks c.in-Some-Link.segment false) (sym c.deref.ensures.value) ∙ sym c.is_marked.ensures ∙ c.if-not-is_marked.false in
-    let is = due c in
-    marked_beside _ v _ known.marks c.args.at c.in-Some-Link.segment c.next_with_rest-before.result (at ∙ ap (λ i. Some (AtLink c.in-Some-Link.segment i)) c.if-index-ne3.false) mark is.0 is.1 is.2
+    marked_beside _ v _ known.marks c.args.at c.in-Some-Link.segment c.crossing_behind-crossing.result (at ∙ ap (λ i. Some (AtLink c.in-Some-Link.segment i)) c.if-index-ne3.false) mark
+    (omega arith) (omega arith) c.crossing_behind-crossing.ensures.over
 
 pub returns-then-is_unrestored : goal.returns-then-is_unrestored
 returns-then-is_unrestored c = λ v known.
-    let p = c.next_with_rest-before.result in
-    c.if-is_unrestored.true ∙ sym (ap (λ b. b || is_unrestored v (p + 1)) (sym (c.is_unrestored.ensures c.args.shape.now v known) ∙ c.if-is_unrestored.true))
-    ∙ beside (goal.at.returns-then-is_unrestored c).After-next_with_rest-before v known
+    c.if-is_unrestored.true ∙ sym (ap (λ b. b || is_unrestored v c.crossing_behind-crossing.result) (sym (c.is_unrestored.ensures c.args.shape.now v known) ∙ c.if-is_unrestored.true))
+    ∙ beside (goal.at.returns-then-is_unrestored c).After-crossing_behind-crossing v known
 
 pub returns-else-is_unrestored : goal.returns-else-is_unrestored
 returns-else-is_unrestored c = λ v known.
-    let p = c.next_with_rest-before.result in
     c.is_unrestored-else-is_unrestored.ensures c.args.shape.now v known
-    ∙ sym (ap (λ b. b || is_unrestored v (p + 1)) (sym (c.is_unrestored.ensures c.args.shape.now v known) ∙ c.if-is_unrestored.false))
-    ∙ beside (goal.at.returns-else-is_unrestored c).After-next_with_rest-before v known
+    ∙ sym (ap (λ b. b || is_unrestored v c.crossing_behind-crossing.result) (sym (c.is_unrestored.ensures c.args.shape.now v known) ∙ c.if-is_unrestored.false))
+    ∙ beside (goal.at.returns-else-is_unrestored c).After-crossing_behind-crossing v known
 
 pub returns-in-Some-Data : goal.returns-in-Some-Data
 returns-in-Some-Data c = λ v known.

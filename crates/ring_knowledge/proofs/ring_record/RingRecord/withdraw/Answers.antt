@@ -1,4 +1,4 @@
-use Rattle.ring_knowledge.proofs.Laws.{rules, length-no_ops, length, ◌-◌, ◌≤◌, arith, ◌≡◌, ◌∙◌, ◌%◌, ◌&&◌, ◌||◌, if◌then◌else◌, refl, ap, sym, number, floor_number, place_count, slice_index, is_in, is_noted, no_ops, contains, nat_cmp, same_note, back, from_in, none_before, none_free_before, same_sets, kept_from, withdrawn_here, begins_at}
+use Rattle.ring_knowledge.proofs.Laws.{rules, length-no_ops, length, ◌-◌, ◌≤◌, arith, ◌≡◌, ◌∙◌, ◌&&◌, ◌||◌, if◌then◌else◌, refl, ap, sym, number, floor_number, place_count, place_of, slice_index, is_in, is_noted, no_ops, contains, nat_cmp, same_note, back, from_in, none_before, none_free_before, same_sets, kept_from, withdrawn_here, begins_at}
 use Rattle.ring_knowledge.proofs.ring_record.RingRecord.withdraw.Goals as goal
 
 pub returns-in-Err-clause-err : goal.returns-in-Err-clause-err
@@ -16,7 +16,6 @@ returns-clause-ok c = λ v known from.
     let count = slice_index r.lengths.items (p - r.forgotten) in
     let many : c.from-count.result ≡ count = c.from-count.ensures ∙ c.length_at.ensures.value kept in
     let floor : c.number-floor.result ≡ floor_number v = c.number-floor.ensures ∙ sym (ap number known.marks.floor) in
-    let places : c.from-places.result ≡ place_count shape = c.from-places.ensures ∙ c.places.ensures.count in
     let at : c.saturating_sub-at.result ≡ p - r.forgotten = c.saturating_sub-at.ensures in
     withdrawn_here shape v r known p kept _ refl (c.put_no_ops.ensures ∙ ap (λ m. no_ops r.blocks.items m c.from-count.result) at ∙ ap (no_ops r.blocks.items (p - r.forgotten)) many) c.put_ones.ensures.as_many
     (begins_at shape v r known p kept _ c.put_ones.ensures.as_many (λ q below. c.put_ones.ensures.ones q below ∙ ap (λ m. if is_in q m c.from-count.result then 1 else slice_index r.lengths.items q) at
@@ -24,9 +23,9 @@ returns-clause-ok c = λ v known from.
     refl refl refl refl refl
     (λ q. c.in_default.ensures.all q ∙ ap (λ n. contains nat_cmp r.withdrawn q || is_in q p n) many)
     (λ q.
-    let note = same_note _ _ _ _ _ _ q _ _ floor places c.deref.ensures.value (ap (λ n. q % n) places) in
+    let note = same_note _ _ _ _ _ _ q _ _ floor refl c.deref.ensures.value refl in
     c.in_default-add_given.ensures.all q
-    ∙ ap (λ n. contains nat_cmp r.free q || (is_in q p n && is_noted c.number-floor.result c.from-places.result c.deref.result.now (q % c.from-places.result) q)) many
+    ∙ ap (λ n. contains nat_cmp r.free q || (is_in q p n && is_noted c.number-floor.result (place_count shape) c.deref.result.now (place_of shape q) q)) many
     ∙ ap (λ b. contains nat_cmp r.free q || (is_in q p count && b)) note)
 
 pub invariant_of-self-2-clause-end_fits : goal.invariant_of-self-2-clause-end_fits

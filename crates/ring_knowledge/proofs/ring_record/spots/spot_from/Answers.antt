@@ -1,4 +1,4 @@
-use Rattle.ring_knowledge.proofs.Laws.{◌≡◌, ◌%◌, ap, sym, refl, ◌∙◌, arith, place_count, found, nowhere_off, nowhere_else, first_position, first_crossing_at}
+use Rattle.ring_knowledge.proofs.Laws.{sym, refl, arith, found, nowhere_off, nowhere_else, first_position, first_crossing_at}
 use Rattle.ring_knowledge.proofs.ring_record.spots.spot_from.Goals as goal
 
 pub returns-then-address-ne0-clause-spot : goal.returns-then-address-ne0-clause-spot
@@ -9,13 +9,9 @@ returns-in-None-clause-spot c = nowhere_else c.args.shape.now c.places.ensures.a
 
 pub returns-in-Some-Data-clause-spot : goal.returns-in-Some-Data-clause-spot
 returns-in-Some-Data-clause-spot c =
-    let p = c.next_with_rest-position.result in
-    let count : c.from-places.result ≡ place_count c.args.shape.now = c.from-places.ensures ∙ c.places.ensures.count in
-    let rest : p % place_count c.args.shape.now ≡ c.in-Some-Data.place = ap (λ n. p % n) (sym count) ∙ c.next_with_rest-position.ensures.rest_is ∙ c.from.ensures in
-    first_position c.args.shape.now c.places.ensures.allowed c.args.address c.args.from c.if-address-ne0.false c.in-Some-Data.place c.in-Some-Data.field-0-1 p
+    first_position c.args.shape.now c.places.ensures.allowed c.args.address c.args.from c.if-address-ne0.false c.in-Some-Data.place c.in-Some-Data.field-0-1 _
     (found c.args.shape.now c.args.address c.args.address _ _ refl c.in-Some-Data.ensures.value c.in-Some-Data.field-0-is)
-    (omega (arith, c.number.ensures, c.next_with_rest-position.ensures.from))
-    (omega (arith, c.number.ensures, c.next_with_rest-position.ensures.within)) rest
+    (omega (arith, c.number.ensures, c.next_at-position.ensures.from)) (omega (arith, c.number.ensures, c.next_at-position.ensures.within)) c.next_at-position.ensures.place
 
 pub returns-in-Some-Link-clause-spot : goal.returns-in-Some-Link-clause-spot
 returns-in-Some-Link-clause-spot c =

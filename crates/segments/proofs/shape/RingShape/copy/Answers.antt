@@ -10,5 +10,5 @@ invariant_of-result c = record {
 
 pub returns : goal.returns
 returns c =
-    let shape_of : List Segment → Shape = λ xs. record { kind = c.self.inside.kind; segments = xs } in
+    let shape_of : List Segment → Shape = λ xs. record { kind = c.self.inside.kind; segments = xs; offset = c.self.inside.offset } in
     ap shape_of c.in_ok-copied.ensures ∙ c.self.view_is

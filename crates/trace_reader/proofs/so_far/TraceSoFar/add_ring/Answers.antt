@@ -1,4 +1,4 @@
-use Rattle.trace_reader.proofs.Laws.{arith, ◌≡◌, ◌<◌, ◌||◌, ◌∙◌, false, ap, rules, sym, clash, list_any, some_lines, all_with, none_overlapped, its_segments, one_ring_more, placed_well}
+use Rattle.trace_reader.proofs.Laws.{arith, ◌≡◌, ◌<◌, ◌||◌, ◌∙◌, false, ap, rules, sym, clash, list_any, some_lines, all_with, none_overlapped, its_segments, one_more_unmoved, one_ring_more, placed_well, refl}
 use Rattle.trace_reader.specs.SegmentsApart.{segments_of}
 use Rattle.trace_reader.proofs.so_far.TraceSoFar.add_ring.Goals as goal
 
@@ -16,6 +16,9 @@ invariant_of-self-2-clause-headed c =
     let none : list_any (clash ring) r.rings.items ≡ false = search rules in
     let small : ring.id < 256 = rw c.in_ok-ring.ensures.read c.in_ok-ring.ensures.small in
     one_ring_more (record { version = r.version; context_size = r.size; rings = r.rings.items }) _ ring small (placed_well r.rings.items ring c.in_ok-ring.ensures.allowed none) r.headed c.in_ok-push.ensures.items
+
+pub invariant_of-self-2-clause-unmoved : goal.invariant_of-self-2-clause-unmoved
+invariant_of-self-2-clause-unmoved c = rw c.in_ok-push.ensures.items (one_more_unmoved c.args.self.now.rings.items c.in_ok-ring.ring c.args.self.now.unmoved (rw c.in_ok-ring.ensures.read refl))
 
 pub invariant_of-self-2-clause-searched : goal.invariant_of-self-2-clause-searched
 invariant_of-self-2-clause-searched c = λ same p.

@@ -1,9 +1,9 @@
-use Rattle.leases.proofs.Laws.{◌≡◌, ◌%◌, ◌∙◌, ap, sym, Block, place_count, shape_of, block_found, list_begun, length_held, put_at}
+use Rattle.leases.proofs.Laws.{◌≡◌, ◌∙◌, ap, sym, Block, place_of, shape_of, block_found, list_begun, length_held, put_at}
 use Rattle.leases.proofs.book.lease_book.LeaseBookLeaseLog.begin_block.Goals as goal
 
 pub returns : goal.returns
 returns c = λ list h ts shape known free.
-    let place : c.args.position % c.from.result ≡ c.args.position % place_count (shape_of h c.args.ring.now.id) = ap (λ n. c.args.position % n) (c.from.ensures ∙ c.places.ensures.count ∙ ap place_count (sym shape)) in
+    let place : c.place-place.result ≡ place_of (shape_of h c.args.ring.now.id) c.args.position = c.place-place.ensures.value ∙ ap (λ s. place_of s c.args.position) (sym shape) in
     let index : c.len-index.result ≡ c.args.self.now.leases.len = c.len-index.ensures in
     record {
       list = list_begun ts c.args.row (Block c.args.ring.now.id c.args.position) c.args.self.now.leases.items c.push.new.self.items known.list c.block_lease.ensures c.in_ok-push.ensures.items;

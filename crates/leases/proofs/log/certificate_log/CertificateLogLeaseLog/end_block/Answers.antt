@@ -1,4 +1,4 @@
-use Rattle.leases.proofs.Laws.{◌≡◌, ◌%◌, ◌∙◌, List, map, ap, sym, refl, subst, arith, place_count, shape_of, Block, same_leased, index_at, Lent, ended_where, share_a_place, put_at, CertificateLog, FollowedList, FollowsCertificate, another_numbered, none_numbered, this_numbered, block_itself, block_numbered}
+use Rattle.leases.proofs.Laws.{◌≡◌, ◌∙◌, List, map, ap, sym, refl, subst, arith, place_of, shape_of, Block, same_leased, index_at, Lent, ended_where, share_a_place, put_at, CertificateLog, FollowedList, FollowsCertificate, another_numbered, none_numbered, this_numbered, block_itself, block_numbered}
 use Rattle.leases.proofs.CertificateLogs.Words.{block_words}
 use Rattle.leases.proofs.log.certificate_log.CertificateLogLeaseLog.end_block.Goals.{else-number-gt0-via-then-number-gt0+else-end, else-number-gt0-via-else-number-gt0}
 use Rattle.leases.proofs.log.certificate_log.CertificateLogLeaseLog.end_block.Goals as goal
@@ -8,8 +8,8 @@ returns-then-end c = λ list h ts shape known.
     let r = c.args.ring.now.id in
     let p = c.args.position in
     let old = c.args.self.now in
-    let place : p % c.from.result ≡ p % place_count (shape_of h r) = ap (λ n. p % n) (c.from.ensures ∙ c.places.ensures.count ∙ ap place_count (sym shape)) in
-    let numbered : index_at old.blocks r (p % place_count (shape_of h r)) ≡ c.get-number.result = ap (index_at old.blocks r) (sym place) ∙ sym c.get-number.ensures in
+    let place : c.place-place.result ≡ place_of (shape_of h r) p = c.place-place.ensures.value ∙ ap (λ s. place_of s p) (sym shape) in
+    let numbered : index_at old.blocks r (place_of (shape_of h r) p) ≡ c.get-number.result = ap (index_at old.blocks r) (sym place) ∙ sym c.get-number.ensures in
     this_numbered list h ts old.list old.blocks old.links known (Block r p) c.args.row (block_itself h r p) (block_words h c.args.row (share_a_place h (Block r p)) r p) c.block_lease-lease.result c.block_lease-lease.ensures
     c.get-number.result numbered c.if-number-gt0.true c.end.new.self c.clear.new.self old.links (sym c.end.ensures.ended ∙ c.if-end.true) (c.end.ensures.ends c.if-end.true)
     (block_numbered h old.blocks old.links c.clear.new.self r p 0
@@ -21,8 +21,8 @@ returns-else-number-gt0 c = λ list h ts shape known.
     let p = c.args.position in
     let old = c.args.self.now in
     let ended : List Lent = map (ended_where (same_leased (Block r p)) c.args.row) ts in
-    let place : p % c.from.result ≡ p % place_count (shape_of h r) = ap (λ n. p % n) (c.from.ensures ∙ c.places.ensures.count ∙ ap place_count (sym shape)) in
-    let numbered : index_at old.blocks r (p % place_count (shape_of h r)) ≡ c.get-number.result = ap (index_at old.blocks r) (sym place) ∙ sym c.get-number.ensures in
+    let place : c.place-place.result ≡ place_of (shape_of h r) p = c.place-place.ensures.value ∙ ap (λ s. place_of s p) (sym shape) in
+    let numbered : index_at old.blocks r (place_of (shape_of h r) p) ≡ c.get-number.result = ap (index_at old.blocks r) (sym place) ∙ sym c.get-number.ensures in
     elim c.else-number-gt0.branch [
       | else-number-gt0-via-then-number-gt0+else-end w ↦
           let stays = w.end.ensures.stays w.if-end.false in

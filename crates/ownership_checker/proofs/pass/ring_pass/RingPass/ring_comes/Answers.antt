@@ -1,4 +1,4 @@
-use Rattle.ownership_checker.proofs.Laws.{comes_clean, ◌∙◌, length, refl, sym, subst, err_from_is_err_and, header_now, known_now, IsHeader, lents, comes_behind, comes_refused, coming_by_header, comes_logged, held_before, least_off, next_row, RingRow}
+use Rattle.ownership_checker.proofs.Laws.{comes_clean, ◌∙◌, length, refl, sym, subst, err_from_is_err_and, header_now, known_now, IsHeader, lents, comes_behind, comes_refused, comes_logged, held_before, least_off, next_row, RingRow}
 use Rattle.ownership_checker.proofs.pass.ring_pass.RingPass.ring_comes.Goals as goal
 
 pub returns-then-is_stopped-clause-refused : goal.returns-then-is_stopped-clause-refused
@@ -18,7 +18,7 @@ pub returns-clause-passed : goal.returns-clause-passed
 returns-clause-passed g c = λ h past p.
     let words = g.M.WordMemory.words in
     let k = known_now h past in
-    comes_behind words h past c.args.self.now p c.args.ring c.check_coming.new.kept
+    comes_behind words h past c.args.self.now p c.args.ring c.requires.coming c.check_coming.new.kept
     (λ keeps on. c.in_ok-check_coming.ensures.ok k p.tracked.follows keeps on)
     (sym (c.is_stopped.ensures k p.tracked.follows.registers) ∙ c.if-is_stopped.false)
     (c.in_ok-check_coming.ensures.reads (length past) p.few_reads) _
@@ -33,7 +33,6 @@ returns-clause-logged g c = λ list h first past p numbered room held.
     let k = known_now h past in
     let on = sym (c.is_stopped.ensures k p.tracked.follows.registers) ∙ c.if-is_stopped.false in
     let step = c.in_ok-check_coming.ensures.ok k p.tracked.follows (p.tracked.keeps on) on in
-    let coming = coming_by_header before.header ring (subst IsHeader c.in_ok-check_coming.ensures.comes c.in_ok-check_coming.ensures.headed) in
     comes_logged words Holds h first past before p room ring c.args.number numbered c.note_coming.new.book c.note_coming.new.ranges
-    (c.in_ok-note_coming.ensures list before.header k (lents h first past) before.record (words before.memory) p.headed coming
+    (c.in_ok-note_coming.ensures list before.header k (lents h first past) before.record (words before.memory) p.headed c.requires.coming
     (next_row words Holds h first past before p room (RingRow ring) (comes_clean before.header k ring step.kept)) (held_before words Holds h first past before p room before.log before.ranges held))

@@ -1,0 +1,14 @@
+pub mod SameRings
+pub mod TransferLeaves
+pub mod TransferFrames
+pub mod SlotFrames
+pub mod UntouchedStays
+pub mod UntouchedHeld
+pub mod UntouchedCompletion
+pub mod HeldBehind
+pub mod LeasesBehind
+pub mod PassedBehind
+pub mod EventBehind
+pub mod UnfinishedBehind
+pub mod FloorsGrow
+pub mod BoundBehind

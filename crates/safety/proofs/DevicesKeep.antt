@@ -1,0 +1,5 @@
+pub mod AreaFacts
+pub mod TakenDevices
+pub mod DeviceFrames
+pub mod DevicesWritten
+pub mod KeptDevices

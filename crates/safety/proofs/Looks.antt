@@ -1,0 +1,4 @@
+pub mod LookedRing
+pub mod LookKinds
+pub mod LookSpots
+pub mod LookRuns

@@ -1,0 +1,4 @@
+pub mod GivenUp
+pub mod LostEvents
+pub mod ResetKeeps
+pub mod Resets

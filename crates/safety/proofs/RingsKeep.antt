@@ -1,0 +1,15 @@
+pub mod TestsPassed
+pub mod Declaring
+pub mod KeptWords
+pub mod Unchained
+pub mod Writing
+pub mod Passing
+pub mod DriverRows
+pub mod NothingFree
+pub mod Transfers
+pub mod Completions
+pub mod Histories
+pub mod StillPlacing
+pub mod CommandRing
+pub mod KeptRings
+pub mod KeptCommands

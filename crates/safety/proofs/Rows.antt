@@ -1,0 +1,11 @@
+pub mod SameDriver
+pub mod RowFrames
+pub mod CleanRows
+pub mod PlainRows
+pub mod WrittenKnown
+pub mod ReadRow
+pub mod RowRings
+pub mod RowRegister
+pub mod RowRegisters
+pub mod RowWrites
+pub mod RowIdle

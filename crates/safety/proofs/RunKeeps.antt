@@ -1,0 +1,11 @@
+pub mod Nobodys
+pub mod KeptRegisters
+pub mod KeptCommandRing
+pub mod KeptRun
+pub mod RunOrStop
+pub mod NamesRing
+pub mod IdleCommands
+pub mod ErdpMoves
+pub mod KeptCounts
+pub mod KeptClean
+pub mod Phases

@@ -1,0 +1,15 @@
+pub mod Endpoints
+pub mod EndpointHistories
+pub mod NumberedChanges
+pub mod EndpointPut
+pub mod StatesParts
+pub mod StatesDriver
+pub mod StatesOneEndpoint
+pub mod StatesRung
+pub mod StatesTransfer
+pub mod StatesPlaced
+pub mod EndpointsOff
+pub mod StatesChanges
+pub mod StatesFit
+pub mod StatesOneSlot
+pub mod StatesCompletion

@@ -1,0 +1,10 @@
+pub mod Stored
+pub mod Counted
+pub mod WithReads
+pub mod OnlyRing
+pub mod Learns
+pub mod EndpointStates
+pub mod FloorMoves
+pub mod RingGoesOn
+pub mod MatchesGoesOn
+pub mod DriverGoesOn

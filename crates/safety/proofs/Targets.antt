@@ -1,0 +1,5 @@
+pub mod StandingTargets
+pub mod Placings
+pub mod DeclaredMoves
+pub mod DeclaredTargets
+pub mod PlacedTargets
